@@ -1,0 +1,32 @@
+-- Files as a map from paths to bytes.
+use Rattle.std.specs.Prelude.{◌≡◌, ℕ, List, take, Option, ◌⊎◌, refl}
+use Rattle.std.specs.Coded.{Coded, code_by, coded×, coded_list, coded_ℕ}
+use Rattle.std.specs.Ordering.{nat_cmp}
+use Rattle.std.specs.Cmp.Lexicographic.{slice_cmp}
+use Rattle.std.specs.FinMap as map
+use Rattle.warg_base.specs.Faults.{Schedule, schedule_code}
+
+-- the files that are there: the bytes of each path that has a file
+abbrev pub FileMap : Type 0
+FileMap = map.FinMap (slice_cmp nat_cmp) (List ℕ)
+
+-- the bytes of the file at a path
+abbrev pub file_at : FileMap → List ℕ → Option (List ℕ)
+file_at files path = map.get files path
+
+-- the files once a path has these bytes
+abbrev pub with_file : FileMap → List ℕ → List ℕ → FileMap
+with_file files path bytes = map.insert files path bytes
+
+-- What a refused write may leave: the file as it was, or with a front of the new bytes, and each other file as it was.
+abbrev pub PartlyWritten : FileMap → FileMap → List ℕ → List ℕ → Type 0
+PartlyWritten old new path bytes = (new ≡ old) ⊎ ((n : ℕ) × (new ≡ with_file old path (take n bytes)))
+
+-- what files in memory hold
+pub record FilesHeld : Type 0 where
+  pub files : FileMap
+  pub schedule : Schedule
+
+-- they are stored as the two
+abbrev pub files_code : Coded FilesHeld
+files_code = code_by (FileMap × Schedule) (coded× (map.code (coded_list coded_ℕ) (coded_list coded_ℕ)) schedule_code) (λ h. (h.files, h.schedule)) (λ p. record { files = p.0; schedule = p.1 }) (λ _. refl)

@@ -1,0 +1,12 @@
+-- What was written to an output so far.
+use Rattle.std.specs.Prelude.{◌≡◌, ℕ, List, ◌++◌, take}
+use Rattle.warg_base.specs.Faults.{Schedule}
+
+-- what a refused write may leave: a front of its bytes was written
+abbrev pub PartlyAdded : List ℕ → List ℕ → List ℕ → Type 0
+PartlyAdded old new bytes = (n : ℕ) × (new ≡ old ++ take n bytes)
+
+-- what an output in memory holds
+pub record OutHeld : Type 0 where
+  pub bytes : List ℕ
+  pub schedule : Schedule
