@@ -1,6 +1,6 @@
 -- What is known of the steps of a reading that came to its end.
-use Rattle.std.proofs.Common.{◌≡◌, ℕ, Bool, true, false, cond, eqb, Result, Ok, Err, refl, sym, ap, ◌∙◌, inl, inr}
-use Rattle.std.proofs.lemmas.Bool.{cases_Bool, eqb-true}
+use Rattle.std.proofs.Common.{◌≡◌, ◌<◌, ◌≤◌, ℕ, Bool, true, false, cond, eqb, ltb, Result, Ok, Err, refl, sym, ap, ◌∙◌, inl, inr}
+use Rattle.std.proofs.lemmas.Bool.{cases_Bool, cases_lt, eqb-true, lt-ltb, le-ltb}
 use Rattle.warg_base.specs.Reading.{◌>>=◌}
 
 abbrev done : {A F : Type 0} → A → Result A F
@@ -38,4 +38,12 @@ pick b c x y z e here there =
     elim (cases_Bool (eqb b c)) [
       | inl is ↦ here (eqb-true b c is) (sym (ap (λ (t : Bool). cond t x y) is) ∙ e)
       | inr is ↦ there (sym (ap (λ (t : Bool). cond t x y) is) ∙ e)
+    ]
+
+-- a choice by an order of numbers
+pub pick_below : {A P : Type 0} (a b : ℕ) (x y z : A) → cond (ltb a b) x y ≡ z → (a < b → x ≡ z → P) → (b ≤ a → y ≡ z → P) → P
+pick_below a b x y z e below above =
+    elim (cases_lt a b) [
+      | inl lt ↦ below lt (sym (ap (λ (t : Bool). cond t x y) (lt-ltb a b lt)) ∙ e)
+      | inr le ↦ above le (sym (ap (λ (t : Bool). cond t x y) (le-ltb a b le)) ∙ e)
     ]

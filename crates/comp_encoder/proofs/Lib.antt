@@ -1,0 +1,9 @@
+pub mod NumberLaws
+pub mod VectorLaws
+pub mod TypeLaws
+pub mod ItemLaws
+pub mod SectionLaws
+pub mod FinishLaws
+pub mod GroupLaws
+pub mod WriteLaws
+pub mod WritingLaws

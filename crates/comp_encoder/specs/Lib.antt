@@ -1,0 +1,9 @@
+pub mod Fault
+pub mod Numbers
+pub mod Vectors
+pub mod Types
+pub mod Items
+pub mod Sections
+pub mod Fits
+pub mod Writing
+pub mod Builder
