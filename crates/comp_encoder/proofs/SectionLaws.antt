@@ -69,7 +69,7 @@ headed_form behind Behind sound bytes x e =
     let front = wanted_ok (starts_with nat_eq bytes header) Form (behind (drop 8 bytes)) x e in
     (drop 8 bytes, headed_split bytes front.0, sound (drop 8 bytes) x front.1)
 
-headed_again : {X : Type 0} (behind : List ℕ → Result X Fault) (x : X) (after : List ℕ) → behind after ≡ Ok x → headed_at behind (header ++ after) ≡ Ok x
+pub headed_again : {X : Type 0} (behind : List ℕ → Result X Fault) (x : X) (after : List ℕ) → behind after ≡ Ok x → headed_at behind (header ++ after) ≡ Ok x
 unfolding headed_at
 headed_again behind x after e = ap (λ (t : Bool). cond t (behind after) (Err Form)) (headed_joined after) ∙ e
 
@@ -116,7 +116,7 @@ unfolding component_at
 component_form bytes ss e = headed_form (sections_at (length bytes)) (λ ss bytes. SectionsForm ss bytes) (sections_form (length bytes)) bytes ss e
 
 -- a section's content and what stands behind it are shorter than the bytes
-framed_shorter : (id : ℕ) (content bytes rest : List ℕ) → Framed id content bytes rest → length content + length rest < length bytes
+pub framed_shorter : (id : ℕ) (content bytes rest : List ℕ) → Framed id content bytes rest → length content + length rest < length bytes
 framed_shorter id content bytes rest h =
     let counted : length h.after < length h.counted = leb_shorter 5 (length content) h.counted h.after h.count.form in
     omega (arith, ap length h.is_id, ap length h.is_there, length-append content rest, counted)

@@ -6,6 +6,7 @@ ghost use Rattle.std.specs.Ordering.{nat_cmp};
 ghost use Rattle.std.specs.Cmp.{partial_equiv_from_equiv};
 ghost use Rattle.std.specs.Cmp.Lexicographic.{slice_cmp, nat_list_eq_equiv, nat_list_cmp_total, texts_ties, texts_po};
 ghost use Rattle.std.specs.Cmp.Rules.{hashing};
+ghost use Rattle.std.specs.Str.{str_to_ascii_lowercase};
 ghost use Rattle.std.specs.Hash as fed;
 
 use crate::memory::Memory;
@@ -60,6 +61,15 @@ impl Text {
         ensures { result.now ≡ self.now }
     {
         self.text.as_str()
+    }
+
+    /// A copy in which each ASCII letter is lower case.
+    pub fn to_ascii_lowercase(&self, alloc: Global) -> Result<Self, Memory>
+        ensures { IfOk result (λ copy. copy ≡ str_to_ascii_lowercase self.now) }
+    {
+        let mut text = String::from_str(alloc, self.as_str())?;
+        text.make_ascii_lowercase();
+        Ok(Text { text })
     }
 
     /// The text as a `String`.

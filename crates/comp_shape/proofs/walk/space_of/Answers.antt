@@ -1,0 +1,34 @@
+use Rattle.std.proofs.Common.{◌≡◌, ◌+◌, Result, Err, Some, None, refl, sym, ap, subst, ◌∙◌}
+use Rattle.std.proofs.lemmas.Result.{err_from_is_err_and}
+use Rattle.comp_shape.specs.declared.error.ShapeError.{ShapeError}
+use Rattle.comp_shape.specs.declared.error.ShapeError.TheVariants as errors
+use Rattle.comp_shape.specs.Shape.{after, after_all}
+use Rattle.comp_encoder.specs.declared.types.Item.{Item}
+use Rattle.comp_encoder.specs.Items.{item_tree}
+use Rattle.comp_shape.specs.Views.{known}
+use Rattle.comp_shape.proofs.ShapeLaws.{loop_stops, loop_adds}
+use Rattle.comp_shape.proofs.walk.space_of.Goals as goal
+
+abbrev failed : {A : Type 0} → ShapeError → Result A ShapeError
+failed x = Err x
+
+err_is : {A : Type 0} (x y : ShapeError) → failed {A = A} x ≡ failed y → x ≡ y
+err_is x y e = cc
+
+pub loop-item-init : goal.loop-item-init
+unfolding after_all
+loop-item-init c = (rw (c.new.ensures.items, c.new-3.ensures.items) refl, rw c.new-3.ensures.items c.new-2.ensures.empty, refl)
+
+pub returns-in_err-add_item-clause-index : goal.returns-in_err-add_item-clause-index
+returns-in_err-add_item-clause-index c = λ at e.
+    let p = err_from_is_err_and c.from_residual.result c.from_residual.ensures.1 in
+    let same : p.0 ≡ errors.Index at = err_is p.0 (errors.Index at) (sym p.1 ∙ e) in
+    loop_stops c.args.items.now c.loop-item.item-index c.item-item.result (known c.loop-item.space) c.loop-item-test.true c.loop-item.invariant.0
+    (subst (λ (i : Item). after (known c.loop-item.space) (item_tree i) ≡ None) c.item-item.is (c.in_err-add_item.ensures.index at (ap (λ (x : ShapeError). Err x) (sym p.2 ∙ same))))
+
+pub loop-item-preserved : goal.loop-item-preserved
+loop-item-preserved c = (
+  loop_adds c.args.items.now c.loop-item.item-index c.item-item.result (known c.loop-item.space) _ c.loop-item-test.true c.loop-item.invariant.0 (subst (λ (i : Item). after (known c.loop-item.space) (item_tree i) ≡ Some (known c.add_item.new.space)) c.item-item.is c.in_ok-add_item.ensures.added),
+  c.in_ok-add_item.ensures.named,
+  ap (λ n. n + 1) c.loop-item.invariant.2,
+)

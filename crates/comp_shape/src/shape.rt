@@ -1,0 +1,33 @@
+//! Shapes: what a component imports and exports.
+
+use comp_encoder::Primitive;
+use warg_base::Text;
+
+/// A value type, with all indices followed.
+#[derive(Debug, Drop)]
+pub enum ValueShape {
+    Primitive(Primitive),
+    /// A tuple of these parts.
+    TupleOf(Vec<ValueShape>),
+}
+
+/// A type, with all indices followed.
+#[derive(Debug, Drop)]
+pub enum TypeShape {
+    /// A type of values.
+    Value(ValueShape),
+}
+
+/// What is imported or exported.
+#[derive(Debug, Drop)]
+pub enum Entity {
+    /// A type.
+    Ty(TypeShape),
+}
+
+/// What a component imports and exports, in the order of its bytes.
+#[derive(Debug, Drop)]
+pub struct Shape {
+    pub imports: Vec<(Text, Entity)>,
+    pub exports: Vec<(Text, Entity)>,
+}

@@ -1,0 +1,14 @@
+//! What is known after some items: the index space of types, and the exports.
+
+use crate::shape::Entity;
+use comp_encoder::DefType;
+use indexmap::IndexSet;
+use warg_base::Text;
+
+/// The types so far, the names of exports so far in lower case, and the exports.
+#[derive(Drop)]
+pub struct Space<'a> {
+    pub types: Vec<&'a DefType>,
+    pub names: IndexSet<Text>,
+    pub exports: Vec<(Text, Entity)>,
+}
