@@ -4,3 +4,4 @@ pub mod FrameLaws
 pub mod PlainLaws
 pub mod ReadLaws
 pub mod ShapeLaws
+pub mod NameLaws

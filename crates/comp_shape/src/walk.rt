@@ -1,6 +1,6 @@
 //! Shapes from items, item by item.
 
-ghost use Rattle.std.specs.Prelude.{◌≡◌, ◌++◌, ◌∷◌, ℕ, All, List, Some, None, map, OnOk, OnErr, IfOk, IfErr, IfSome, IfNone, Err, slice_get, bytes_eq};
+ghost use Rattle.std.specs.Prelude.{◌≡◌, ◌<◌, ◌++◌, ◌∷◌, ℕ, length, All, List, Some, None, map, OnOk, OnErr, IfOk, IfErr, IfSome, IfNone, Err, slice_get, bytes_eq};
 ghost use Rattle.std.specs.List.{list_any};
 ghost use Rattle.comp_encoder.specs.declared.types.Sort.TheVariants as sort;
 ghost use Rattle.comp_encoder.specs.Items.{ItemTree, Export, item_tree};
@@ -123,6 +123,7 @@ fn space_of<'a>(alloc: Global, items: &'a [Item<'a>]) -> Result<Space<'a>, Shape
 /// set aside, with the place of that export (`Explainer.md`, "Index Spaces" and "Import and Export Definitions").
 pub fn read_shape(alloc: Global, bytes: &[u8]) -> Result<Shape, ShapeError>
     ensures found { IfOk result (λ s. (items : List ItemTree) × InFirstForm bytes.now items × (shape items ≡ Some (shape_tree s))) }
+    ensures named { IfOk result (λ s. All (λ e. 0 < length e.0) s.exports.items) }
     ensures form { (at : ℕ) → result ≡ Err (ShapeError.Form at) → IsFramed bytes.now → ⊥ }
     ensures not_built { (at : ℕ) → result ≡ Err (ShapeError.NotBuilt at) → IsFramed bytes.now × ((items : List ItemTree) → InFirstForm bytes.now items → ⊥) }
     ensures index { (at : ℕ) → result ≡ Err (ShapeError.Index at) → (items : List ItemTree) × InFirstForm bytes.now items × (shape items ≡ None) }
