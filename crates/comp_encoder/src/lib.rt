@@ -11,6 +11,7 @@ mod groups;
 mod types;
 mod write;
 
+pub use builder::ComponentBuilder;
 pub use error::EncodeError;
 pub use types::{
     Alias, Arg, CoreSort, DefType, DefinedType, InstanceItem, Item, Primitive, Sort, TypeRef,

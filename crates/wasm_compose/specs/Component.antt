@@ -1,0 +1,73 @@
+-- What a component shows.
+use Rattle.std.specs.Prelude.{◌≡◌, ℕ, List, [], ◌∷◌, map, Option, Some, None, IfSome}
+use Rattle.std.specs.List.{flat_map}
+use Rattle.warg_base.specs.Files.{FileMap, file_at}
+use Rattle.comp_encoder.specs.Items.{ItemTree, Component as Nested, Instance, Aliased, Ty, Export}
+use Rattle.comp_shape.specs.declared.shape.Shape.{Shape}
+use Rattle.comp_shape.specs.declared.error.ShapeError.{ShapeError}
+use Rattle.comp_shape.specs.declared.error.ShapeError.TheVariants as errors
+use Rattle.comp_shape.specs.FirstForm.{InFirstForm, IsFramed}
+use Rattle.comp_shape.specs.Shape.{ShapeTree, shape}
+use Rattle.comp_shape.specs.Views.{shape_tree}
+use Rattle.wasm_compose.specs.declared.component.Component.{Component}
+use Rattle.wasm_compose.specs.declared.export.ComponentExport.{ComponentExport}
+use Rattle.wasm_compose.specs.declared.error.ComponentError.{ComponentError}
+use Rattle.wasm_compose.specs.declared.error.ComponentError.TheVariants as refusal
+use Rattle.wasm_compose.specs.Content.{content_bytes}
+
+abbrev pub name_of : Component → List ℕ
+name_of c = c.name
+
+abbrev pub path_of : Component → Option (List ℕ)
+path_of c = c.path
+
+abbrev pub bytes_of : Component → List ℕ
+bytes_of c = content_bytes c.content
+
+abbrev pub shape_of : Component → ShapeTree
+shape_of c = shape_tree c.shape
+
+abbrev pub exports_of : Component → List ComponentExport
+exports_of c = c.exports.items
+
+-- the names of a component's exports
+abbrev pub export_names : Component → List (List ℕ)
+export_names c = map (λ e. e.0) (shape_of c).exports
+
+-- the exports among items
+abbrev pub export_in : ItemTree → List ComponentExport
+export_in (Nested bytes) = []
+export_in (Instance item) = []
+export_in (Aliased item) = []
+export_in (Ty item) = []
+export_in (Export e) = (record { name = e.name; sort = e.sort; index = e.index }) ∷ []
+
+-- The bytes have this shape, and these exports.
+pub record IsReadAs (bytes : List ℕ) (s : Shape) (exports : List ComponentExport) : Type 0 where
+  pub items : List ItemTree
+  pub form : InFirstForm bytes items
+  pub shape_is : shape items ≡ Some (shape_tree s)
+  pub exports_are : exports ≡ flat_map export_in items
+
+-- The component was read from these bytes.
+pub record IsRead (c : Component) (bytes : List ℕ) : Type 0 where
+  pub bytes_are : bytes_of c ≡ bytes
+  pub shown : IsReadAs bytes c.shape c.exports.items
+
+-- why bytes have no shape
+abbrev pub IsRefused : ShapeError → List ℕ → Type 0
+IsRefused errors.Memory bytes = ⊥
+IsRefused (errors.Form at) bytes = IsFramed bytes → ⊥
+IsRefused (errors.Index at) bytes = (items : List ItemTree) × InFirstForm bytes items × (shape items ≡ None)
+IsRefused (errors.NotBuilt at) bytes = IsFramed bytes × ((items : List ItemTree) → InFirstForm bytes items → ⊥)
+
+-- the file at a path has such bytes
+abbrev pub RefusedAt : ShapeError → Option FileMap → List ℕ → Type 0
+RefusedAt e told path = (bytes : List ℕ) × IfSome told (λ files. file_at files path ≡ Some bytes) × IsRefused e bytes
+
+-- refusals that are those of a component's bytes
+abbrev pub IsOfBytes : ComponentError → Type 0
+IsOfBytes refusal.BadName = ⊥
+IsOfBytes (refusal.BadComponent e) = Unit {0}
+IsOfBytes (refusal.File e) = ⊥
+IsOfBytes refusal.Memory = Unit {0}

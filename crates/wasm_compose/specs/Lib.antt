@@ -1,0 +1,4 @@
+pub mod Refusal
+pub mod Content
+pub mod Component
+pub mod Link

@@ -1,0 +1,75 @@
+//! Why a component could not be taken or linked.
+
+ghost use Rattle.std.specs.Prelude.{◌≡◌};
+ghost use Rattle.wasm_compose.specs.Refusal.{as_compose};
+ghost use Rattle.wasm_compose.specs.declared.error.ComponentError.TheVariants.{Memory as no_memory};
+ghost use Rattle.wasm_compose.specs.declared.error.ComposeError.TheVariants.{Memory as no_memory_left};
+
+use comp_encoder::EncodeError;
+use comp_shape::ShapeError;
+use std::alloc::{AllocError, AllocFailed};
+use thiserror::Error;
+use warg_base::{FileError, Memory};
+
+/// Why bytes or a file are no component.
+#[derive(Clone, Copy, Debug, PartialEq, Eq, Error)]
+pub enum ComponentError {
+    /// The name is empty.
+    #[error("a component needs a name: give it one")]
+    BadName,
+    /// The bytes have no shape.
+    #[error("no component: {0}")]
+    BadComponent(ShapeError),
+    /// The file could not be read.
+    #[error("the component's file: {0}")]
+    File(FileError),
+    /// No memory was left.
+    #[error("out of memory: free some, or give the program more, and try again")]
+    Memory,
+}
+
+impl From<Memory> for ComponentError {
+    ghost from_gives = { λ _ e. e ≡ no_memory };
+
+    fn from(_error: Memory) -> ComponentError {
+        ComponentError::Memory
+    }
+}
+
+impl<T: Drop> From<AllocFailed<T>> for ComponentError {
+    ghost from_gives = { λ _ e. e ≡ no_memory };
+
+    fn from(_error: AllocFailed<T>) -> ComponentError {
+        ComponentError::Memory
+    }
+}
+
+/// Why components could not be linked.
+#[derive(Clone, Copy, Debug, PartialEq, Eq, Error)]
+pub enum ComposeError {
+    /// This length, count or index to be written is above 2^32 - 1.
+    #[error("{0} is more than a component can count: make the component smaller")]
+    TooLarge(u64),
+    /// No memory was left.
+    #[error("out of memory: free some, or give the program more, and try again")]
+    Memory,
+}
+
+impl From<AllocError> for ComposeError {
+    ghost from_gives = { λ _ e. e ≡ no_memory_left };
+
+    fn from(_error: AllocError) -> ComposeError {
+        ComposeError::Memory
+    }
+}
+
+impl From<EncodeError> for ComposeError {
+    ghost from_gives = { λ refusal e. e ≡ as_compose refusal };
+
+    fn from(error: EncodeError) -> ComposeError {
+        match error {
+            EncodeError::TooLarge(number) => ComposeError::TooLarge(number),
+            EncodeError::Memory => ComposeError::Memory,
+        }
+    }
+}

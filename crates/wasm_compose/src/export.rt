@@ -1,0 +1,36 @@
+//! The exports of a component.
+
+ghost use Rattle.std.specs.Prelude.{◌≡◌};
+
+use comp_encoder::Sort;
+use std::fmt;
+use warg_base::Text;
+
+/// The place of an export among a component's exports, counted from 0.
+#[derive(Clone, Copy, Debug, PartialEq, Eq, PartialOrd, Ord, Hash)]
+pub struct ExportIndex(pub usize);
+
+impl From<usize> for ExportIndex {
+    ghost from_gives = { λ n index. index.0 ≡ n };
+
+    fn from(index: usize) -> ExportIndex {
+        ExportIndex(index)
+    }
+}
+
+impl fmt::Display for ExportIndex {
+    fn fmt<W: fmt::Write>(&self, f: &mut fmt::Formatter<W>) -> fmt::Result {
+        fmt::Display::fmt(&self.0, f)
+    }
+}
+
+/// An export of a component: its name, what it is, and the index of that in the component's index space.
+#[derive(Debug, Drop)]
+pub struct ComponentExport {
+    pub name: Text,
+    pub sort: Sort,
+    pub index: u32,
+}
+
+/// The exports of a component, in order. The iterator has their number.
+pub type Exports<'a> = std::slice::Iter<'a, ComponentExport>;

@@ -1,0 +1,148 @@
+//! Components from bytes and from files.
+
+ghost use Rattle.std.specs.Prelude.{◌≡◌, ◌≤◌, ◌↔◌, ◌++◌, ◌<◌, [], ℕ, List, Some, None, All, length, map, IfOk, IfErr, IfSome, OnOk, Err};
+ghost use Rattle.std.specs.List.{flat_map};
+ghost use Rattle.warg_base.specs.Faults.{Rose};
+ghost use Rattle.warg_base.specs.Files.{file_at};
+ghost use Rattle.warg_base.specs.declared.files.FileError.{FileError as file_error};
+ghost use Rattle.warg_base.specs.declared.files.FileError.TheVariants as file;
+ghost use Rattle.comp_encoder.specs.Items.{ItemTree, item_tree};
+ghost use Rattle.comp_shape.specs.declared.error.ShapeError.{ShapeError as shape_error};
+ghost use Rattle.comp_shape.specs.FirstForm.{InFirstForm};
+ghost use Rattle.comp_shape.specs.Shape.{shape};
+ghost use Rattle.comp_shape.specs.Views.{shape_tree};
+ghost use Rattle.wasm_compose.specs.Component.{IsRead, IsRefused, IsReadAs, IsOfBytes, RefusedAt, name_of, path_of, bytes_of, export_in};
+ghost use Rattle.wasm_compose.specs.Content.{content_bytes};
+ghost use Rattle.wasm_compose.specs.declared.error.ComponentError.TheVariants.{BadName as bad_name, BadComponent as bad_component, File as bad_file};
+
+use crate::component::Component;
+use crate::content::Content;
+use crate::error::ComponentError;
+use crate::export::ComponentExport;
+use comp_encoder::Item;
+use comp_shape::{Shape, ShapeError, read_items, read_shape};
+use std::alloc::Global;
+use warg_base::{FileError, Files, Memory, Text};
+
+/// The exports among items.
+fn exports_of(alloc: Global, items: Vec<Item<'_>>) -> Result<Vec<ComponentExport>, Memory>
+    ensures { IfOk result (λ exports. exports.items ≡ flat_map export_in (map item_tree items.entry.items)) }
+{
+    let mut exports = Vec::new(alloc);
+    for item in items {
+        if let Item::Export {
+            name,
+            sort,
+            index,
+            ty: _,
+        } = item
+        {
+            exports.push(ComponentExport { name, sort, index })?;
+        }
+    }
+    Ok(exports)
+}
+
+/// What the bytes of a component show.
+fn shown(alloc: Global, bytes: &[u8]) -> Result<(Shape, Vec<ComponentExport>), ComponentError>
+    ensures read { IfOk result (λ x. IsReadAs bytes.now x.0 x.1.items) }
+    ensures named { IfOk result (λ x. All (λ e. 0 < length e.0) x.0.exports.items) }
+    ensures bad_component { (e : shape_error) → result ≡ Err (bad_component e) → IsRefused e bytes.now }
+    ensures only { IfErr result IsOfBytes }
+{
+    let shape = match read_shape(alloc, bytes) {
+        Ok(shape) => shape,
+        Err(ShapeError::Memory) => return Err(ComponentError::Memory),
+        Err(error) => return Err(ComponentError::BadComponent(error)),
+    };
+    let items = match read_items(alloc, bytes) {
+        Ok(items) => items,
+        Err(_) => return Err(ComponentError::Memory),
+    };
+    let exports = exports_of(alloc, items)?;
+    Ok((shape, exports))
+}
+
+/// A component of bytes that were read, under a name.
+fn named<'a>(
+    alloc: Global,
+    name: &str,
+    path: Option<Text>,
+    content: Content<'a>,
+    shown: (Shape, Vec<ComponentExport>),
+) -> Result<Component<'a>, Memory>
+    requires read { IsReadAs (content_bytes content) shown.0 shown.1.items }
+    requires named { All (λ e. 0 < length e.0) shown.0.exports.items }
+    ensures taken { IfOk result (λ c. (name_of c ≡ name.now) × (path_of c ≡ path)) }
+    ensures read { IfOk result (λ c. IsRead c (content_bytes content.entry)) }
+{
+    let (shape, exports) = shown;
+    let name = Text::copy_of(alloc, name)?;
+    Ok(Component {
+        name,
+        path,
+        content,
+        shape,
+        exports,
+    })
+}
+
+impl<'a> Component<'a> {
+    /// The component of these bytes, under a name.
+    ///
+    /// `BadName` is answered exactly for the empty name, and `BadComponent` exactly where [`read_shape`] refuses the
+    /// bytes.
+    pub fn from_bytes(
+        alloc: Global,
+        name: &str,
+        bytes: &'a [u8],
+    ) -> Result<Component<'a>, ComponentError>
+        ensures taken { IfOk result (λ c. (name_of c ≡ name.now) × (path_of c ≡ None)) }
+        ensures read { IfOk result (λ c. IsRead c bytes.now) }
+        ensures bad_name { (result ≡ Err bad_name) ↔ (name.now ≡ []) }
+        ensures bad_component { (e : shape_error) → result ≡ Err (bad_component e) → IsRefused e bytes.now }
+        ensures no_file { (e : file_error) → result ≡ Err (bad_file e) → ⊥ }
+    {
+        if name.is_empty() {
+            return Err(ComponentError::BadName);
+        }
+        let shown = shown(alloc, bytes)?;
+        let component = named(alloc, name, None, Content::Lent(bytes), shown)?;
+        Ok(component)
+    }
+
+    /// The component of the file at `path`, under a name.
+    ///
+    /// `BadName` is answered exactly for the empty name, and then no file is read. `File` tells that the file is missing
+    /// or could not be read, and `BadComponent` is answered exactly where [`read_shape`] refuses its bytes.
+    pub fn from_file<F: Files>(
+        alloc: Global,
+        files: &mut F,
+        name: &str,
+        path: &str,
+    ) -> Result<Component<'a>, ComponentError>
+        ensures never_falls { F.faults files.old ≤ F.faults files.new }
+        ensures kept { F.told files.new ≡ F.told files.old }
+        ensures taken { IfOk result (λ c. (name_of c ≡ name.now) × (path_of c ≡ Some path.now)) }
+        ensures read { IfOk result (λ c. IsRead c (bytes_of c)) }
+        ensures found { IfOk result (λ c. IfSome (F.told files.old) (λ held. file_at held path.now ≡ Some (bytes_of c))) }
+        ensures bad_name { (result ≡ Err bad_name) ↔ (name.now ≡ []) }
+        ensures missing { result ≡ Err (bad_file file.Missing) → IfSome (F.told files.old) (λ held. file_at held path.now ≡ None) }
+        ensures failed { result ≡ Err (bad_file file.Failed) → Rose (F.faults files.old) (F.faults files.new) }
+        ensures no_memory { result ≡ Err (bad_file file.Memory) → ⊥ }
+        ensures bad_component { (e : shape_error) → result ≡ Err (bad_component e) → RefusedAt e (F.told files.old) path.now }
+    {
+        if name.is_empty() {
+            return Err(ComponentError::BadName);
+        }
+        let bytes = match files.read(alloc, path) {
+            Ok(bytes) => bytes,
+            Err(FileError::Memory) => return Err(ComponentError::Memory),
+            Err(error) => return Err(ComponentError::File(error)),
+        };
+        let shown = shown(alloc, &bytes)?;
+        let path = Text::copy_of(alloc, path)?;
+        let component = named(alloc, name, Some(path), Content::Owned(bytes), shown)?;
+        Ok(component)
+    }
+}
