@@ -1,0 +1,96 @@
+#!/bin/sh
+# Times `warg link` on components of growing size, against sha256sum and cp on the same file, and prints a table.
+#
+# usage: bench/link.sh [N ...]    each N is a number of exports; without words 12500 to 400000, doubling
+#
+# Each time is the least of five runs. It judges nothing but that OUT is what the printed line says.
+set -eu
+
+here=$(CDPATH='' cd -- "$(dirname "$0")" && pwd -P)
+[ $# -gt 0 ] || set -- 12500 25000 50000 100000 200000 400000
+runs=5
+
+work=$(mktemp -d)
+trap 'rm -rf "$work"' EXIT
+trap 'exit 130' INT TERM
+
+# The launcher proves and builds the program where that is due, so that no run below does.
+"$here/../warg" link "$here/../examples/empty.wasm" "$work/empty.wasm" >"$work/empty.line"
+program=$here/../crates/warg_program/out/warg_program
+
+# Nanoseconds, where the clock tells them, else whole seconds.
+now() {
+    time_now=$(date +%s%N)
+    case $time_now in
+        *N) time_now=$(date +%s)000000000 ;;
+    esac
+    printf '%s\n' "$time_now"
+}
+
+link_root() {
+    "$program" link "$work/root.wasm" "$work/out.wasm" >"$work/line"
+}
+
+hash_and_copy() {
+    sha256sum "$work/root.wasm" >"$work/sum"
+    cp "$work/root.wasm" "$work/copy.wasm"
+}
+
+# The least time of some runs of a command, in nanoseconds.
+least_of() {
+    least=
+    run=0
+    while [ "$run" -lt "$runs" ]; do
+        begin=$(now)
+        "$1"
+        took=$(($(now) - begin))
+        if [ -z "$least" ] || [ "$took" -lt "$least" ]; then
+            least=$took
+        fi
+        run=$((run + 1))
+    done
+    printf '%s\n' "$least"
+}
+
+# The most memory that a run held, in KiB, where GNU time is there, else 0.
+peak() {
+    if [ -x /usr/bin/time ] && /usr/bin/time -f %M -o "$work/peak" "$program" link "$work/root.wasm" "$work/out.wasm" >"$work/line" 2>/dev/null; then
+        tail -n 1 "$work/peak"
+    else
+        printf '0\n'
+    fi
+}
+
+size_of() {
+    wc -c <"$1" | tr -d ' '
+}
+
+check_line() {
+    wanted="bytes $(size_of "$work/out.wasm") $(sha256sum <"$work/out.wasm" | cut -d ' ' -f 1)"
+    [ "$(cat "$work/line")" = "$wanted" ] || {
+        printf 'link.sh: OUT does not have the bytes that the printed line tells\n' >&2
+        exit 1
+    }
+}
+
+printf '| exports | ROOT, bytes | OUT, bytes | link, ms | times the row above | sha256sum and cp, ms | link to these | peak, KiB | peak to ROOT |\n'
+printf '|---|---|---|---|---|---|---|---|---|\n'
+before=0
+for count in "$@"; do
+    "$here/root.sh" "$count" >"$work/root.wasm"
+    linked=$(least_of link_root)
+    check_line
+    base=$(least_of hash_and_copy)
+    awk -v count="$count" -v root="$(size_of "$work/root.wasm")" -v out="$(size_of "$work/out.wasm")" \
+        -v linked="$linked" -v before="$before" -v base="$base" -v peak="$(peak)" '
+        function ratio(a, b) {
+            return b > 0 ? sprintf("%.2f", a / b) : "-"
+        }
+        BEGIN {
+            held = peak > 0 ? peak : "-"
+            share = peak > 0 ? ratio(peak * 1024, root) : "-"
+            printf "| %d | %d | %d | %.1f | %s | %.1f | %s | %s | %s |\n", count, root, out, linked / 1e6, \
+                ratio(linked, before), base / 1e6, ratio(linked, base), held, share
+        }'
+    before=$linked
+done
