@@ -1,0 +1,9 @@
+pub mod Merkle
+pub mod LogTree
+pub mod MapTree
+pub mod LogProofs
+pub mod MapProofs
+pub mod Reading
+pub mod Judging
+pub mod Leaves
+pub mod TrueProofs

@@ -1,0 +1,36 @@
+//! What a log bundle lists.
+
+/// A hash of the log's tree: the root of the `2 ^ level` entries from entry `place * 2 ^ level`
+/// on.
+#[derive(Clone, Copy, Debug)]
+pub struct Node {
+    pub level: u8,
+    pub place: u64,
+    pub hash: [u8; 32],
+}
+
+impl Node {
+    ghost use Rattle.std.specs.Prelude.{◌≡◌};
+    ghost use Rattle.warg_proof.specs.LogProofs.{comes_before as node_comes_before};
+
+    /// Whether this node comes before another, by its level and on one level by its place.
+    pub fn comes_before(&self, other: &Node) -> bool
+        ensures { result ≡ node_comes_before self.now other.now }
+    {
+        self.level < other.level || (self.level == other.level && self.place < other.place)
+    }
+}
+
+/// What a consistency proof is about: two lengths of a log, in entries.
+#[derive(Clone, Copy, Debug)]
+pub struct Consistency {
+    pub old_length: u64,
+    pub new_length: u64,
+}
+
+/// What an inclusion proof is about: a length of a log, in entries, and the index of an entry.
+#[derive(Clone, Copy, Debug)]
+pub struct Inclusion {
+    pub log_length: u64,
+    pub index: u64,
+}
