@@ -1,0 +1,48 @@
+-- One more byte of each scan of a quoted scalar.
+use Rattle.std.proofs.Common.{◌≡◌, ℕ, ◌≤◌, List, [], ◌∷◌, ◌++◌, length, drop, get_or, false, eqb, Option, Some, None, Ok, Err, refl, sym, ap, ◌∙◌, append_assoc, arith}
+use Rattle.yaml_scan.specs.Bytes.{is_control}
+use Rattle.yaml_scan.specs.declared.quoted.Inside.{Inside}
+use Rattle.yaml_scan.specs.Quoted.{Found, with_text, single_at, double_at, closes, goes_on, turn_at, Turn, next_of, text_of}
+
+pub with_text-append : (a b : List ℕ) (f : Found) → with_text (a ++ b) f ≡ with_text a (with_text b f)
+with_text-append a b (Ok f) = rw append_assoc refl
+with_text-append a b (Err flaw) = refl
+
+-- two quotes
+pub single_at-pair : (text text' rest behind after : List ℕ) → behind ≡ drop 1 rest → after ≡ drop 1 behind → 1 ≤ length rest → 1 ≤ length behind
+    → get_or rest 0 0 ≡ 39 → get_or behind 0 0 ≡ 39 → text' ≡ text ++ (39 ∷ []) → with_text text' (single_at after) ≡ with_text text (single_at rest)
+single_at-pair text text' [] behind after e f le more first second longer = absurd (omega arith)
+single_at-pair text text' (c ∷ []) behind after e f le more first second longer = absurd (omega (arith, ap length e))
+single_at-pair text text' (c ∷ d ∷ cs) behind after e f le more first second longer =
+    let is : c ≡ 39 = first in
+    let also : d ≡ 39 = sym (ap (λ (xs : List ℕ). get_or xs 0 0) e) ∙ second in
+    let last : after ≡ cs = f ∙ ap (λ (xs : List ℕ). drop 1 xs) e in
+    rw (is, also, last, longer) (with_text-append text (39 ∷ []) (single_at cs))
+
+-- a byte that is no quote
+pub single_at-byte : (text rest : List ℕ) → 1 ≤ length rest → eqb (get_or rest 0 0) 39 ≡ false → is_control rest ≡ false → with_text (text ++ (get_or rest 0 0 ∷ [])) (single_at (drop 1 rest)) ≡ with_text text (single_at rest)
+single_at-byte text [] le other clean = absurd (omega arith)
+single_at-byte text (c ∷ []) le other clean =
+    let no : eqb c 39 ≡ false = other in
+    rw (no, clean) refl
+single_at-byte text (c ∷ d ∷ cs) le other clean =
+    let no : eqb c 39 ≡ false = other in
+    rw (no, clean) (with_text-append text (c ∷ []) (single_at (d ∷ cs)))
+
+went_on : (text : List ℕ) (turn : Option Turn) (after : Inside) (f : Inside → Found) → Some after ≡ next_of turn → with_text (text ++ text_of turn) (f after) ≡ with_text text (goes_on turn f)
+went_on text None after f e = absurd cc
+went_on text (Some t) after f e =
+    let same : after ≡ t.next = cc in
+    rw same (with_text-append text t.text (f t.next))
+
+-- a byte that does not close a double-quoted scalar
+pub double_at-byte : (text text' rest behind : List ℕ) (inside after : Inside) → behind ≡ drop 1 rest → 1 ≤ length rest → closes inside (get_or rest 0 0) ≡ false
+    → Some after ≡ next_of (turn_at inside (get_or rest 0 0) behind) → text' ≡ text ++ text_of (turn_at inside (get_or rest 0 0) behind)
+    → with_text text' (double_at behind after) ≡ with_text text (double_at rest inside)
+double_at-byte text text' [] behind inside after e le other next longer = absurd (omega arith)
+double_at-byte text text' (c ∷ cs) behind inside after e le other next longer =
+    let no : closes inside c ≡ false = other in
+    let same : behind ≡ cs = e in
+    let goes : Some after ≡ next_of (turn_at inside c cs) = next ∙ ap (λ (xs : List ℕ). next_of (turn_at inside c xs)) same in
+    let text_is : text' ≡ text ++ text_of (turn_at inside c cs) = longer ∙ ap (λ (xs : List ℕ). text ++ text_of (turn_at inside c xs)) same in
+    rw (no, same, text_is) (went_on text (turn_at inside c cs) after (double_at cs) goes)

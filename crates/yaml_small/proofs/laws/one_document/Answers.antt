@@ -1,0 +1,5 @@
+use Rattle.yaml_small.proofs.Unique.{one_document}
+use Rattle.yaml_small.proofs.laws.one_document.Goals as goal
+
+pub returns : goal.returns
+returns c = λ text o p c d. one_document text o p c d

@@ -1,0 +1,12 @@
+pub mod Trees
+pub mod Places
+pub mod Scalars
+pub mod Grammar
+pub mod Step
+pub mod Stream
+pub mod Answers
+pub mod Words
+pub mod Steps
+pub mod Schema
+pub mod Data
+pub mod View

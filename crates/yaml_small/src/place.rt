@@ -1,0 +1,20 @@
+//! A place in a text.
+
+ghost use Rattle.std.specs.Prelude.{ℕ, ◌+◌, ◌<◌, ◌^◌, length};
+
+use crate::event::Marker;
+
+/// A place in a text: the rest of its line, the column in bytes where that begins, and the text of the lines
+/// behind it.
+///
+/// The columns that decide anything stand behind ASCII alone, where bytes are characters.
+#[derive(Clone, Copy, Debug)]
+pub(crate) struct Place<'a> {
+    pub col: usize,
+    pub line: &'a [u8],
+    pub later: Option<&'a [u8]>,
+    pub mark: Marker,
+    /// How many characters of the text stand before the next line.
+    pub below: u64,
+    ghost fits: { col + length line.now < 2 ^ 64 },
+}
