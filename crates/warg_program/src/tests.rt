@@ -2,10 +2,13 @@
 //! hashes are those of `sha256sum`.
 
 use crate::run::run;
+use comp_encoder::Sort;
+use comp_shape::{ShapeError, read_items, read_shape};
 use std::alloc::Global;
 use std::rt::HostRuntime;
 use std::test::Fail;
-use warg_base::{Files, MemoryFiles, MemoryOut};
+use warg_base::{Files, MemoryFiles, MemoryOut, Text};
+use wasm_compose::{Component, ExportIndex};
 
 /// The header of a component.
 const EMPTY: &[u8] = b"\0asm\r\0\x01\0";
@@ -149,5 +152,67 @@ fn other_words_are_no_command(rt: HostRuntime) -> Result<(), Fail> {
         assert_eq!(rt; run(alloc, &words, &mut files, &mut out), 2);
         assert_eq!(rt; out.bytes(), b"usage\n".as_slice());
     }
+    Ok(())
+}
+
+#[test]
+fn a_refused_component_tells_the_place_of_the_fault(rt: HostRuntime) -> Result<(), Fail> {
+    let alloc = rt.alloc();
+    // The version of a core module.
+    assert!(rt;
+        matches!(
+            read_shape(alloc, b"\0asm\x01\0\0\0"),
+            Err(ShapeError::Form(4))
+        )
+    );
+    // The id of a custom section.
+    assert!(rt;
+        matches!(
+            read_shape(alloc, b"\0asm\r\0\x01\0\0\x04\x01xxx"),
+            Err(ShapeError::NotBuilt(8))
+        )
+    );
+    // An export of a type that is not there.
+    assert!(rt;
+        matches!(
+            read_shape(alloc, b"\0asm\r\0\x01\0\x0b\x07\x01\0\x01t\x03\0\0"),
+            Err(ShapeError::Index(11))
+        )
+    );
+    // An export whose name differs from an earlier one in the case of a letter.
+    let twice = b"\0asm\r\0\x01\0\x07\x02\x01\x79\x0b\x0d\x02\0\x01t\x03\0\0\0\x01T\x03\0\0";
+    assert!(rt; matches!(read_shape(alloc, twice), Err(ShapeError::Index(21))));
+    assert_eq!(rt; read_items(alloc, twice)?.len(), 3);
+    Ok(())
+}
+
+#[test]
+fn a_component_shows_its_name_and_its_exports(rt: HostRuntime) -> Result<(), Fail> {
+    let alloc = rt.alloc();
+    let component = Component::from_bytes(alloc, "tuple", TUPLE)?;
+    assert_eq!(rt; component.name(), "tuple");
+    assert!(rt; component.path().is_none());
+    assert_eq!(rt; component.bytes().len(), TUPLE.len());
+    assert_eq!(rt; component.types().exports.len(), 1);
+    assert_eq!(rt; component.exports().count(), 1);
+    match component.export(ExportIndex(0)) {
+        Some((name, sort, index)) => {
+            assert_eq!(rt; name, "t");
+            assert_eq!(rt; sort, Sort::Ty);
+            assert_eq!(rt; index, 0);
+        }
+        None => assert!(rt; false),
+    }
+    assert!(rt; component.export(ExportIndex(1)).is_none());
+    Ok(())
+}
+
+#[test]
+fn texts_are_copied_and_put_in_lower_case(rt: HostRuntime) -> Result<(), Fail> {
+    let alloc = rt.alloc();
+    let text = Text::copy_of(alloc, "Wasm-\u{c4}")?;
+    assert_eq!(rt; text.try_clone(alloc)?.as_str(), "Wasm-\u{c4}");
+    assert_eq!(rt; text.to_ascii_lowercase(alloc)?.as_str(), "wasm-\u{c4}");
+    assert_eq!(rt; text.into_string().as_str(), "Wasm-\u{c4}");
     Ok(())
 }
