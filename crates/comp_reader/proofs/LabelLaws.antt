@@ -1,0 +1,105 @@
+-- Reading values under labels one after the other, as a loop does.
+use Rattle.std.proofs.Common.{◌≡◌, ℕ, suc, ◌-◌, ◌+◌, ◌≤◌, ◌<◌, ◌||◌, Bool, true, false, not, cond, Bor, List, [], ◌∷◌, ◌++◌, map, Result, Ok, Err, refl, sym, ap, ◌∙◌, append_assoc, arith}
+use Rattle.std.specs.List.{list_any}
+use Rattle.std.specs.Str.{bytes_eq}
+use Rattle.std.proofs.lemmas.List.{append-nil, map_push}
+use Rattle.warg_base.specs.Reading.{◌>>=◌}
+use Rattle.comp_types.specs.Fault.{Fault, Form, NotCarried}
+use Rattle.comp_types.specs.Vectors.{ReaderOf, name_at, labelled_at}
+use Rattle.comp_reader.specs.declared.error.ReadError.{ReadError}
+use Rattle.comp_reader.specs.declared.error.ReadError.TheVariants as errors
+use Rattle.comp_reader.specs.Refusal.{Fails}
+use Rattle.comp_reader.proofs.ManyLaws.{with_front}
+
+-- labels as they are borrowed, and their bytes
+any_now : (label : List ℕ) (labels : List (Bor (List ℕ))) → list_any (λ (other : Bor (List ℕ)). bytes_eq label other.now) labels ≡ list_any (bytes_eq label) (map (λ (l : Bor (List ℕ)). l.now) labels)
+any_now label [] = refl
+any_now label (other ∷ labels) = ap (λ (b : Bool). bytes_eq label other.now || b) (any_now label labels)
+
+-- a label that was seen, and one that was not
+pub was_seen : (label : List ℕ) (labels : List (Bor (List ℕ))) (added : Bool) → added ≡ not (list_any (λ (other : Bor (List ℕ)). bytes_eq label other.now) labels) → added ≡ false
+    → list_any (bytes_eq label) (map (λ (l : Bor (List ℕ)). l.now) labels) ≡ true
+was_seen label labels added is not_added = sym (any_now label labels) ∙ found _ (sym is ∙ not_added)
+  where
+    found : (b : Bool) → not b ≡ false → b ≡ true
+    found true e = refl
+    found false e = absurd cc
+
+pub is_new : (label : List ℕ) (labels : List (Bor (List ℕ))) (added : Bool) → added ≡ not (list_any (λ (other : Bor (List ℕ)). bytes_eq label other.now) labels) → added ≡ true
+    → list_any (bytes_eq label) (map (λ (l : Bor (List ℕ)). l.now) labels) ≡ false
+is_new label labels added is was_added = sym (any_now label labels) ∙ missing _ (sym is ∙ was_added)
+  where
+    missing : (b : Bool) → not b ≡ true → b ≡ false
+    missing true e = absurd cc
+    missing false e = refl
+
+-- the labels with a new one
+pub seen_more : (label : Bor (List ℕ)) (labels new : List (Bor (List ℕ))) → list_any (bytes_eq label.now) (map (λ (l : Bor (List ℕ)). l.now) labels) ≡ false
+    → new ≡ cond (list_any (λ (other : Bor (List ℕ)). bytes_eq label.now other.now) labels) labels (labels ++ label ∷ [])
+    → map (λ (l : Bor (List ℕ)). l.now) new ≡ map (λ (l : Bor (List ℕ)). l.now) labels ++ label.now ∷ []
+seen_more label labels new missing is =
+    let more : new ≡ labels ++ label ∷ [] = is ∙ ap (λ (b : Bool). cond b labels (labels ++ label ∷ [])) (any_now label.now labels ∙ missing) in
+    ap (map (λ (l : Bor (List ℕ)). l.now)) more ∙ map_push (λ (l : Bor (List ℕ)). l.now) labels label
+
+module _ {X : Type 0} (behind : List ℕ → ReaderOf X) where
+  regroup : (front : List X) (x : X) (read : Result (List X × List ℕ) Fault) → with_front front (read >>= λ xs. Ok (x ∷ xs.0, xs.1)) ≡ with_front (front ++ x ∷ []) read
+  regroup front x (Ok xs) = ap (λ (ys : List X). Ok (ys, xs.1)) (simp append_assoc)
+  regroup front x (Err fault) = refl
+
+  -- a value more was read
+  pub goes_on : (front : List X) (seen : List (List ℕ)) (count i : ℕ) (bytes label behind_label : List ℕ) (x : X) (after : List ℕ) (total : Result (List X × List ℕ) Fault) → i < count
+      → name_at bytes ≡ Ok (label, behind_label) → list_any (bytes_eq label) seen ≡ false → behind label behind_label ≡ Ok (x, after)
+      → with_front front (labelled_at behind seen (count - i) bytes) ≡ total → with_front (front ++ x ∷ []) (labelled_at behind (seen ++ label ∷ []) (count - (i + 1)) after) ≡ total
+  unfolding labelled_at
+  goes_on front seen count i bytes label behind_label x after total lt name new h so_far =
+      let k : count - i ≡ suc (count - (i + 1)) = omega arith in
+      let one_more : with_front front (labelled_at behind seen (count - i) bytes) ≡ with_front (front ++ x ∷ []) (labelled_at behind (seen ++ label ∷ []) (count - (i + 1)) after) =
+      rw (k, name, new, h) (regroup front x (labelled_at behind (seen ++ label ∷ []) (count - (i + 1)) after)) in
+      sym one_more ∙ so_far
+
+  -- a label could not be read
+  pub no_label : (e : ReadError) (front : List X) (seen : List (List ℕ)) (count i : ℕ) (bytes : List ℕ) (total : Result (List X × List ℕ) Fault) → i < count → Fails e (name_at bytes)
+      → with_front front (labelled_at behind seen (count - i) bytes) ≡ total → Fails e total
+  unfolding labelled_at
+  no_label errors.Memory front seen count i bytes total lt h so_far = tt
+  no_label (errors.Form at) front seen count i bytes total lt h so_far =
+      let k : count - i ≡ suc (count - (i + 1)) = omega arith in
+      let failed : with_front front (labelled_at behind seen (count - i) bytes) ≡ Err Form = rw (k, h) refl in
+      sym so_far ∙ failed
+  no_label (errors.NotCarried at) front seen count i bytes total lt h so_far =
+      let k : count - i ≡ suc (count - (i + 1)) = omega arith in
+      let failed : with_front front (labelled_at behind seen (count - i) bytes) ≡ Err NotCarried = rw (k, h) refl in
+      sym so_far ∙ failed
+
+  -- a label was seen before
+  pub again : (front : List X) (seen : List (List ℕ)) (count i : ℕ) (bytes label behind_label : List ℕ) (total : Result (List X × List ℕ) Fault) → i < count → name_at bytes ≡ Ok (label, behind_label)
+      → list_any (bytes_eq label) seen ≡ true → with_front front (labelled_at behind seen (count - i) bytes) ≡ total → total ≡ Err Form
+  unfolding labelled_at
+  again front seen count i bytes label behind_label total lt name old so_far =
+      let k : count - i ≡ suc (count - (i + 1)) = omega arith in
+      let failed : with_front front (labelled_at behind seen (count - i) bytes) ≡ Err Form = rw (k, name, old) refl in
+      sym so_far ∙ failed
+
+  -- what stands behind a label could not be read
+  pub no_value : (e : ReadError) (front : List X) (seen : List (List ℕ)) (count i : ℕ) (bytes label behind_label : List ℕ) (total : Result (List X × List ℕ) Fault) → i < count
+      → name_at bytes ≡ Ok (label, behind_label) → list_any (bytes_eq label) seen ≡ false → Fails e (behind label behind_label)
+      → with_front front (labelled_at behind seen (count - i) bytes) ≡ total → Fails e total
+  unfolding labelled_at
+  no_value errors.Memory front seen count i bytes label behind_label total lt name new h so_far = tt
+  no_value (errors.Form at) front seen count i bytes label behind_label total lt name new h so_far =
+      let k : count - i ≡ suc (count - (i + 1)) = omega arith in
+      let failed : with_front front (labelled_at behind seen (count - i) bytes) ≡ Err Form = rw (k, name, new, h) refl in
+      sym so_far ∙ failed
+  no_value (errors.NotCarried at) front seen count i bytes label behind_label total lt name new h so_far =
+      let k : count - i ≡ suc (count - (i + 1)) = omega arith in
+      let failed : with_front front (labelled_at behind seen (count - i) bytes) ≡ Err NotCarried = rw (k, name, new, h) refl in
+      sym so_far ∙ failed
+
+  -- all values were read
+  pub is_done : (front : List X) (seen : List (List ℕ)) (count i : ℕ) (bytes : List ℕ) (total : Result (List X × List ℕ) Fault) → count ≤ i
+      → with_front front (labelled_at behind seen (count - i) bytes) ≡ total → total ≡ Ok (front, bytes)
+  unfolding labelled_at
+  is_done front seen count i bytes total le so_far =
+      let k : count - i ≡ 0 = omega arith in
+      let none_left : with_front front (labelled_at behind seen (count - i) bytes) ≡ Ok (front, bytes) = rw k (ap (λ (xs : List X). Ok (xs, bytes)) (append-nil front)) in
+      sym so_far ∙ none_left

@@ -1,0 +1,297 @@
+//! The items of a component.
+
+ghost use Rattle.std.specs.Prelude.{◌≡◌, ◌≢◌, ◌++◌, ℕ, List, Result, map, length, OnOk, IfOk, IfErr, MatchResult, Ok, Err};
+ghost use Rattle.comp_types.specs.declared.types.Alias.{Alias as alias_item};
+ghost use Rattle.comp_types.specs.declared.types.Canon.{Canon as canonical};
+ghost use Rattle.comp_types.specs.declared.types.CoreInstance.{CoreInstance as core_instance};
+ghost use Rattle.comp_types.specs.declared.types.InstanceItem.{InstanceItem as instance_item};
+ghost use Rattle.comp_types.specs.Fault.{Form as no_form, NotCarried as not_carried};
+ghost use Rattle.comp_types.specs.CoreTypes.{CoreTree};
+ghost use Rattle.comp_types.specs.Definitions.{TypeTree};
+ghost use Rattle.comp_types.specs.Items.{ImportTree, ExportTree, ItemTree, CoreMade, CoreTy, Instance, Aliased, Ty, Canonical, Import, Export, item_tree};
+ghost use Rattle.comp_types.specs.Sections.{Reads, section_items, items_in, frame_at, content_at, sections_at, component_at};
+ghost use Rattle.comp_types.specs.Views.{core_tree, type_tree};
+ghost use Rattle.comp_reader.specs.Nested.{sections_items, component_items};
+ghost use Rattle.comp_reader.specs.Refusal.{Gives, Adds};
+ghost use Rattle.comp_reader.specs.Views.{import_tree, export_tree};
+
+use crate::error::ReadError;
+use crate::parts::{ReadExport, ReadImport};
+use crate::read::{any_name_of, front_of, number_of, whole_of};
+use comp_types::{Alias, Canon, CoreInstance, CoreType, DefType, InstanceItem, Item};
+use std::alloc::Global;
+
+/// The magic bytes, the version and the layer of a component.
+const HEADER: [u8; 8] = [0x00, 0x61, 0x73, 0x6d, 0x0d, 0x00, 0x01, 0x00];
+
+/// The magic bytes and the version of a core module.
+const CORE_HEADER: [u8; 8] = [0x00, 0x61, 0x73, 0x6d, 0x01, 0x00, 0x00, 0x00];
+
+/// The id of the section of a nested component.
+const COMPONENT: u8 = 4;
+
+/// How many scopes are followed at one place: components, and types of components, instances and modules.
+const SCOPES: u8 = 200;
+
+/// What a section is a vector of.
+trait Listed: Drop {
+    /// The value, wherever it lies in memory.
+    ghost Tree: { Type 0 };
+
+    ghost tree: { Self → Tree };
+
+    /// The item that it is.
+    ghost item: { Tree → ItemTree };
+
+    fn into_item<'a>(self) -> Item<'a>
+        ensures { item_tree result ≡ item (tree self) };
+}
+
+impl Listed for CoreInstance {
+    ghost Tree = { core_instance };
+
+    ghost tree = { λ i. i };
+
+    ghost item = { CoreMade };
+
+    fn into_item<'a>(self) -> Item<'a> {
+        Item::CoreInstance(self)
+    }
+}
+
+impl Listed for CoreType {
+    ghost Tree = { CoreTree };
+
+    ghost tree = { core_tree };
+
+    ghost item = { CoreTy };
+
+    fn into_item<'a>(self) -> Item<'a> {
+        Item::CoreTy(self)
+    }
+}
+
+impl Listed for InstanceItem {
+    ghost Tree = { instance_item };
+
+    ghost tree = { λ i. i };
+
+    ghost item = { Instance };
+
+    fn into_item<'a>(self) -> Item<'a> {
+        Item::Instance(self)
+    }
+}
+
+impl Listed for Alias {
+    ghost Tree = { alias_item };
+
+    ghost tree = { λ a. a };
+
+    ghost item = { Aliased };
+
+    fn into_item<'a>(self) -> Item<'a> {
+        Item::Alias(self)
+    }
+}
+
+impl Listed for DefType {
+    ghost Tree = { TypeTree };
+
+    ghost tree = { type_tree };
+
+    ghost item = { Ty };
+
+    fn into_item<'a>(self) -> Item<'a> {
+        Item::Ty(self)
+    }
+}
+
+impl Listed for Canon {
+    ghost Tree = { canonical };
+
+    ghost tree = { λ c. c };
+
+    ghost item = { Canonical };
+
+    fn into_item<'a>(self) -> Item<'a> {
+        Item::Canon(self)
+    }
+}
+
+impl Listed for ReadImport {
+    ghost Tree = { ImportTree };
+
+    ghost tree = { import_tree };
+
+    ghost item = { Import };
+
+    fn into_item<'a>(self) -> Item<'a> {
+        let ReadImport { name, ty } = self;
+        Item::Import { name, ty }
+    }
+}
+
+impl Listed for ReadExport {
+    ghost Tree = { ExportTree };
+
+    ghost tree = { export_tree };
+
+    ghost item = { Export };
+
+    fn into_item<'a>(self) -> Item<'a> {
+        let ReadExport {
+            name,
+            sort,
+            index,
+            ty,
+        } = self;
+        Item::Export {
+            name,
+            sort,
+            index,
+            ty,
+        }
+    }
+}
+
+/// Adds values to items.
+fn push_all<T: Listed>(items: &mut Vec<Item<'_>>, values: Vec<T>) -> Result<(), ReadError>
+    ensures added { OnOk result (map item_tree items.new.items ≡ map item_tree items.old.items ++ map T.item (map T.tree values.items)) }
+    ensures err { IfErr result (λ e. e ≡ ReadError.Memory) }
+{
+    for value in values {
+        items.push(value.into_item())?;
+    }
+    Ok(())
+}
+
+/// A section's id and content, and the bytes behind it.
+#[tactic(auto, unfolding(comp_types::specs::Sections::frame_at))]
+fn frame_of(bytes: &[u8]) -> Result<((u8, &[u8]), &[u8]), ReadError>
+    ensures { Gives (λ x. ((x.0.0, x.0.1.now), x.1.now)) result (frame_at bytes.now) }
+{
+    match bytes {
+        [] => Err(ReadError::Form(0)),
+        [id, rest @ ..] => {
+            let (count, rest) = number_of(rest)?;
+            let (content, rest) = front_of(count, rest)?;
+            Ok(((*id, content), rest))
+        }
+    }
+}
+
+/// Adds the items of a section that holds no component. `at` bytes are left where the section begins.
+#[tactic(auto, unfolding(comp_types::specs::Sections::content_at, comp_types::specs::Sections::content_with, comp_types::specs::Sections::behind_at))]
+fn push_section<'a>(
+    alloc: Global,
+    scopes: u8,
+    at: usize,
+    id: u8,
+    content: &'a [u8],
+    items: &mut Vec<Item<'a>>,
+) -> Result<(), ReadError>
+    requires { id ≢ 4 }
+    ensures { Adds result (content_at scopes id content.now) (map item_tree items.old.items) (map item_tree items.new.items) }
+{
+    match id {
+        0 => {
+            let (name, bytes) = any_name_of(alloc, content)?;
+            items.push(Item::Custom { name, bytes })?;
+        }
+        1 => {
+            if !content.starts_with(&CORE_HEADER) {
+                return Err(ReadError::Form(content.len()));
+            }
+            items.push(Item::CoreModule { bytes: content })?;
+        }
+        2 => push_all(items, whole_of::<CoreInstance>(alloc, scopes, content)?)?,
+        3 => push_all(items, whole_of::<CoreType>(alloc, scopes, content)?)?,
+        5 => push_all(items, whole_of::<InstanceItem>(alloc, scopes, content)?)?,
+        6 => push_all(items, whole_of::<Alias>(alloc, scopes, content)?)?,
+        7 => push_all(items, whole_of::<DefType>(alloc, scopes, content)?)?,
+        8 => push_all(items, whole_of::<Canon>(alloc, scopes, content)?)?,
+        9 => return Err(ReadError::NotCarried(at)),
+        10 => push_all(items, whole_of::<ReadImport>(alloc, scopes, content)?)?,
+        11 => push_all(items, whole_of::<ReadExport>(alloc, scopes, content)?)?,
+        12 => return Err(ReadError::NotCarried(at)),
+        _ => return Err(ReadError::Form(at)),
+    }
+    Ok(())
+}
+
+/// The items of a component in which at most so many scopes are open at one place, itself among them.
+#[cycle(reading_items)]
+#[tactic(auto, using(crate::proofs::ItemLaws::component_is), unfolding(comp_types::specs::Sections::headed_at, comp_types::specs::Sections::behind_at))]
+fn items_of(alloc: Global, scopes: u8, bytes: &[u8]) -> Result<Vec<Item<'_>>, ReadError>
+    ensures { Gives (λ items. map item_tree items.items) result (component_items scopes bytes.now) }
+{
+    if scopes == 0 {
+        return Err(ReadError::Memory);
+    }
+    if !bytes.starts_with(&HEADER) {
+        let magic = bytes.starts_with(&HEADER[..4]);
+        let left = bytes.len();
+        return Err(ReadError::Form(if magic { left.saturating_sub(4) } else { left }));
+    }
+    sections_of(alloc, scopes - 1, &bytes[8..])
+}
+
+/// The items of sections, to the end of the bytes.
+#[cycle(reading_items)]
+fn sections_of(alloc: Global, scopes: u8, bytes: &[u8]) -> Result<Vec<Item<'_>>, ReadError>
+    ensures { Gives (λ items. map item_tree items.items) result (sections_items scopes bytes.now) }
+{
+    let mut items = Vec::new(alloc);
+    let mut rest = bytes;
+    while !rest.is_empty() {
+        let ((id, content), after) = frame_of(rest)?;
+        let at = rest.len().saturating_sub(after.len());
+        match any_section(alloc, scopes, at, id, content, &mut items) {
+            Ok(()) => {}
+            Err(error) => return Err(error.before(after.len())),
+        }
+        rest = after;
+    }
+    Ok(items)
+}
+
+/// Adds the items of a section. `at` bytes are left where the section begins.
+#[cycle(reading_items)]
+#[tactic(auto, using(crate::proofs::ItemLaws::nested_adds, crate::proofs::ItemLaws::nested_fails))]
+fn any_section<'a>(
+    alloc: Global,
+    scopes: u8,
+    at: usize,
+    id: u8,
+    content: &'a [u8],
+    items: &mut Vec<Item<'a>>,
+) -> Result<(), ReadError>
+    ensures { Adds result (content_at scopes id content.now) (map item_tree items.old.items) (map item_tree items.new.items) }
+{
+    if id != COMPONENT {
+        return push_section(alloc, scopes, at, id, content, items);
+    }
+    let _inner = items_of(alloc, scopes, content)?;
+    items.push(Item::Component { bytes: content })?;
+    Ok(())
+}
+
+/// The items of a component, in the order of its bytes. A custom section's bytes, a core module and a nested component
+/// are slices of `bytes`; nested components are read too, to any depth (`Binary.md`, "Component Definitions").
+///
+/// `NotCarried` is answered where the first field in reading order that has no form here is of a form that is not
+/// carried, and `Form` where it is of no form at all, each with the place of that field in bytes from the start. At most
+/// 200 scopes are followed at one place: components, and types of components, instances and modules. Where more are
+/// open, `Memory` is answered, so that no bytes exhaust the stack.
+pub fn read_items(alloc: Global, bytes: &[u8]) -> Result<Vec<Item<'_>>, ReadError>
+    ensures found { IfOk result (λ items. Reads bytes.now (map item_tree items.items)) }
+    ensures only { (items : List ItemTree) → Reads bytes.now items → MatchResult result (λ v. map item_tree v.items ≡ items) (λ e. e ≡ ReadError.Memory) }
+    ensures form { (at : ℕ) → result ≡ Err (ReadError.Form at) → component_at 200 bytes.now ≡ Err no_form }
+    ensures not_carried { (at : ℕ) → result ≡ Err (ReadError.NotCarried at) → component_at 200 bytes.now ≡ Err not_carried }
+{
+    match items_of(alloc, SCOPES, bytes) {
+        Ok(items) => Ok(items),
+        Err(error) => Err(error.placed(bytes.len())),
+    }
+}

@@ -1,0 +1,19 @@
+//! Readers of WebAssembly components: the items of a component, as its bytes have them.
+//!
+//! The binary format is that of the Component Model's `Binary.md`. What its items and types are, and what their bytes
+//! are, stands in the crate `comp_types`.
+#![tactic(auto)]
+
+mod canons;
+mod core_types;
+mod definitions;
+mod error;
+mod items;
+mod parts;
+mod read;
+#[cfg(test)]
+mod tests;
+mod values;
+
+pub use error::ReadError;
+pub use items::read_items;

@@ -1,0 +1,10 @@
+pub mod NumberLaws
+pub mod VectorLaws
+pub mod TypeLaws
+pub mod PartLaws
+pub mod CoreTypeLaws
+pub mod DefinitionLaws
+pub mod CanonLaws
+pub mod ItemLaws
+pub mod SectionLaws
+pub mod DepthLaws

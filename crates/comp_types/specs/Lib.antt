@@ -1,0 +1,12 @@
+pub mod Fault
+pub mod Numbers
+pub mod Vectors
+pub mod Types
+pub mod Parts
+pub mod CoreTypes
+pub mod Definitions
+pub mod Canons
+pub mod Views
+pub mod Items
+pub mod Sections
+pub mod Fits
