@@ -1,0 +1,6 @@
+use Rattle.std.proofs.Common.{rules}
+use Rattle.serde_yaml2.proofs.EntryLemmas.{seen_insert}
+use Rattle.compose_config.proofs.index.IndexFillMapFill.entry.Goals as goal
+
+pub returns : goal.returns
+returns g c = rw c.in_ok-insert.ensures.entries (rw (seen_insert g.V.ReadYaml.seen c.args.self.now.entries.entries c.args.key c.in_ok-value.value) (search rules))

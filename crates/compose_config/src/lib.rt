@@ -1,0 +1,12 @@
+//! The configuration of a composition, read from YAML text.
+#![tactic(auto)]
+
+mod config;
+mod index;
+mod parts;
+#[cfg(test)]
+mod tests;
+
+pub use config::Config;
+pub use index::{FromText, index_map};
+pub use parts::{Dependency, Instantiation, InstantiationArg};

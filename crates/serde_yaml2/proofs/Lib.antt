@@ -1,0 +1,5 @@
+pub mod Numbers
+pub mod Loops
+pub mod EntryLemmas
+pub mod Tails
+pub mod WholeTexts

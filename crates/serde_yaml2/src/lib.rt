@@ -1,0 +1,18 @@
+//! Typed values read from YAML text and written as YAML text.
+#![tactic(auto)]
+
+mod bracket;
+mod collection;
+mod deserializer;
+mod error;
+mod impls;
+mod list;
+mod read;
+#[cfg(test)]
+mod tests;
+mod text;
+
+pub use deserializer::YamlDeserializer;
+pub use error::DeError;
+pub use read::{MapFill, ReadYaml, SeqFill};
+pub use text::from_str;
