@@ -31,6 +31,13 @@ impl Model for AnyHash {
 }
 
 impl AnyHash {
+    /// The hash with these 32 bytes.
+    pub fn from_digest(digest: [u8; 32]) -> Self
+        ensures { result ≡ digest }
+    {
+        AnyHash { digest }
+    }
+
     /// The SHA-256 digest of some bytes.
     pub fn sha256_of(bytes: &[u8]) -> Self
         ensures { result ≡ sha256 bytes.now }
@@ -172,6 +179,14 @@ impl LogId {
     }
 }
 
+impl From<AnyHash> for LogId {
+    ghost from_gives = { λ hash id. id ≡ hash };
+
+    fn from(hash: AnyHash) -> LogId {
+        LogId { hash }
+    }
+}
+
 impl fmt::Display for LogId {
     ghost output = { λ id. Some (hash_text id) };
 
@@ -235,6 +250,14 @@ impl RecordId {
     }
 }
 
+impl From<AnyHash> for RecordId {
+    ghost from_gives = { λ hash id. id ≡ hash };
+
+    fn from(hash: AnyHash) -> RecordId {
+        RecordId { hash }
+    }
+}
+
 impl fmt::Display for RecordId {
     ghost output = { λ id. Some (hash_text id) };
 
@@ -295,6 +318,14 @@ impl KeyId {
         ensures { IfOk result (λ text. text ≡ hash_text self.now) }
     {
         self.hash.text(alloc)
+    }
+}
+
+impl From<AnyHash> for KeyId {
+    ghost from_gives = { λ hash id. id ≡ hash };
+
+    fn from(hash: AnyHash) -> KeyId {
+        KeyId { hash }
     }
 }
 

@@ -1,0 +1,67 @@
+-- The best of releases, as one more is seen.
+use Rattle.std.proofs.Common.{◌≡◌, ◌≢◌, ℕ, true, false, List, [], ◌∷◌, ◌++◌, Option, Some, None, refl, sym, ap, ◌∙◌}
+use Rattle.std.specs.List.{AllByRecursion}
+use Rattle.std.specs.Cmp.{IsTotalOrder, nat_cmp_total, then_total, on_total, tied_itself}
+use Rattle.std.specs.Ordering.{is_lt}
+use Rattle.std.specs.declared.cmp.Ordering.{Ordering}
+use Rattle.std.specs.declared.cmp.Ordering.TheVariants.{Less, Equal, Greater}
+use Rattle.std.proofs.lemmas.Bool.{false≢true}
+use Rattle.std.proofs.lemmas.List.Elements.{Contains-push, Contains-append_left}
+use Rattle.semver.specs.OrderLaws.{pre_total, build_total}
+use Rattle.semver.specs.Parse.{Parts, Held}
+use Rattle.warg_log.specs.Choice.{is_candidate, version_cmp, IsChosen}
+
+version_total : IsTotalOrder version_cmp
+version_total = then_total (on_total (λ (v : Parts). v.0) nat_cmp_total) (then_total (on_total (λ (v : Parts). v.1) nat_cmp_total) (then_total (on_total (λ (v : Parts). v.2) nat_cmp_total)
+    (then_total (on_total (λ (v : Parts). v.3) pre_total) (on_total (λ (v : Parts). v.4) build_total))))
+
+every_push : {X : Type 0} (P : X → Type 0) (xs : List X) (x : X) → AllByRecursion P xs → P x → AllByRecursion P (xs ++ x ∷ [])
+every_push P [] x all p = (p, tt)
+every_push P (y ∷ xs) x all p = (all.0, every_push P xs x all.1 p)
+
+every_weaker : {X : Type 0} (P Q : X → Type 0) → ((x : X) → P x → Q x) → (xs : List X) → AllByRecursion P xs → AllByRecursion Q xs
+every_weaker P Q f [] all = tt
+every_weaker P Q f (x ∷ xs) all = (f x all.0, every_weaker P Q f xs all.1)
+
+less_not : (o : Ordering) → is_lt o ≡ false → o ≢ Less
+less_not o h e = false≢true (sym h ∙ ap is_lt e)
+
+less_is : (o : Ordering) → is_lt o ≡ true → o ≡ Less
+less_is Less h = refl
+less_is Equal h = absurd (false≢true h)
+less_is Greater h = absurd (false≢true h)
+
+not_itself : (v : Parts) → version_cmp v v ≢ Less
+not_itself v e = false≢true (ap is_lt (sym (tied_itself version_total v) ∙ e))
+
+-- a release that is no candidate
+pub missed : (req : List Held) (rs : List (Parts × Option (List ℕ))) (best : Option (Parts × Option (List ℕ))) (r : Parts × Option (List ℕ)) → is_candidate req r ≡ false → IsChosen req rs best → IsChosen req (rs ++ r ∷ []) best
+missed req rs None r no_candidate all = every_push (λ s. is_candidate req s ≡ false) rs r all no_candidate
+missed req rs (Some b) r no_candidate is =
+    (Contains-append_left rs (r ∷ []) b is.0, is.1, every_push (λ s. is_candidate req s ≡ true → version_cmp b.0 s.0 ≢ Less) rs r is.2 (λ yes_candidate. absurd (false≢true (sym no_candidate ∙ yes_candidate))))
+
+-- the first candidate
+pub first_found : (req : List Held) (rs : List (Parts × Option (List ℕ))) (r : Parts × Option (List ℕ)) → is_candidate req r ≡ true → IsChosen req rs None → IsChosen req (rs ++ r ∷ []) (Some r)
+first_found req rs r candidate all = (
+  Contains-push rs r,
+  candidate,
+  every_push (λ s. is_candidate req s ≡ true → version_cmp r.0 s.0 ≢ Less) rs r
+      (every_weaker (λ s. is_candidate req s ≡ false) (λ s. is_candidate req s ≡ true → version_cmp r.0 s.0 ≢ Less) (λ s none some. absurd (false≢true (sym none ∙ some))) rs all)
+      (λ same. not_itself r.0),
+)
+
+-- a candidate that is not better
+pub kept : (req : List Held) (rs : List (Parts × Option (List ℕ))) (b r : Parts × Option (List ℕ)) → is_lt (version_cmp b.0 r.0) ≡ false → IsChosen req rs (Some b) → IsChosen req (rs ++ r ∷ []) (Some b)
+kept req rs b r at_least is =
+    (Contains-append_left rs (r ∷ []) b is.0, is.1, every_push (λ s. is_candidate req s ≡ true → version_cmp b.0 s.0 ≢ Less) rs r is.2 (λ candidate. less_not (version_cmp b.0 r.0) at_least))
+
+-- a candidate that is better
+pub replaced : (req : List Held) (rs : List (Parts × Option (List ℕ))) (b r : Parts × Option (List ℕ)) → is_candidate req r ≡ true → is_lt (version_cmp b.0 r.0) ≡ true → IsChosen req rs (Some b) → IsChosen req (rs ++ r ∷ []) (Some r)
+replaced req rs b r candidate above is = (
+  Contains-push rs r,
+  candidate,
+  every_push (λ s. is_candidate req s ≡ true → version_cmp r.0 s.0 ≢ Less) rs r
+      (every_weaker (λ s. is_candidate req s ≡ true → version_cmp b.0 s.0 ≢ Less) (λ s. is_candidate req s ≡ true → version_cmp r.0 s.0 ≢ Less)
+      (λ s least can over. least can (version_total.trans b.0 r.0 s.0 (less_is (version_cmp b.0 r.0) above) over)) rs is.2)
+      (λ same. not_itself r.0),
+)

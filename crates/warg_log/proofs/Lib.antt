@@ -1,0 +1,9 @@
+pub mod KeyMaps
+pub mod VersionKeys
+pub mod ReleaseLaws
+pub mod PlacedLaws
+pub mod KnownLaws
+pub mod PermissionLaws
+pub mod AgreesLaws
+pub mod FollowsLaws
+pub mod ChoiceLaws

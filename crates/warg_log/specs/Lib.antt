@@ -1,0 +1,13 @@
+pub mod History
+pub mod Rules
+pub mod Lawful
+pub mod Permissions
+pub mod Keys
+pub mod Places
+pub mod Namespaces
+pub mod Known
+pub mod Faults
+pub mod Agrees
+pub mod Follows
+pub mod Choice
+pub mod Listed

@@ -1,0 +1,34 @@
+//! Lawful logs of signed records, and the choice of a release.
+#![tactic(auto)]
+
+mod choice;
+mod error;
+mod facts;
+mod head;
+mod judged;
+mod keys;
+mod listed;
+mod namespaces;
+pub mod operator;
+pub mod package;
+mod permissions;
+mod release;
+mod releases;
+mod state;
+mod verifier;
+
+pub use error::ValidationError;
+pub use head::Head;
+pub use judged::JudgedEntry;
+pub use listed::ListedVerifier;
+pub use namespaces::NamespaceState;
+pub use release::Release;
+pub use state::LogState;
+pub use verifier::Verifier;
+pub use warg_hash::{AnyHash, KeyId, LogId, NameError, PackageName, RecordId};
+pub use warg_record::{
+    Envelope, EnvelopeError, OperatorRecord, PackageRecord, PublicKey, Record, Signature,
+};
+
+#[cfg(test)]
+mod tests;

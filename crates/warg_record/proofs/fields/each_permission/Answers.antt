@@ -1,0 +1,33 @@
+use Rattle.std.proofs.Common.{◌≡◌, ◌<◌, ◌++◌, ◌∷◌, [], length, map, sym, ◌∙◌, arith}
+use Rattle.std.proofs.lemmas.Bool.{eqb-true, eqb-false}
+use Rattle.std.proofs.lemmas.List.{map_push}
+use Rattle.std.proofs.lemmas.Result.{err_from_is_err_and}
+use Rattle.warg_record.specs.Reading.{permission_of}
+use Rattle.warg_record.proofs.Loop.{field_at-shorter, goes_on, field_ends, value_ends, is_done}
+use Rattle.warg_record.proofs.fields.each_permission.Goals as goal
+
+pub returns-in_err-field : goal.returns-in_err-field
+returns-in_err-field g c =
+    let p = err_from_is_err_and c.from_residual.result c.from_residual.ensures.1 in
+    let some = eqb-false (length c.loop-rest.rest.now) 0 (sym c.is_empty.ensures ∙ c.loop-rest-test.true) in
+    let lt : 0 < length c.loop-rest.rest.now = omega arith in
+    rw (p.1, p.2) (field_ends (permission_of g.P.LogPermission.kind) 2 c.in_err-field.field-0.0 (map g.P.LogPermission.text_of c.loop-rest.permissions.items) c.loop-rest.rest.now _ lt c.in_err-field.ensures c.loop-rest.invariant)
+
+pub returns-in_err-permission_of : goal.returns-in_err-permission_of
+returns-in_err-permission_of g c =
+    let p = err_from_is_err_and c.from_residual-in_err-permission_of.result c.from_residual-in_err-permission_of.ensures.1 in
+    rw (p.1, p.2) (value_ends (permission_of g.P.LogPermission.kind) 2 c.in_err-permission_of.field-0.0 (map g.P.LogPermission.text_of c.loop-rest.permissions.items) c.loop-rest.rest.now (c.in_ok-field.field.now, c.in_ok-field.after.now) _ c.in_ok-field.ensures c.in_err-permission_of.ensures c.loop-rest.invariant)
+
+pub loop-rest-smaller : goal.loop-rest-smaller
+loop-rest-smaller g c = field_at-shorter 2 c.loop-rest.rest.now (c.in_ok-field.field.now, c.in_ok-field.after.now) c.in_ok-field.ensures
+
+pub loop-rest-preserved : goal.loop-rest-preserved
+loop-rest-preserved g c =
+    let text = g.P.LogPermission.text_of in
+    let e : map text c.push.new.self.items ≡ map text c.loop-rest.permissions.items ++ text c.in_ok-permission_of.field-0 ∷ [] = rw c.in_ok-push.ensures.items (map_push text c.loop-rest.permissions.items c.in_ok-permission_of.field-0) in
+    rw e (goes_on (permission_of g.P.LogPermission.kind) 2 (map text c.loop-rest.permissions.items) c.loop-rest.rest.now (c.in_ok-field.field.now, c.in_ok-field.after.now) (text c.in_ok-permission_of.field-0) _ c.in_ok-field.ensures c.in_ok-permission_of.ensures c.loop-rest.invariant)
+
+pub returns : goal.returns
+returns g c =
+    let empty = eqb-true (length c.loop-rest.rest.now) 0 (sym c.is_empty.ensures ∙ c.loop-rest-test.false) in
+    is_done (permission_of g.P.LogPermission.kind) 2 (map g.P.LogPermission.text_of c.loop-rest.permissions.items) c.loop-rest.rest.now _ empty c.loop-rest.invariant
