@@ -5,6 +5,7 @@ ghost use Rattle.warg_proof.specs.declared.fault.ProofFault.TheVariants.{Memory}
 
 use std::alloc::{AllocError, AllocFailed};
 use thiserror::Error;
+use warg_hash::AnyHash;
 
 /// Why the bytes of a proof bundle, or a proof in it, are refused.
 #[derive(Clone, Copy, Debug, PartialEq, Eq, Error)]
@@ -29,9 +30,9 @@ pub enum ProofFault {
     #[error("the proof gives another root than the one that was asked for: do not trust this registry")]
     OtherRoot {
         /// The root that was asked for.
-        root: [u8; 32],
+        root: AnyHash,
         /// The root that the proof gives.
-        found: [u8; 32],
+        found: AnyHash,
     },
     /// No memory is left.
     #[error("out of memory: free some, or give the program more, and try again")]

@@ -203,7 +203,7 @@ fn the_paths_of_the_standards_example_need_these_nodes(rt: HostRuntime) -> Resul
     let proofs = LogBundle::decode(rt.alloc(), &bytes)?;
     assert_eq!(rt; proofs.consistency(3, 7, &three, &seven), Ok(()));
     let fault = proofs.consistency(3, 7, &seven, &three);
-    let (root, found) = (*seven.bytes(), *three.bytes());
+    let (root, found) = (seven, three);
     assert_eq!(rt;
         fault,
         Err(ProofFault::OtherRoot { root, found }),

@@ -17,8 +17,8 @@ pub fn judge_root(found: Option<[u8; 32]>, root: &AnyHash) -> Result<(), ProofFa
         Ok(())
     } else {
         Err(ProofFault::OtherRoot {
-            root: *root.bytes(),
-            found,
+            root: *root,
+            found: AnyHash::from_digest(found),
         })
     }
 }
@@ -38,8 +38,8 @@ pub fn judge_roots(
     let new = found.1;
     if old != *old_root.bytes() {
         return Err(ProofFault::OtherRoot {
-            root: *old_root.bytes(),
-            found: old,
+            root: *old_root,
+            found: AnyHash::from_digest(old),
         });
     }
     judge_root(Some(new), new_root)
