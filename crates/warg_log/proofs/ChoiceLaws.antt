@@ -1,5 +1,5 @@
 -- The best of releases, as one more is seen.
-use Rattle.std.proofs.Common.{◌≡◌, ◌≢◌, ℕ, true, false, List, [], ◌∷◌, ◌++◌, Option, Some, None, refl, sym, ap, ◌∙◌}
+use Rattle.std.proofs.Common.{◌≡◌, ◌≢◌, ℕ, Bool, true, false, List, [], ◌∷◌, ◌++◌, Option, Some, None, refl, sym, ap, ◌∙◌}
 use Rattle.std.specs.List.{AllByRecursion}
 use Rattle.std.specs.Cmp.{IsTotalOrder, nat_cmp_total, then_total, on_total, tied_itself}
 use Rattle.std.specs.Ordering.{is_lt}
@@ -8,10 +8,10 @@ use Rattle.std.specs.declared.cmp.Ordering.TheVariants.{Less, Equal, Greater}
 use Rattle.std.proofs.lemmas.Bool.{false≢true}
 use Rattle.std.proofs.lemmas.List.Elements.{Contains-push, Contains-append_left}
 use Rattle.semver.specs.OrderLaws.{pre_total, build_total}
-use Rattle.semver.specs.Parse.{Parts, Held}
-use Rattle.warg_log.specs.Choice.{is_candidate, version_cmp, IsChosen}
+use Rattle.semver.specs.Parse.{Parts}
+use Rattle.warg_log.specs.Choice.{version_cmp, IsGreatest}
 
-version_total : IsTotalOrder version_cmp
+pub version_total : IsTotalOrder version_cmp
 version_total = then_total (on_total (λ (v : Parts). v.0) nat_cmp_total) (then_total (on_total (λ (v : Parts). v.1) nat_cmp_total) (then_total (on_total (λ (v : Parts). v.2) nat_cmp_total)
     (then_total (on_total (λ (v : Parts). v.3) pre_total) (on_total (λ (v : Parts). v.4) build_total))))
 
@@ -34,34 +34,34 @@ less_is Greater h = absurd (false≢true h)
 not_itself : (v : Parts) → version_cmp v v ≢ Less
 not_itself v e = false≢true (ap is_lt (sym (tied_itself version_total v) ∙ e))
 
--- a release that is no candidate
-pub missed : (req : List Held) (rs : List (Parts × Option (List ℕ))) (best : Option (Parts × Option (List ℕ))) (r : Parts × Option (List ℕ)) → is_candidate req r ≡ false → IsChosen req rs best → IsChosen req (rs ++ r ∷ []) best
-missed req rs None r no_candidate all = every_push (λ s. is_candidate req s ≡ false) rs r all no_candidate
-missed req rs (Some b) r no_candidate is =
-    (Contains-append_left rs (r ∷ []) b is.0, is.1, every_push (λ s. is_candidate req s ≡ true → version_cmp b.0 s.0 ≢ Less) rs r is.2 (λ yes_candidate. absurd (false≢true (sym no_candidate ∙ yes_candidate))))
+-- a release that does not pass
+pub missed : (passes : Parts × Option (List ℕ) → Bool) (rs : List (Parts × Option (List ℕ))) (best : Option (Parts × Option (List ℕ))) (r : Parts × Option (List ℕ)) → passes r ≡ false → IsGreatest passes rs best → IsGreatest passes (rs ++ r ∷ []) best
+missed passes rs None r fails all = every_push (λ s. passes s ≡ false) rs r all fails
+missed passes rs (Some b) r fails is =
+    (Contains-append_left rs (r ∷ []) b is.0, is.1, every_push (λ s. passes s ≡ true → version_cmp b.0 s.0 ≢ Less) rs r is.2 (λ passed. absurd (false≢true (sym fails ∙ passed))))
 
--- the first candidate
-pub first_found : (req : List Held) (rs : List (Parts × Option (List ℕ))) (r : Parts × Option (List ℕ)) → is_candidate req r ≡ true → IsChosen req rs None → IsChosen req (rs ++ r ∷ []) (Some r)
-first_found req rs r candidate all = (
+-- the first that passes
+pub first_found : (passes : Parts × Option (List ℕ) → Bool) (rs : List (Parts × Option (List ℕ))) (r : Parts × Option (List ℕ)) → passes r ≡ true → IsGreatest passes rs None → IsGreatest passes (rs ++ r ∷ []) (Some r)
+first_found passes rs r passed all = (
   Contains-push rs r,
-  candidate,
-  every_push (λ s. is_candidate req s ≡ true → version_cmp r.0 s.0 ≢ Less) rs r
-      (every_weaker (λ s. is_candidate req s ≡ false) (λ s. is_candidate req s ≡ true → version_cmp r.0 s.0 ≢ Less) (λ s none some. absurd (false≢true (sym none ∙ some))) rs all)
+  passed,
+  every_push (λ s. passes s ≡ true → version_cmp r.0 s.0 ≢ Less) rs r
+      (every_weaker (λ s. passes s ≡ false) (λ s. passes s ≡ true → version_cmp r.0 s.0 ≢ Less) (λ s none some. absurd (false≢true (sym none ∙ some))) rs all)
       (λ same. not_itself r.0),
 )
 
--- a candidate that is not better
-pub kept : (req : List Held) (rs : List (Parts × Option (List ℕ))) (b r : Parts × Option (List ℕ)) → is_lt (version_cmp b.0 r.0) ≡ false → IsChosen req rs (Some b) → IsChosen req (rs ++ r ∷ []) (Some b)
-kept req rs b r at_least is =
-    (Contains-append_left rs (r ∷ []) b is.0, is.1, every_push (λ s. is_candidate req s ≡ true → version_cmp b.0 s.0 ≢ Less) rs r is.2 (λ candidate. less_not (version_cmp b.0 r.0) at_least))
+-- one that passes and is not better
+pub kept : (passes : Parts × Option (List ℕ) → Bool) (rs : List (Parts × Option (List ℕ))) (b r : Parts × Option (List ℕ)) → is_lt (version_cmp b.0 r.0) ≡ false → IsGreatest passes rs (Some b) → IsGreatest passes (rs ++ r ∷ []) (Some b)
+kept passes rs b r at_least is =
+    (Contains-append_left rs (r ∷ []) b is.0, is.1, every_push (λ s. passes s ≡ true → version_cmp b.0 s.0 ≢ Less) rs r is.2 (λ passed. less_not (version_cmp b.0 r.0) at_least))
 
--- a candidate that is better
-pub replaced : (req : List Held) (rs : List (Parts × Option (List ℕ))) (b r : Parts × Option (List ℕ)) → is_candidate req r ≡ true → is_lt (version_cmp b.0 r.0) ≡ true → IsChosen req rs (Some b) → IsChosen req (rs ++ r ∷ []) (Some r)
-replaced req rs b r candidate above is = (
+-- one that passes and is better
+pub replaced : (passes : Parts × Option (List ℕ) → Bool) (rs : List (Parts × Option (List ℕ))) (b r : Parts × Option (List ℕ)) → passes r ≡ true → is_lt (version_cmp b.0 r.0) ≡ true → IsGreatest passes rs (Some b) → IsGreatest passes (rs ++ r ∷ []) (Some r)
+replaced passes rs b r passed above is = (
   Contains-push rs r,
-  candidate,
-  every_push (λ s. is_candidate req s ≡ true → version_cmp r.0 s.0 ≢ Less) rs r
-      (every_weaker (λ s. is_candidate req s ≡ true → version_cmp b.0 s.0 ≢ Less) (λ s. is_candidate req s ≡ true → version_cmp r.0 s.0 ≢ Less)
+  passed,
+  every_push (λ s. passes s ≡ true → version_cmp r.0 s.0 ≢ Less) rs r
+      (every_weaker (λ s. passes s ≡ true → version_cmp b.0 s.0 ≢ Less) (λ s. passes s ≡ true → version_cmp r.0 s.0 ≢ Less)
       (λ s least can over. least can (version_total.trans b.0 r.0 s.0 (less_is (version_cmp b.0 r.0) above) over)) rs is.2)
       (λ same. not_itself r.0),
 )

@@ -76,7 +76,7 @@ signature-refused kind accepts head k log s key is a heads opened signs bad =
     sym (fault-follows kind accepts head k log s is a) ∙ ap (λ f. option_or f (known_entries_fault kind s.key_id (not (is_some head)) k s.rec.entries)) (heads (broken (lacks_opening head s) FirstEntryNotInit (signature_fault kind accepts s (signer_by head k s))) ∙ own)
 
 -- one more record
-entries-push : (log : List Signed) (s : Signed) → entries_of (log ++ s ∷ []) ≡ entries_of log ++ s.rec.entries
+pub entries-push : (log : List Signed) (s : Signed) → entries_of (log ++ s ∷ []) ≡ entries_of log ++ s.rec.entries
 entries-push [] s = ends s.rec.entries
   where
     ends : (xs : List PlainEntry) → xs ++ [] ≡ xs

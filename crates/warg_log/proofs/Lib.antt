@@ -7,3 +7,6 @@ pub mod PermissionLaws
 pub mod AgreesLaws
 pub mod FollowsLaws
 pub mod ChoiceLaws
+pub mod ListedLaws
+pub mod ChoiceUnique
+pub mod LawfulLaws

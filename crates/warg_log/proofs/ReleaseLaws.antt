@@ -8,15 +8,15 @@ use Rattle.semver.specs.Parse.{Parts}
 use Rattle.warg_log.specs.History.{same_version}
 use Rattle.warg_log.specs.Places.{place_of, versions_of, AreDistinct}
 
-some_is_none : {A : Type 0} {x : A} → Some x ≡ None → ⊥
+pub some_is_none : {A : Type 0} {x : A} → Some x ≡ None → ⊥
 some_is_none e = cc
 
-parts_same : (v w : Parts) → v.0 ≡ w.0 → v.1 ≡ w.1 → v.2 ≡ w.2 → v.3 ≡ w.3 → v.4 ≡ w.4 → v ≡ w
+pub parts_same : (v w : Parts) → v.0 ≡ w.0 → v.1 ≡ w.1 → v.2 ≡ w.2 → v.3 ≡ w.3 → v.4 ≡ w.4 → v ≡ w
 parts_same v w a b c d e =
     ap (λ (x : ℕ). (x, v.1, v.2, v.3, v.4)) a ∙ ap (λ (x : ℕ). (w.0, x, v.2, v.3, v.4)) b ∙ ap (λ (x : ℕ). (w.0, w.1, x, v.3, v.4)) c
     ∙ ap (λ (x : List ℕ). (w.0, w.1, w.2, x, v.4)) d ∙ ap (λ (x : List ℕ). (w.0, w.1, w.2, w.3, x)) e
 
-no_more : (o : Option ℕ) → option_map suc o ≡ None → o ≡ None
+pub no_more : (o : Option ℕ) → option_map suc o ≡ None → o ≡ None
 no_more None h = refl
 no_more (Some i) h = absurd (some_is_none h)
 

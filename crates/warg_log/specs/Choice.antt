@@ -1,16 +1,26 @@
 -- The choice of a release.
-use Rattle.std.specs.Prelude.{◌≡◌, ◌≢◌, ◌&&◌, ℕ, Bool, true, false, List, is_some, Contains, Option, Some, None}
+use Rattle.std.specs.Prelude.{◌≡◌, ◌≢◌, ◌&&◌, ℕ, Bool, true, false, List, bytes_eq, is_some, Contains, Option, Some, None}
 use Rattle.std.specs.List.{AllByRecursion}
+use Rattle.std.specs.Option.{option_eq, option_map_or}
 use Rattle.std.specs.Ordering.{ordering_then, nat_cmp}
 use Rattle.std.specs.declared.cmp.Ordering.{Ordering}
 use Rattle.std.specs.declared.cmp.Ordering.TheVariants.{Less}
 use Rattle.semver.specs.EvalViews.{matches_views}
 use Rattle.semver.specs.Order.{pre_cmp, build_cmp}
 use Rattle.semver.specs.Parse.{Parts, Held}
+use Rattle.warg_log.specs.History.{same_version}
 
--- whether a release is not yanked and meets a requirement
-abbrev pub is_candidate : List Held → Parts × Option (List ℕ) → Bool
-is_candidate req r = is_some r.1 && matches_views req r.0
+-- whether a release has a version, where one is given
+abbrev pub has_version : Option Parts → Parts × Option (List ℕ) → Bool
+has_version exact r = option_map_or (λ v. same_version v r.0) exact true
+
+-- whether a release has a content of a digest, where one is given
+abbrev pub has_digest : Option (List ℕ) → Parts × Option (List ℕ) → Bool
+has_digest digest r = option_map_or (λ d. option_eq bytes_eq (Some d) r.1) digest true
+
+-- whether a release is not yanked, meets a requirement, and has an exact version and a digest where they are given
+abbrev pub is_candidate : List Held → Option Parts → Option (List ℕ) → Parts × Option (List ℕ) → Bool
+is_candidate req exact digest r = is_some r.1 && (matches_views req r.0 && (has_version exact r && has_digest digest r))
 
 -- by precedence, then by build metadata
 abbrev pub version_cmp : Parts → Parts → Ordering
@@ -18,7 +28,11 @@ version_cmp a b =
     ordering_then (nat_cmp a.0 b.0) (ordering_then (nat_cmp a.1 b.1) (ordering_then (nat_cmp a.2 b.2)
     (ordering_then (pre_cmp a.3 b.3) (build_cmp a.4 b.4))))
 
--- the greatest of the releases that are not yanked and meet a requirement; none where there is none
-abbrev pub IsChosen : List Held → List (Parts × Option (List ℕ)) → Option (Parts × Option (List ℕ)) → Type 0
-IsChosen req rs None = AllByRecursion (λ s. is_candidate req s ≡ false) rs
-IsChosen req rs (Some r) = Contains rs r × (is_candidate req r ≡ true) × AllByRecursion (λ s. is_candidate req s ≡ true → version_cmp r.0 s.0 ≢ Less) rs
+-- the greatest of the releases that pass a test; none where there is none
+abbrev pub IsGreatest : (Parts × Option (List ℕ) → Bool) → List (Parts × Option (List ℕ)) → Option (Parts × Option (List ℕ)) → Type 0
+IsGreatest passes rs None = AllByRecursion (λ s. passes s ≡ false) rs
+IsGreatest passes rs (Some r) = Contains rs r × (passes r ≡ true) × AllByRecursion (λ s. passes s ≡ true → version_cmp r.0 s.0 ≢ Less) rs
+
+-- the choice by a requirement, and by an exact version and a digest where they are given: the greatest of the candidates
+abbrev pub IsChosen : List Held → Option Parts → Option (List ℕ) → List (Parts × Option (List ℕ)) → Option (Parts × Option (List ℕ)) → Type 0
+IsChosen req exact digest rs choice = IsGreatest (is_candidate req exact digest) rs choice

@@ -1,6 +1,6 @@
 //! The choice of a release.
 
-ghost use Rattle.std.specs.Prelude.{◌≡◌, ◌++◌, ◌∷◌, [], ℕ, List, Option, map, option_map, option_copied};
+ghost use Rattle.std.specs.Prelude.{◌≡◌, ◌++◌, ◌∷◌, [], ℕ, List, Option, None, map, option_map, option_copied};
 ghost use Rattle.std.specs.Ordering.{is_lt};
 ghost use Rattle.semver.specs.Identifiers.{parts_of, comparator_view};
 ghost use Rattle.semver.specs.Parse.{Parts};
@@ -20,9 +20,12 @@ fn is_before(a: &Version, b: &Version) -> bool
 
 // Whether a release is not yanked and meets a requirement.
 fn is_open(req: &VersionReq, release: &Release) -> bool
-    ensures { result ≡ is_candidate (map comparator_view req.now.comparators.items) (release_view release.now) }
+    ensures { result ≡ is_candidate (map comparator_view req.now.comparators.items) None None (release_view release.now) }
 {
-    release.content.is_some() && req.matches(&release.version)
+    if release.content.is_none() {
+        return false;
+    }
+    req.matches(&release.version)
 }
 
 // The better of a release and the best before it.
@@ -31,7 +34,7 @@ fn better<'a>(
     best: Option<&'a Release>,
     release: &'a Release,
 ) -> Option<&'a Release>
-    ensures { (rs : List (Parts × Option (List ℕ))) → IsChosen (map comparator_view req.now.comparators.items) rs (option_map release_view (option_copied best.entry)) → IsChosen (map comparator_view req.now.comparators.items) (rs ++ release_view release.now ∷ []) (option_map release_view (option_copied result)) }
+    ensures { (rs : List (Parts × Option (List ℕ))) → IsChosen (map comparator_view req.now.comparators.items) None None rs (option_map release_view (option_copied best.entry)) → IsChosen (map comparator_view req.now.comparators.items) None None (rs ++ release_view release.now ∷ []) (option_map release_view (option_copied result)) }
 {
     if !is_open(req, release) {
         return best;
@@ -50,7 +53,7 @@ fn better<'a>(
 
 /// The greatest of the releases that are not yanked and meet a requirement.
 pub(crate) fn chosen<'a>(req: &VersionReq, releases: &'a [Release]) -> Option<&'a Release>
-    ensures { IsChosen (map comparator_view req.now.comparators.items) (release_views releases.now) (option_map release_view (option_copied result)) }
+    ensures { IsChosen (map comparator_view req.now.comparators.items) None None (release_views releases.now) (option_map release_view (option_copied result)) }
 {
     let mut best = None;
     for release in releases {

@@ -234,7 +234,7 @@ impl<E: JudgedEntry> LogState<E> {
     /// The greatest of the releases that are not yanked and meet a requirement, by precedence and then by
     /// build metadata.
     pub fn find_latest_release(&self, req: &VersionReq) -> Option<&Release>
-        ensures { (log : List Signed) → Follows E.kind self.now log → IsChosen (map comparator_view req.now.comparators.items) (releases_of (entries_of log)) (option_map release_view (option_copied result)) }
+        ensures { (log : List Signed) → Follows E.kind self.now log → IsChosen (map comparator_view req.now.comparators.items) None None (releases_of (entries_of log)) (option_map release_view (option_copied result)) }
     {
         chosen(req, self.facts.releases.as_slice())
     }

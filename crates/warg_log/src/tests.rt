@@ -3,8 +3,9 @@
 use crate::operator::{self, OperatorEntry};
 use crate::package::{LogState, PackageEntry};
 use crate::{
-    AnyHash, Envelope, JudgedEntry, ListedVerifier, NamespaceState, PackageRecord, PublicKey,
-    Record, RecordId, Signature, ValidationError, Verifier,
+    AnyHash, Envelope, EnvelopeError, JudgedEntry, ListedSigner, ListedVerifier, NamespaceState,
+    PackageRecord, PublicKey, Record, RecordId, SignError, Signature, Signer, ValidationError,
+    Verifier,
 };
 use semver::{Version, VersionReq};
 use std::alloc::Global;
@@ -15,6 +16,19 @@ const FIRST_ID: &str = "sha256:96821d936df6b0494b21fac7f5ef251be58d55d1f6198e13b
 
 const SIGNED_DIGEST: &str =
     "sha256:574e087e8d46c185a6f9b94342966d3732010c1ccc1567050f54ed71cdcac0cb";
+
+/// The id of the key `k:AA==`.
+const KEY_ID: &str = "sha256:4efe654bc30051152bd60218d04e883ec1e6b92f39f8623b4caa049a90f71205";
+
+/// A first record: its time is one second, and Init brings the key `k:AA==`.
+const FIRST: &[u8] = b"\x1a\x02\x08\x01\x22\x12\x0a\x10\x0a\x06k:AA==\x12\x06sha256";
+
+/// The same with a version of 0 written out.
+const WRITTEN_DEFAULT: &[u8] =
+    b"\x10\x00\x1a\x02\x08\x01\x22\x12\x0a\x10\x0a\x06k:AA==\x12\x06sha256";
+
+/// The SHA-256 of `a text`.
+const TEXT_DIGEST: &str = "sha256:734194ede5b063e654d63cb95a682ca1551b45e3cc86e88f1a85c1286eedd4ac";
 
 /// Accepts every signature.
 #[derive(Debug, Drop)]
@@ -69,17 +83,45 @@ fn yank(alloc: Global, version: &str) -> Result<PackageEntry, Fail> {
     })
 }
 
-// Init, releases of 1.0.0 and 1.1.0, and a yank of 1.1.0.
-fn first_record(alloc: Global) -> Result<Envelope<PackageRecord>, Fail> {
+// A first record: Init, these releases, and then these yanks.
+fn record_of(
+    alloc: Global,
+    released: &[&str],
+    yanked: &[&str],
+) -> Result<Envelope<PackageRecord>, Fail> {
     let mut entries = Vec::new(alloc);
     entries.push(PackageEntry::Init {
         key: PublicKey::new(alloc, "k:AA==")?,
         hash_algorithm: Text::copy_of(alloc, "sha256")?,
     })?;
-    entries.push(release(alloc, "1.0.0")?)?;
-    entries.push(release(alloc, "1.1.0")?)?;
-    entries.push(yank(alloc, "1.1.0")?)?;
+    for version in released {
+        entries.push(release(alloc, version)?)?;
+    }
+    for version in yanked {
+        entries.push(yank(alloc, version)?)?;
+    }
     envelope(alloc, None, entries)
+}
+
+// Init, releases of 1.0.0 and 1.1.0, and a yank of 1.1.0.
+fn first_record(alloc: Global) -> Result<Envelope<PackageRecord>, Fail> {
+    record_of(alloc, &["1.0.0", "1.1.0"], &["1.1.0"])
+}
+
+// The latest of these releases but for these yanked ones that meets a requirement; empty where there is none.
+fn latest(
+    alloc: Global,
+    released: &[&str],
+    yanked: &[&str],
+    requirement: &str,
+) -> Result<String, Fail> {
+    let mut state = LogState::new(alloc);
+    state.validate(alloc, &EverySignature, &record_of(alloc, released, yanked)?)?;
+    let requirement = VersionReq::parse(alloc, requirement)?;
+    match state.find_latest_release(&requirement) {
+        Some(found) => Ok(format!(in alloc; "{}", found.version)?),
+        None => Ok(String::new(alloc)),
+    }
 }
 
 // Why a record of this entry does not follow the first one.
@@ -157,5 +199,85 @@ fn a_defined_namespace_is_known(rt: HostRuntime) -> Result<(), Fail> {
     state.validate(alloc, &EverySignature, &first)?;
     assert!(rt; matches!(state.namespace_state("a"), Some(NamespaceState::Defined)));
     assert!(rt; state.namespace_state("b").is_none());
+    Ok(())
+}
+
+#[test]
+fn a_first_record_is_read_and_is_not_its_own_second(rt: HostRuntime) -> Result<(), Fail> {
+    let alloc = rt.alloc();
+    let read: Result<Envelope<PackageRecord>, EnvelopeError> = Envelope::read(
+        alloc,
+        WRITTEN_DEFAULT,
+        KEY_ID,
+        "k:BA==",
+    );
+    assert!(rt; matches!(read, Err(EnvelopeError::Form)));
+    let first: Envelope<PackageRecord> = Envelope::read(alloc, FIRST, KEY_ID, "k:BA==")?;
+    let mut state = LogState::new(alloc);
+    state.validate(alloc, &EverySignature, &first)?;
+    let again = state.validate(alloc, &EverySignature, &first);
+    assert!(rt; matches!(again, Err(ValidationError::PreviousRecord { .. })));
+    Ok(())
+}
+
+#[test]
+fn the_greatest_open_release_is_chosen(rt: HostRuntime) -> Result<(), Fail> {
+    let alloc = rt.alloc();
+    let found = latest(
+        alloc,
+        &["1.2.0", "1.10.0", "2.0.0-rc.1", "1.11.0"],
+        &["1.11.0"],
+        ">=1.0.0",
+    )?;
+    assert_eq!(rt; found.as_str(), "1.10.0");
+    let any = latest(
+        alloc,
+        &["1.0.0-rc.1", "1.0.0-rc.2+1", "1.0.0-rc.2+2"],
+        &[],
+        "*",
+    )?;
+    assert_eq!(rt; any.as_str(), "");
+    let release_candidate = latest(
+        alloc,
+        &["1.0.0-rc.2+1", "1.0.0-rc.2+2", "1.0.0-rc.1"],
+        &[],
+        ">=1.0.0-rc.1",
+    )?;
+    assert_eq!(rt; release_candidate.as_str(), "1.0.0-rc.2+2");
+    Ok(())
+}
+
+// The signature that a signer gives for a text.
+fn signature_by<S: Signer>(
+    alloc: Global,
+    signer: &mut S,
+    text: &[u8],
+) -> Result<Signature, SignError> {
+    signer.sign(alloc, text)
+}
+
+#[test]
+fn listed_signatures_are_given_but_at_the_told_call(rt: HostRuntime) -> Result<(), Fail> {
+    let alloc = rt.alloc();
+    let mut list = Vec::new(alloc);
+    list.push((
+        AnyHash::from_text(alloc, TEXT_DIGEST)?,
+        Signature::new(alloc, "k:BA==")?,
+    ))?;
+    list.push((
+        AnyHash::from_text(alloc, KEY_ID)?,
+        Signature::new(alloc, "k:CA==")?,
+    ))?;
+    let mut signer = ListedSigner::new(alloc, PublicKey::new(alloc, "k:AA==")?, list);
+    signer.fail_at(2)?;
+    assert_eq!(rt; signer.public_key().as_str(), "k:AA==");
+    let first = signature_by(alloc, &mut signer, b"a text")?;
+    assert_eq!(rt; first.as_str(), "k:BA==");
+    let told = signature_by(alloc, &mut signer, b"a text");
+    assert!(rt; matches!(told, Err(SignError::Failed)));
+    let third = signature_by(alloc, &mut signer, b"k:AA==")?;
+    assert_eq!(rt; third.as_str(), "k:CA==");
+    let other = signature_by(alloc, &mut signer, b"another text");
+    assert!(rt; matches!(other, Err(SignError::Failed)));
     Ok(())
 }
