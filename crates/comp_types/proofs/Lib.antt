@@ -7,4 +7,6 @@ pub mod DefinitionLaws
 pub mod CanonLaws
 pub mod ItemLaws
 pub mod SectionLaws
+pub mod ScopeLaws
 pub mod DepthLaws
+pub mod ViewLaws

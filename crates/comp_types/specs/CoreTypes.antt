@@ -34,6 +34,11 @@ abbrev pub module_count : ModuleDecls → ℕ
 module_count none = zero
 module_count (more d ds) = suc (module_count ds)
 
+-- declarations, and one behind them
+abbrev pub with_module_decl : ModuleDecls → ModuleDeclTree → ModuleDecls
+with_module_decl none d = more d none
+with_module_decl (more first ds) d = more first (with_module_decl ds d)
+
 -- the byte of a core value's type
 abbrev pub core_value_code : CoreVal → ℕ
 core_value_code core_value.V7f = 0x7f

@@ -44,6 +44,11 @@ abbrev pub decl_count : Decls → ℕ
 decl_count none = zero
 decl_count (more d ds) = suc (decl_count ds)
 
+-- declarations, and one behind them
+abbrev pub with_decl : Decls → DeclTree → Decls
+with_decl none d = more d none
+with_decl (more first ds) d = more first (with_decl ds d)
+
 abbrev pub is_resource : TypeTree → Bool
 is_resource (Resource d) = true
 is_resource _ = false

@@ -10,3 +10,5 @@ pub mod Views
 pub mod Items
 pub mod Sections
 pub mod Fits
+pub mod Forms
+pub mod Spaces

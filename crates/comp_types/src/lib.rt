@@ -5,10 +5,13 @@
 #![tactic(auto)]
 
 mod core_types;
+mod declare;
+mod error;
 pub mod laws;
 mod types;
 
 pub use core_types::{CoreDesc, CoreType, CoreVal, Limits, ModuleDecl, ModuleType};
+pub use error::EncodeError;
 pub use types::{
     Alias, Arg, Canon, CanonOption, ComponentType, CoreInstance, CoreSort, Decl, DefType,
     DefinedType, FuncType, InstanceItem, InstanceType, Item, Primitive, Sort, TypeRef, ValType,
