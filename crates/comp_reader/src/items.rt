@@ -31,7 +31,7 @@ const CORE_HEADER: [u8; 8] = [0x00, 0x61, 0x73, 0x6d, 0x01, 0x00, 0x00, 0x00];
 const COMPONENT: u8 = 4;
 
 /// How many scopes are followed at one place: components, and types of components, instances and modules.
-const SCOPES: u8 = 200;
+pub const SCOPES: u8 = 200;
 
 /// What a section is a vector of.
 trait Listed: Drop {
@@ -168,7 +168,7 @@ fn push_all<T: Listed>(items: &mut Vec<Item<'_>>, values: Vec<T>) -> Result<(), 
 
 /// A section's id and content, and the bytes behind it.
 #[tactic(auto, unfolding(comp_types::specs::Sections::frame_at))]
-fn frame_of(bytes: &[u8]) -> Result<((u8, &[u8]), &[u8]), ReadError>
+pub fn frame_of(bytes: &[u8]) -> Result<((u8, &[u8]), &[u8]), ReadError>
     ensures { Gives (λ x. ((x.0.0, x.0.1.now), x.1.now)) result (frame_at bytes.now) }
 {
     match bytes {

@@ -10,6 +10,7 @@ mod definitions;
 mod error;
 mod items;
 mod parts;
+mod places;
 mod read;
 #[cfg(test)]
 mod tests;
@@ -17,3 +18,4 @@ mod values;
 
 pub use error::ReadError;
 pub use items::read_items;
+pub use places::{ItemPlace, RawSection, item_place, read_section};
