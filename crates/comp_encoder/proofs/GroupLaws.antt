@@ -1,48 +1,45 @@
--- Items that share a section are the first group.
-use Rattle.std.proofs.Common.{◌≡◌, ℕ, zero, suc, ◌<◌, ◌≤◌, Bool, true, false, cond, eqb, not, ◌&&◌, List, [], ◌∷◌, ◌++◌, length, get_or, take, drop, drop-cons, refl, sym, ap, subst, ◌∙◌, inl, inr, arith}
-use Rattle.std.specs.Prelude.{All}
-use Rattle.std.specs.List.{AllByRecursion}
-use Rattle.std.proofs.lemmas.List.{take-append-drop, map-append, drop_all}
-use Rattle.std.proofs.lemmas.List.Elements.{recursion_from_All}
-use Rattle.comp_encoder.specs.declared.built.BuiltItem.{BuiltItem}
-use Rattle.comp_encoder.specs.Builder.{built_tree, built_items, first_group, shared_group}
-use Rattle.std.proofs.lemmas.Bool.{cases_Bool, eqb-true, eqb-false, eq-eqb, ne_eqb, not-true}
-use Rattle.comp_encoder.specs.Items.{ItemTree}
-use Rattle.comp_encoder.specs.Vectors.{vector_text}
-use Rattle.comp_encoder.specs.Writing.{Group, item_id, item_text, joined, groups_of, content_text}
-use Rattle.comp_encoder.proofs.WritingLaws.{vector_text-map}
+-- What shares a section is the first group.
+use Rattle.std.proofs.Common.{◌≡◌, ℕ, zero, suc, ◌<◌, ◌^◌, Bool, true, false, cond, List, [], ◌∷◌, ◌++◌, length, map, get_or, take, drop, Some, None, refl, sym, ap, subst, ◌∙◌, append_assoc, inl, inr, arith}
+use Rattle.std.specs.List.{flat_map, AllByRecursion}
+use Rattle.std.proofs.lemmas.List.{take-append-drop, map-append, append-nil}
+use Rattle.std.proofs.lemmas.Bool.{cases_Bool, eq-eqb}
+use Rattle.comp_types.specs.Items.{ItemTree}
+use Rattle.comp_types.specs.Numbers.{number_text}
+use Rattle.comp_encoder.specs.declared.built.Built.{Built}
+use Rattle.comp_encoder.specs.Builder.{Kept, Item, Whole, IsKept, IsItem, IsRun, EndsRun, kept, kepts_of, kept_bytes, item_of, entry_of, entries_of, first_group, shared_group}
+use Rattle.comp_encoder.specs.Writing.{Group, item_id, item_text, is_shared, is_plain, alone, joins, joined, groups_of, content_text}
+use Rattle.comp_encoder.proofs.WritingLaws.{Joins, FitsEntry, joins_is, vector_text-map, items_counted}
 
--- a group of some items
-abbrev pub group : ℕ → List ItemTree → Group
-group id items = record { id = id; items = items }
+-- what is kept, one behind the other
+pub entries_more : (k : Kept) (ks : List Kept) → entries_of (k ∷ ks) ≡ entry_of k ∷ entries_of ks
+unfolding entries_of
+entries_more k ks = refl
 
--- what stands behind a group: nothing, or an item that does not join it
-abbrev pub EndsGroup : ℕ → List ItemTree → Type 0
-EndsGroup id [] = Unit {0}
-EndsGroup id (item ∷ items) = (item_id item ≡ id → id ≡ 4)
+pub entries_append : (front back : List Kept) → entries_of (front ++ back) ≡ entries_of front ++ entries_of back
+unfolding entries_of
+entries_append front back = map-append entry_of front back
 
--- whether an item joins a group
-abbrev joins : ItemTree → Group → Bool
-joins item g = eqb (item_id item) g.id && not (eqb g.id 4)
+pub entry_fits : (k : Kept) → IsKept k → FitsEntry (entry_of k)
+unfolding entry_of
+entry_fits (Item id bytes) h = h.fits
+entry_fits (Whole id content) h = h
 
-and_true : (a b : Bool) → a && b ≡ true → (a ≡ true) × (b ≡ true)
-and_true true b e = (refl, e)
-and_true false b e = absurd cc
+pub entries_fit : (ks : List Kept) → AllByRecursion IsKept ks → AllByRecursion FitsEntry (entries_of ks)
+unfolding entries_of
+entries_fit [] h = tt
+entries_fit (k ∷ ks) h = (entry_fits k h.0, entries_fit ks h.1)
 
-joins_is : (item : ItemTree) (g : Group) → joins item g ≡ true → (item_id item ≡ g.id) × (g.id ≡ 4 → ⊥)
-joins_is item g e =
-    let parts = and_true (eqb (item_id item) g.id) (not (eqb g.id 4)) e in
-    (eqb-true (item_id item) g.id parts.0, eqb-false g.id 4 (not-true (eqb g.id 4) parts.1))
+-- ---- what does not join
 
 -- an item that doesn't join the first group begins one
-joined_begins : (item : ItemTree) (g : Group) (gs : List Group) → (item_id item ≡ g.id → g.id ≡ 4) → joined item (g ∷ gs) ≡ group (item_id item) (item ∷ []) ∷ g ∷ gs
-joined_begins item g gs h =
+joined_begins : (item : ItemTree) (g : Group) (gs : List Group) → (Joins item g → ⊥) → joined item (g ∷ gs) ≡ alone item ∷ g ∷ gs
+joined_begins item g gs apart =
     elim (cases_Bool (joins item g)) [
-      | inl is ↦ let both = joins_is item g is in absurd (both.1 (h both.0))
-      | inr not ↦ ap (λ (t : Bool). cond t (group g.id (item ∷ g.items) ∷ gs) (group (item_id item) (item ∷ []) ∷ g ∷ gs)) not
+      | inl is ↦ absurd (apart (joins_is item g is))
+      | inr not ↦ ap (λ (t : Bool). cond t (record { id = g.id; items = item ∷ g.items; raw = g.raw } ∷ gs) (alone item ∷ g ∷ gs)) not
     ]
 
--- groups that an item joined or began: the first has the item's id
+-- groups of which an item joined or began the first, which then has the item's id
 record Begins (id : ℕ) (gs : List Group) : Type 0 where
   first : Group
   others : List Group
@@ -50,90 +47,159 @@ record Begins (id : ℕ) (gs : List Group) : Type 0 where
   id_is : first.id ≡ id
 
 begins_joined : (item : ItemTree) (gs : List Group) → Begins (item_id item) (joined item gs)
-begins_joined item [] = record { first = group (item_id item) (item ∷ []); others = []; is = refl; id_is = refl }
+begins_joined item [] = record { first = alone item; others = []; is = refl; id_is = refl }
 begins_joined item (g ∷ gs) =
     elim (cases_Bool (joins item g)) [
       | inl is ↦ record {
-        first = group g.id (item ∷ g.items);
+        first = record { id = g.id; items = item ∷ g.items; raw = g.raw };
         others = gs;
-        is = ap (λ (t : Bool). cond t (group g.id (item ∷ g.items) ∷ gs) (group (item_id item) (item ∷ []) ∷ g ∷ gs)) is;
-        id_is = sym (joins_is item g is).0;
+        is = ap (λ (t : Bool). cond t (record { id = g.id; items = item ∷ g.items; raw = g.raw } ∷ gs) (alone item ∷ g ∷ gs)) is;
+        id_is = sym (joins_is item g is).same;
       }
       | inr not ↦ record {
-        first = group (item_id item) (item ∷ []);
+        first = alone item;
         others = g ∷ gs;
-        is = ap (λ (t : Bool). cond t (group g.id (item ∷ g.items) ∷ gs) (group (item_id item) (item ∷ []) ∷ g ∷ gs)) not;
+        is = ap (λ (t : Bool). cond t (record { id = g.id; items = item ∷ g.items; raw = g.raw } ∷ gs) (alone item ∷ g ∷ gs)) not;
         id_is = refl;
       }
     ]
 
-joined_apart : (item next : ItemTree) (gs : List Group) → (item_id next ≡ item_id item → item_id item ≡ 4) → joined item (joined next gs) ≡ group (item_id item) (item ∷ []) ∷ joined next gs
-joined_apart item next gs h =
-    let b = begins_joined next gs in
-    let apart : item_id item ≡ b.first.id → b.first.id ≡ 4 = λ e. let same = sym b.id_is ∙ sym e in sym e ∙ h same in
-    subst (λ (hs : List Group). joined item hs ≡ group (item_id item) (item ∷ []) ∷ hs) (sym b.is) (joined_begins item b.first b.others apart)
+-- an item of another id, or of an id that is not shared
+joined_apart : (item : ItemTree) (id : ℕ) (gs : List Group) → Begins id gs → (item_id item ≡ id → is_shared id ≡ true → ⊥) → joined item gs ≡ alone item ∷ gs
+joined_apart item id gs b apart =
+    let no : Joins item b.first → ⊥ = λ j. apart (j.same ∙ b.id_is) (subst (λ n. is_shared n ≡ true) b.id_is j.shared) in
+    subst (λ (hs : List Group). joined item hs ≡ alone item ∷ hs) (sym b.is) (joined_begins item b.first b.others no)
 
-joined_ends : (item : ItemTree) (rest : List ItemTree) → EndsGroup (item_id item) rest → joined item (groups_of rest) ≡ group (item_id item) (item ∷ []) ∷ groups_of rest
-joined_ends item [] h = refl
-joined_ends item (next ∷ rest) h = joined_apart item next (groups_of rest) h
-
-joined_same : (item : ItemTree) (id : ℕ) (items : List ItemTree) (gs : List Group) → item_id item ≡ id → (id ≡ 4 → ⊥) → joined item (group id items ∷ gs) ≡ group id (item ∷ items) ∷ gs
-joined_same item id items gs same apart = rw (eq-eqb (item_id item) id same, ne_eqb id 4 apart) refl
-
--- items of one id, but for nested components, are one group
-pub groups_run : (first : ItemTree) (items rest : List ItemTree) → (item_id first ≡ 4 → ⊥) → AllByRecursion (λ item. item_id item ≡ item_id first) items → EndsGroup (item_id first) rest
-    → groups_of ((first ∷ items) ++ rest) ≡ group (item_id first) (first ∷ items) ∷ groups_of rest
-groups_run first [] rest apart alike ends = joined_ends first rest ends
-groups_run first (item ∷ items) rest apart alike ends =
-    let id_is : item_id item ≡ item_id first = alike.0 in
-    let others = groups_run item items rest (λ e. apart (sym id_is ∙ e)) (subst (λ id. AllByRecursion (λ i. item_id i ≡ id) items) (sym id_is) alike.1) (subst (λ id. EndsGroup id rest) (sym id_is) ends) in
-    ap (joined first) (others ∙ ap (λ id. group id (item ∷ items) ∷ groups_of rest) id_is) ∙ joined_same first (item_id first) (item ∷ items) (groups_of rest) refl apart
-
--- a nested component is a group alone
-pub groups_alone : (first : ItemTree) (rest : List ItemTree) → item_id first ≡ 4 → groups_of (first ∷ rest) ≡ group (item_id first) (first ∷ []) ∷ groups_of rest
-groups_alone first rest same = joined_ends first rest (ends rest)
+-- an item in front of what does not share its section
+ends_apart : (item : ItemTree) (ks : List Kept) → AllByRecursion IsKept ks → (is_shared (item_id item) ≡ true → EndsRun (item_id item) ks) → joined item (groups_of (entries_of ks)) ≡ alone item ∷ groups_of (entries_of ks)
+unfolding entries_of entry_of
+ends_apart item [] fit ends = refl
+ends_apart item (Item id bytes ∷ ks) fit ends =
+    let b = begins_joined (item_of id bytes) (groups_of (entries_of ks)) in
+    joined_apart item (item_id (item_of id bytes)) (joined (item_of id bytes) (groups_of (entries_of ks))) b
+    (λ same shared. ends (subst (λ n. is_shared n ≡ true) (sym same) shared) (sym fit.0.id_is ∙ sym same))
+ends_apart item (Whole id content ∷ ks) fit ends = joined_begins item _ (groups_of (entries_of ks)) (λ j. raw_is j.open_is)
   where
-    ends : (items : List ItemTree) → EndsGroup (item_id first) items
-    ends [] = tt
-    ends (item ∷ items) = λ _. same
+    raw_is : {c : List ℕ} → Some c ≡ None → ⊥
+    raw_is e = cc
 
-map_alike : (items : List BuiltItem) (id : ℕ) → AllByRecursion (λ i. item_id (built_tree i) ≡ id) items → AllByRecursion (λ i. item_id i ≡ id) (built_items items)
-map_alike [] id h = tt
-map_alike (item ∷ items) id h = (h.0, map_alike items id h.1)
+-- ---- what joins
 
--- the items of one id at the front are the first group
-pub groups_first : (items : List BuiltItem) (id len : ℕ) → 0 < len → len ≤ length items → (id ≡ 4 → len ≡ 1) → All (λ item. item_id (built_tree item) ≡ id) (take len items) → EndsGroup id (built_items (drop len items))
-    → groups_of (built_items items) ≡ first_group (take len items) ∷ groups_of (built_items (drop len items))
-groups_first [] id len some bound lone alike ends = absurd (omega arith)
-groups_first (item ∷ items) id zero some bound lone alike ends = absurd (omega arith)
-groups_first (item ∷ items) id (suc n) some bound lone alike ends =
-    let P : BuiltItem → Type 0 = λ i. item_id (built_tree i) ≡ id in
-    let each = recursion_from_All P (item ∷ take n items) alike in
-    let first_is : item_id (built_tree item) ≡ id = each.0 in
-    let split : built_items items ≡ built_items (take n items) ++ built_items (drop n items) = ap built_items (sym (take-append-drop n items)) ∙ map-append built_tree (take n items) (drop n items) in
-    let ends_here : EndsGroup (item_id (built_tree item)) (built_items (drop n items)) = subst (λ k. EndsGroup k (built_items (drop n items))) (sym first_is) ends in
-    elim (cases_Bool (eqb id 4)) [
-      | inl nested ↦
-          let is_four : id ≡ 4 = eqb-true id 4 nested in
-          let n_is : n ≡ 0 = omega (arith, lone is_four) in
-          subst (λ k. groups_of (built_items (item ∷ items)) ≡ first_group (item ∷ take k items) ∷ groups_of (built_items (drop k items))) (sym n_is)
-          (groups_alone (built_tree item) (built_items items) (first_is ∙ is_four))
-      | inr shared ↦
-          let not_four : item_id (built_tree item) ≡ 4 → ⊥ = λ e. eqb-false id 4 shared (sym first_is ∙ e) in
-          let alike_here = map_alike (take n items) id each.1 in
-          ap (λ (l : List ItemTree). groups_of (built_tree item ∷ l)) split ∙ groups_run (built_tree item) (built_items (take n items)) (built_items (drop n items)) not_four (subst (λ k. AllByRecursion (λ i. item_id i ≡ k) (built_items (take n items))) (sym first_is) alike_here) ends_here
-    ]
+none_open : (item : ItemTree) (id : ℕ) (items : List ItemTree) → item_id item ≡ id → is_shared id ≡ true → joins item (record { id = id; items = items; raw = None }) ≡ true
+none_open item id items same shared = rw (eq-eqb (item_id item) id same, shared) refl
 
--- an item of another id ends the group
-pub ends_before : (items : List BuiltItem) (len id : ℕ) (item : BuiltItem) → len < length items → item ≡ get_or items len item → (item_id (built_tree item) ≡ id → ⊥) → EndsGroup id (built_items (drop len items))
-ends_before items len id item lt is apart =
-    let next : drop len items ≡ item ∷ drop (suc len) items = drop-cons items len item lt ∙ ap (λ (i : BuiltItem). i ∷ drop (suc len) items) (sym is) in
-    subst (λ (rest : List BuiltItem). EndsGroup id (built_items rest)) (sym next) (λ e. absurd (apart e))
+joined_same : (item : ItemTree) (id : ℕ) (items : List ItemTree) (gs : List Group) → item_id item ≡ id → is_shared id ≡ true
+    → joined item (record { id = id; items = items; raw = None } ∷ gs) ≡ (record { id = id; items = item ∷ items; raw = None }) ∷ gs
+joined_same item id items gs same shared =
+    ap (λ (t : Bool). cond t ((record { id = id; items = item ∷ items; raw = None }) ∷ gs) (alone item ∷ (record { id = id; items = items; raw = None }) ∷ gs)) (none_open item id items same shared)
 
--- and so does the end
-pub ends_over : (items : List BuiltItem) (len id : ℕ) → length items ≤ len → EndsGroup id (built_items (drop len items))
-ends_over items len id le = subst (λ (rest : List BuiltItem). EndsGroup id (built_items rest)) (sym (drop_all len items le)) tt
+-- items of one id are one group
+pub run_is : (id : ℕ) (bytes : List ℕ) (ks rest : List Kept) → is_shared id ≡ true → AllByRecursion IsKept (Item id bytes ∷ ks) → AllByRecursion IsKept rest → AllByRecursion (IsItem id) ks → EndsRun id rest
+    → groups_of (entries_of ((Item id bytes ∷ ks) ++ rest)) ≡ shared_group id (Item id bytes ∷ ks) ∷ groups_of (entries_of rest)
+unfolding entries_of entry_of
+run_is id bytes [] rest shared fit rest_fit alike ends =
+    ends_apart (item_of id bytes) rest rest_fit (λ _. subst (λ n. EndsRun n rest) (sym fit.0.id_is) ends)
+    ∙ ap (λ n. (record { id = n; items = item_of id bytes ∷ []; raw = None }) ∷ groups_of (entries_of rest)) fit.0.id_is
+run_is id bytes (Item i b ∷ ks) rest shared fit rest_fit alike ends =
+    let same : i ≡ id = alike.0 in
+    let item : ItemTree = item_of id bytes in
+    let back : (P : ℕ → Type 0) → P id → P i = λ P. subst P (sym same) in
+    let others = run_is i b ks rest (back (λ n. is_shared n ≡ true) shared) fit.1 rest_fit (back (λ n. AllByRecursion (IsItem n) ks) alike.1) (back (λ n. EndsRun n rest) ends) in
+    ap (joined item) others ∙ joined_same item i (map (λ k. item_of i (kept_bytes k)) (Item i b ∷ ks)) (groups_of (entries_of rest)) (fit.0.id_is ∙ sym same) (back (λ n. is_shared n ≡ true) shared)
+    ∙ ap (λ n. (record { id = n; items = item ∷ map (λ k. item_of n (kept_bytes k)) (Item i b ∷ ks); raw = None }) ∷ groups_of (entries_of rest)) same
+run_is id bytes (Whole i c ∷ ks) rest shared fit rest_fit alike ends = absurd alike.0
 
--- what items that share a section have as its content
-pub shared_content : (id : ℕ) (items : List BuiltItem) → (id ≡ 4 → ⊥) → content_text (shared_group id items) ≡ vector_text (λ item. item_text (built_tree item)) items
-shared_content id items apart = rw (ne_eqb id 4 apart) (vector_text-map item_text built_tree items)
+-- an item of an id that is not shared, or a section, is a group alone
+pub alone_first : (k : Kept) (ks : List Kept) → AllByRecursion IsKept (k ∷ ks) → ((id : ℕ) (bytes : List ℕ) → k ≡ Item id bytes → is_shared id ≡ false) → groups_of (entries_of (k ∷ ks)) ≡ first_group (k ∷ []) ∷ groups_of (entries_of ks)
+unfolding entries_of entry_of
+alone_first (Item id bytes) ks fit apart =
+    let not_shared : is_shared id ≡ false = apart id bytes refl in
+    ends_apart (item_of id bytes) ks fit.1 (λ shared. absurd (shut (sym shared ∙ ap is_shared fit.0.id_is ∙ not_shared)))
+    ∙ ap (λ n. (record { id = n; items = item_of id bytes ∷ []; raw = None }) ∷ groups_of (entries_of ks)) fit.0.id_is
+  where
+    shut : true ≡ false → ⊥
+    shut e = cc
+alone_first (Whole id content) ks fit apart = refl
+
+-- ---- in front of the others
+
+-- what is kept of the first and of the others
+pub kepts_split : (items : List Built) (n : ℕ) → kepts_of items ≡ kepts_of (take n items) ++ kepts_of (drop n items)
+kepts_split items n = ap kepts_of (sym (take-append-drop n items)) ∙ map-append kept (take n items) (drop n items)
+
+pub all_front : {X : Type 0} (P : X → Type 0) (front back : List X) → AllByRecursion P (front ++ back) → AllByRecursion P front × AllByRecursion P back
+all_front P [] back h = (tt, h)
+all_front P (x ∷ front) back h = let more = all_front P front back h.1 in ((h.0, more.0), more.1)
+
+pub front_kept : (items : List Built) (n : ℕ) → AllByRecursion IsKept (kepts_of items) → AllByRecursion IsKept (kepts_of (take n items)) × AllByRecursion IsKept (kepts_of (drop n items))
+front_kept items n fit = all_front IsKept (kepts_of (take n items)) (kepts_of (drop n items)) (subst (AllByRecursion IsKept) (kepts_split items n) fit)
+
+-- items of a shared id, and what ends them
+pub run_first : (items : List Built) (first : Built) (id : ℕ) (bytes : List ℕ) (n : ℕ) → 0 < length items → first ≡ get_or items 0 first → kept first ≡ Item id bytes → is_shared id ≡ true → AllByRecursion IsKept (kepts_of items)
+    → AllByRecursion (IsItem id) (kepts_of (take n items)) → EndsRun id (kepts_of (drop n items))
+    → IsRun (kepts_of (take n items)) × (groups_of (entries_of (kepts_of items)) ≡ first_group (kepts_of (take n items)) ∷ groups_of (entries_of (kepts_of (drop n items))))
+run_first [] first id bytes n some here is shared fit alike ends = absurd (omega (arith, some))
+run_first (item ∷ items) first id bytes zero some here is shared fit alike ends = absurd (ends (subst (IsItem id) (sym is ∙ ap kept here) refl))
+run_first (item ∷ items) first id bytes (suc n) some here is shared fit alike ends =
+    let first_is : kept item ≡ Item id bytes = ap kept (sym here) ∙ is in
+    let parts = front_kept (item ∷ items) (suc n) fit in
+    let kept_first : AllByRecursion IsKept (Item id bytes ∷ kepts_of (take n items)) = subst (λ (k : Kept). AllByRecursion IsKept (k ∷ kepts_of (take n items))) first_is parts.0 in
+    let run = run_is id bytes (kepts_of (take n items)) (kepts_of (drop n items)) shared kept_first parts.1 alike.1 ends in
+    let cut : groups_of (entries_of (Item id bytes ∷ kepts_of items)) ≡ first_group (Item id bytes ∷ kepts_of (take n items)) ∷ groups_of (entries_of (kepts_of (drop n items))) =
+    ap (λ (ks : List Kept). groups_of (entries_of (Item id bytes ∷ ks))) (kepts_split items n) ∙ run in
+    let runs : IsRun (Item id bytes ∷ kepts_of (take n items)) = (alike.1, λ apart. absurd (shut (sym shared ∙ apart))) in
+    subst (λ (k : Kept). IsRun (k ∷ kepts_of (take n items)) × (groups_of (entries_of (k ∷ kepts_of items)) ≡ first_group (k ∷ kepts_of (take n items)) ∷ groups_of (entries_of (kepts_of (drop n items))))) (sym first_is) (runs, cut)
+  where
+    shut : true ≡ false → ⊥
+    shut e = cc
+
+-- what shares no section, in front of the others
+pub one_first : (items : List Built) (first : Built) → 0 < length items → first ≡ get_or items 0 first → AllByRecursion IsKept (kepts_of items) → ((id : ℕ) (bytes : List ℕ) → kept first ≡ Item id bytes → is_shared id ≡ false)
+    → groups_of (entries_of (kepts_of items)) ≡ first_group (kepts_of (take 1 items)) ∷ groups_of (entries_of (kepts_of (drop 1 items)))
+one_first [] first some here fit apart = absurd (omega (arith, some))
+one_first (item ∷ items) first some here fit apart = alone_first (kept item) (kepts_of items) fit (λ id bytes e. apart id bytes (ap kept here ∙ e))
+
+-- the items of a run are of the id of the first
+pub run_alike : (items : List Built) (first : Built) (id : ℕ) (bytes : List ℕ) → 0 < length items → first ≡ get_or items 0 first → kept first ≡ Item id bytes → IsRun (kepts_of items) → AllByRecursion (IsItem id) (kepts_of items)
+run_alike [] first id bytes some here is run = absurd (omega (arith, some))
+run_alike (item ∷ items) first id bytes some here is run =
+    let first_is : kept item ≡ Item id bytes = ap kept (sym here) ∙ is in
+    let P : Kept → Type 0 = λ k. IsRun (k ∷ kepts_of items) in
+    subst (λ (k : Kept). AllByRecursion (IsItem id) (k ∷ kepts_of items)) (sym first_is) (refl, (subst P first_is run).0)
+
+-- two items are told by their ids
+pub same_item : (i j : ℕ) (a b : List ℕ) → Item i a ≡ Item j b → i ≡ j
+same_item i j a b e = cc
+
+-- ---- contents
+
+-- the bytes of items of one id are their texts
+texts_are : (id : ℕ) (ks : List Kept) → AllByRecursion IsKept ks → AllByRecursion (IsItem id) ks → flat_map (λ k. item_text (item_of id (kept_bytes k))) ks ≡ flat_map kept_bytes ks
+texts_are id [] fit alike = refl
+texts_are id (Item i bytes ∷ ks) fit alike =
+    ap (λ (t : List ℕ). t ++ flat_map (λ k. item_text (item_of id (kept_bytes k))) ks) (ap (λ n. item_text (item_of n bytes)) (sym alike.0) ∙ fit.0.text) ∙ ap (λ (t : List ℕ). bytes ++ t) (texts_are id ks fit.1 alike.1)
+texts_are id (Whole i content ∷ ks) fit alike = absurd alike.0
+
+pub shared_content : (id : ℕ) (ks : List Kept) → is_plain id ≡ false → AllByRecursion IsKept ks → AllByRecursion (IsItem id) ks → content_text (shared_group id ks) ≡ number_text (length ks) ++ flat_map kept_bytes ks
+shared_content id ks vector fit alike =
+    rw vector (vector_text-map item_text (λ k. item_of id (kept_bytes k)) ks) ∙ ap (λ (t : List ℕ). number_text (length ks) ++ t) (texts_are id ks fit alike)
+
+-- an item that is no vector
+pub plain_content : (id : ℕ) (bytes : List ℕ) → is_plain id ≡ true → IsKept (Item id bytes) → content_text (shared_group id (Item id bytes ∷ [])) ≡ bytes
+plain_content id bytes plain fit = rw plain (append-nil (item_text (item_of id bytes)) ∙ fit.text)
+
+-- a section's items can be counted
+pub whole_counted : (id : ℕ) (content : List ℕ) → IsKept (Whole id content) → length (first_group (Whole id content ∷ [])).items < 2 ^ 32
+whole_counted id content fit = subst (λ (items : List ItemTree). length items < 2 ^ 32) fit.items_are (items_counted fit.section content fit.form)
+
+-- ---- runs
+
+-- one item more of a run
+pub alike_push : (id : ℕ) (items : List Built) (item : Built) → AllByRecursion (IsItem id) (kepts_of items) → IsItem id (kept item) → AllByRecursion (IsItem id) (kepts_of (items ++ item ∷ []))
+alike_push id [] item h here = (here, tt)
+alike_push id (x ∷ items) item h here = (h.0, alike_push id items item h.1 here)
+
+-- the bytes of one item more
+pub bytes_push : (items : List Built) (item : Built) → flat_map kept_bytes (kepts_of (items ++ item ∷ [])) ≡ flat_map kept_bytes (kepts_of items) ++ kept_bytes (kept item)
+bytes_push [] item = append-nil (kept_bytes (kept item))
+bytes_push (x ∷ items) item = ap (λ (t : List ℕ). kept_bytes (kept x) ++ t) (bytes_push items item) ∙ sym (append_assoc (kept_bytes (kept x)) (flat_map kept_bytes (kepts_of items)) (kept_bytes (kept item)))

@@ -1,9 +1,10 @@
-pub mod NumberLaws
-pub mod VectorLaws
-pub mod TypeLaws
-pub mod ItemLaws
-pub mod SectionLaws
-pub mod FinishLaws
-pub mod GroupLaws
 pub mod WriteLaws
+pub mod LargestLaws
+pub mod TypeLaws
+pub mod DeclLaws
 pub mod WritingLaws
+pub mod GroupLaws
+pub mod KeepLaws
+pub mod RawLaws
+pub mod CountLaws
+pub mod FinishLaws

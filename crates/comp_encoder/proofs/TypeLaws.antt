@@ -1,146 +1,129 @@
--- Types: what is read is a form, and each form is read so.
-use Rattle.std.proofs.Common.{◌≡◌, ℕ, ◌<◌, false, eqb, List, [], ◌∷◌, ◌++◌, length, Option, Some, None, Ok, refl, ap, subst, ◌∙◌, arith}
-use Rattle.std.proofs.lemmas.Bool.{eqb-false, ne_eqb}
-use Rattle.warg_base.proofs.ReadingLaws.{bind_ok, ok_is, guard_ok, pick}
-use Rattle.comp_encoder.specs.declared.types.Primitive.{Primitive}
-use Rattle.comp_encoder.specs.declared.types.Primitive.TheVariants as primitive
-use Rattle.comp_encoder.specs.declared.types.ValType.{ValType}
-use Rattle.comp_encoder.specs.declared.types.ValType.TheVariants as value
-use Rattle.comp_encoder.specs.declared.types.DefinedType.{DefinedType}
-use Rattle.comp_encoder.specs.declared.types.DefinedType.TheVariants as defined
-use Rattle.comp_encoder.specs.declared.types.DefType.{DefType}
-use Rattle.comp_encoder.specs.declared.types.DefType.TheVariants as definition
-use Rattle.comp_encoder.specs.Fault.{Form}
-use Rattle.comp_encoder.specs.Types.{PrimitiveForm, ValForm, DefinedForm, DefForm, primitive_code, primitive_of, or_fault, primitive_at, value_at, tuple_at, defined_at, definition_at, value_text, defined_text, definition_text}
-use Rattle.std.specs.List.{AllByRecursion}
-use Rattle.comp_encoder.specs.Fits.{FitsDefined, FitsDefinition}
-use Rattle.comp_encoder.specs.Vectors.{vector_at, vector_text}
-use Rattle.comp_encoder.proofs.VectorLaws.{IsSound, IsComplete, vector_form, vector_again, vector_written}
+-- Types that have a form, whose texts are UTF-8 and whose largest number is small, have a written form.
+use Rattle.std.proofs.Common.{◌≡◌, ℕ, ◌<◌, ◌≤◌, ◌^◌, Bool, List, [], ◌∷◌, length, map, Option, All, arith}
+use Rattle.std.specs.Str.{IsUtf8}
+use Rattle.std.proofs.lemmas.List.{length-map, get_or-map}
+use Rattle.comp_types.specs.declared.core_types.Limits.{Limits}
+use Rattle.comp_types.specs.declared.core_types.CoreDesc.{CoreDesc}
+use Rattle.comp_types.specs.declared.core_types.CoreDesc.TheVariants as core_item
+use Rattle.comp_types.specs.declared.types.ValType.{ValType}
+use Rattle.comp_types.specs.declared.types.ValType.TheVariants as value
+use Rattle.comp_types.specs.declared.types.DefinedType.{DefinedType}
+use Rattle.comp_types.specs.declared.types.DefinedType.TheVariants as defined
+use Rattle.comp_types.specs.declared.types.FuncType.{FuncType}
+use Rattle.comp_types.specs.declared.types.Alias.{Alias}
+use Rattle.comp_types.specs.declared.types.Alias.TheVariants as alias
+use Rattle.comp_types.specs.Types.{label_of}
+use Rattle.comp_types.specs.CoreTypes as core
+use Rattle.comp_types.specs.CoreTypes.{CoreTree, ModuleDeclTree, ModuleDecls}
+use Rattle.comp_types.specs.Definitions as tree
+use Rattle.comp_types.specs.Definitions.{TypeTree, DeclTree, Decls}
+use Rattle.comp_types.specs.Fits.{FitsName, FitsVal, FitsField, FitsCase, FitsLabelled, FitsDefined, FitsFunc, FitsAlias, FitsLimits, FitsCoreDesc, FitsCore, FitsModuleDecl, FitsModule, FitsDefinition, FitsDecl, FitsDecls}
+use Rattle.comp_types.specs.Forms.{AreLabels, IsDefined, IsFunc, IsAlias, IsCoreDesc, IsCore, IsModuleDecl, AreModuleDecls, IsDefinition, IsDecl, AreDecls}
+use Rattle.comp_encoder.specs.Largest.{vector_largest, alias_largest, value_largest, field_largest, case_largest, defined_largest, func_largest, limits_largest, core_desc_largest, core_largest, module_decl_largest, module_largest, definition_largest, decl_largest, decls_largest}
+use Rattle.comp_encoder.specs.Texts.{HasText, TextsOfDefined, TextsOfFunc, TextsOfAlias, TextsOfCore, TextsOfModuleDecl, TextsOfModule, TextsOfType, TextsOfDecl, TextsOfDecls}
+use Rattle.comp_encoder.proofs.LargestLaws.{each_fits, optional_fits, description_fits}
 
--- a byte that an option reads
-pub or_fault_ok : {X : Type 0} (o : Option X) (rest : List ℕ) (x : X × List ℕ) → or_fault o rest ≡ Ok x → (o ≡ Some x.0) × (rest ≡ x.1)
-or_fault_ok None rest x e = absurd cc
-or_fault_ok (Some y) rest x e = let same = ok_is (y, rest) x e in (ap (λ (p : _ × List ℕ). Some p.0) same, ap (λ (p : _ × List ℕ). p.1) same)
+value_fits : (t : ValType) → value_largest t < 2 ^ 32 → FitsVal t
+value_fits (value.Primitive p) small = tt
+value_fits (value.Index i) small = small
 
-some_is : {X : Type 0} (x y : X) → Some x ≡ Some y → x ≡ y
-some_is x y e = cc
+-- a name, where it is a text and short
+name_fits : (name : List ℕ) → 0 < length name → IsUtf8 name → length name < 2 ^ 32 → FitsName name
+name_fits name named text short = record { is_text = text; not_empty = named; short = short }
 
-pub primitive_sound : (b : ℕ) (p : Primitive) → primitive_of b ≡ Some p → b ≡ primitive_code p
-primitive_sound b p e =
-    pick b 0x7f _ _ _ e (λ h k. h ∙ ap primitive_code (some_is primitive.Bool p k)) (λ e.
-    pick b 0x7e _ _ _ e (λ h k. h ∙ ap primitive_code (some_is primitive.S8 p k)) (λ e.
-    pick b 0x7d _ _ _ e (λ h k. h ∙ ap primitive_code (some_is primitive.U8 p k)) (λ e.
-    pick b 0x7c _ _ _ e (λ h k. h ∙ ap primitive_code (some_is primitive.S16 p k)) (λ e.
-    pick b 0x7b _ _ _ e (λ h k. h ∙ ap primitive_code (some_is primitive.U16 p k)) (λ e.
-    pick b 0x7a _ _ _ e (λ h k. h ∙ ap primitive_code (some_is primitive.S32 p k)) (λ e.
-    pick b 0x79 _ _ _ e (λ h k. h ∙ ap primitive_code (some_is primitive.U32 p k)) (λ e.
-    pick b 0x78 _ _ _ e (λ h k. h ∙ ap primitive_code (some_is primitive.S64 p k)) (λ e.
-    pick b 0x77 _ _ _ e (λ h k. h ∙ ap primitive_code (some_is primitive.U64 p k)) (λ e.
-    pick b 0x76 _ _ _ e (λ h k. h ∙ ap primitive_code (some_is primitive.F32 p k)) (λ e.
-    pick b 0x75 _ _ _ e (λ h k. h ∙ ap primitive_code (some_is primitive.F64 p k)) (λ e.
-    pick b 0x74 _ _ _ e (λ h k. h ∙ ap primitive_code (some_is primitive.Char p k)) (λ e.
-    pick b 0x73 _ _ _ e (λ h k. h ∙ ap primitive_code (some_is primitive.Text p k)) (λ e. absurd cc)))))))))))))
+-- values under labels
+module _ {X : Type 0} (label : X → List ℕ) (one : X → ℕ) (Fits : X → Type 0) (fits : (x : X) → FitsName (label x) → one x < 2 ^ 32 → Fits x) (labelled : (x : X) → length (label x) ≤ one x) where
+  labels_fit : (xs : List X) → AreLabels (map label xs) → All (λ x. IsUtf8 (label x)) xs → vector_largest one xs < 2 ^ 32 → FitsLabelled label Fits xs
+  labels_fit xs are texts small = record {
+    differ = are.differ;
+    short = omega (arith, small);
+    each =
+        each_fits one (λ x. (0 < length (label x)) × IsUtf8 (label x)) Fits
+        (λ x h le. fits x (name_fits (label x) h.0 h.1 (omega (arith, labelled x, le))) le) xs
+        (λ k d lt. (rw (← get_or-map label xs k d (label d) lt) (are.named k (label d) (omega (arith, length-map xs label, lt))), texts k d lt)) (omega (arith, small));
+  }
 
-pub primitive_complete : (p : Primitive) → primitive_of (primitive_code p) ≡ Some p
-primitive_complete primitive.Bool = refl
-primitive_complete primitive.S8 = refl
-primitive_complete primitive.U8 = refl
-primitive_complete primitive.S16 = refl
-primitive_complete primitive.U16 = refl
-primitive_complete primitive.S32 = refl
-primitive_complete primitive.U32 = refl
-primitive_complete primitive.S64 = refl
-primitive_complete primitive.U64 = refl
-primitive_complete primitive.F32 = refl
-primitive_complete primitive.F64 = refl
-primitive_complete primitive.Char = refl
-primitive_complete primitive.Text = refl
+fields_fit : (fields : List (List ℕ × ValType)) → AreLabels (map label_of fields) → All HasText fields → vector_largest field_largest fields < 2 ^ 32 → FitsLabelled label_of FitsField fields
+fields_fit = labels_fit label_of field_largest FitsField (λ f name le. (name, value_fits f.1 (omega (arith, le)))) (λ f. omega arith)
 
-pub primitive_form : IsSound primitive_at PrimitiveForm
-unfolding primitive_at
-primitive_form [] x e = absurd cc
-primitive_form (b ∷ rest) x e =
-    let known = or_fault_ok (primitive_of b) rest x e in
-    ap (λ (c : ℕ). c ∷ rest) (primitive_sound b x.0 known.0) ∙ ap (λ (r : List ℕ). primitive_code x.0 ∷ r) known.1
+cases_fit : (cases : List (List ℕ × Option ValType)) → AreLabels (map label_of cases) → All HasText cases → vector_largest case_largest cases < 2 ^ 32 → FitsLabelled label_of FitsCase cases
+cases_fit = labels_fit label_of case_largest FitsCase (λ a_case name le. (name, optional_fits value_largest FitsVal value_fits a_case.1 (omega (arith, le)))) (λ a_case. omega arith)
 
-pub primitive_again : IsComplete primitive_at PrimitiveForm
-unfolding primitive_at
-primitive_again p bytes rest h = rw (h, primitive_complete p) refl
+map_same : (labels : List (List ℕ)) → map (λ label. label) labels ≡ labels
+map_same [] = λ i. []
+map_same (label ∷ labels) = λ i. label ∷ map_same labels i
 
-pub value_form : IsSound value_at ValForm
-unfolding value_at
-value_form bytes x e =
-    let p = bind_ok (primitive_at bytes) _ x e in
-    subst (λ (y : ValType × List ℕ). ValForm y.0 bytes y.1) (ok_is (value.Primitive p.0.0, p.0.1) x p.2) (primitive_form bytes p.0 p.1)
+names_fit : (labels : List (List ℕ)) → AreLabels labels → All IsUtf8 labels → vector_largest length labels < 2 ^ 32 → FitsLabelled (λ label. label) FitsName labels
+names_fit labels are texts small = labels_fit (λ label. label) length FitsName (λ label name le. name) (λ label. omega arith) labels (rw map_same are) texts small
 
-pub value_again : IsComplete value_at ValForm
-unfolding value_at
-value_again (value.Primitive p) bytes rest h = rw (primitive_again p bytes rest h) refl
+pub defined_fits : (d : DefinedType) → IsDefined d → TextsOfDefined d → defined_largest d < 2 ^ 32 → FitsDefined d
+defined_fits (defined.Primitive p) is texts small = tt
+defined_fits (defined.RecordOf fields) is texts small = (is.0, fields_fit fields is.1 texts small)
+defined_fits (defined.VariantOf cases) is texts small = (is.0, cases_fit cases is.1 texts small)
+defined_fits (defined.ListOf t) is texts small = value_fits t small
+defined_fits (defined.TupleOf parts) is texts small = (is, omega (arith, small), each_fits value_largest (λ t. Unit {0}) FitsVal (λ t h le. value_fits t le) parts (λ k d lt. tt) (omega (arith, small)))
+defined_fits (defined.FlagsOf labels) is texts small = (is.0, is.1, names_fit labels is.2 texts small)
+defined_fits (defined.EnumOf labels) is texts small = (is.0, names_fit labels is.1 texts small)
+defined_fits (defined.OptionOf t) is texts small = value_fits t small
+defined_fits (defined.ResultOf ok err) is texts small = (optional_fits value_largest FitsVal value_fits ok (omega (arith, small)), optional_fits value_largest FitsVal value_fits err (omega (arith, small)))
+defined_fits (defined.Own i) is texts small = small
+defined_fits (defined.Borrow i) is texts small = small
 
-pub defined_form : IsSound defined_at DefinedForm
-unfolding defined_at tuple_at
-defined_form [] x e = absurd cc
-defined_form (b ∷ rest) x e =
-    pick b 0x6f _ _ _ e
-    (λ is_tuple k.
-    let parts = bind_ok (vector_at value_at rest) _ x k in
-    let some = guard_ok (eqb (length parts.0.0) 0) Form _ x parts.2 in
-    let not_zero = eqb-false (length parts.0.0) 0 some.0 in
-    let at_least : 0 < length parts.0.0 = omega (arith, not_zero) in
-    subst (λ (y : DefinedType × List ℕ). DefinedForm y.0 (b ∷ rest) y.1) (ok_is (defined.TupleOf parts.0.0, parts.0.1) x some.1)
-    (at_least, (rest, ap (λ (c : ℕ). c ∷ rest) is_tuple, vector_form value_at ValForm value_form rest parts.0 parts.1)))
-    (λ k.
-    let p = bind_ok (primitive_at (b ∷ rest)) _ x k in
-    subst (λ (y : DefinedType × List ℕ). DefinedForm y.0 (b ∷ rest) y.1) (ok_is (defined.Primitive p.0.0, p.0.1) x p.2) (primitive_form (b ∷ rest) p.0 p.1))
+pub func_fits : (f : FuncType) → IsFunc f → TextsOfFunc f → func_largest f < 2 ^ 32 → FitsFunc f
+func_fits f is texts small = record {
+  params = fields_fit f.params is texts (omega (arith, small));
+  result = optional_fits value_largest FitsVal value_fits f.result (omega (arith, small));
+}
 
--- no primitive's byte is that of a tuple
-no_tuple : (p : Primitive) → eqb (primitive_code p) 0x6f ≡ false
-no_tuple primitive.Bool = refl
-no_tuple primitive.S8 = refl
-no_tuple primitive.U8 = refl
-no_tuple primitive.S16 = refl
-no_tuple primitive.U16 = refl
-no_tuple primitive.S32 = refl
-no_tuple primitive.U32 = refl
-no_tuple primitive.S64 = refl
-no_tuple primitive.U64 = refl
-no_tuple primitive.F32 = refl
-no_tuple primitive.F64 = refl
-no_tuple primitive.Char = refl
-no_tuple primitive.Text = refl
+alias_fits : (a : Alias) → IsAlias a → TextsOfAlias a → alias_largest a < 2 ^ 32 → FitsAlias a
+alias_fits (alias.Export kind from name) is texts small = (omega (arith, small), name_fits name is texts (omega (arith, small)))
+alias_fits (alias.CoreExport kind from name) is texts small = (omega (arith, small), record { is_text = texts; short = omega (arith, small) })
+alias_fits (alias.Outer kind count index) is texts small = (is, omega (arith, small), omega (arith, small))
 
-defined_primitive : (p : Primitive) (rest : List ℕ) → defined_at (primitive_code p ∷ rest) ≡ Ok (defined.Primitive p, rest)
-unfolding defined_at
-defined_primitive p rest = rw (no_tuple p, primitive_again p (primitive_code p ∷ rest) rest refl) refl
+limits_fit : (l : Limits) → limits_largest l < 2 ^ 32 → FitsLimits l
+limits_fit l small = record { min = omega (arith, small); max = optional_fits (λ n. n) (λ n. n < 2 ^ 32) (λ n le. le) l.max (omega (arith, small)) }
 
-pub defined_again : IsComplete defined_at DefinedForm
-unfolding defined_at tuple_at
-defined_again (defined.Primitive p) bytes rest h = ap defined_at h ∙ defined_primitive p rest
-defined_again (defined.TupleOf parts) bytes rest h =
-    let some : eqb (length parts) 0 ≡ false = ne_eqb (length parts) 0 (omega (arith, h.0)) in
-    rw (h.1.1, vector_again value_at ValForm value_again parts h.1.0 rest h.1.2, some) refl
+core_desc_fits : (d : CoreDesc) → IsCoreDesc d → core_desc_largest d < 2 ^ 32 → FitsCoreDesc d
+core_desc_fits (core_item.Func i) is small = small
+core_desc_fits (core_item.Table element limits) is small = (is, limits_fit limits small)
+core_desc_fits (core_item.Memory limits) is small = limits_fit limits small
+core_desc_fits (core_item.Global v is_mutable) is small = tt
 
-pub definition_form : IsSound definition_at DefForm
-unfolding definition_at
-definition_form bytes x e =
-    let d = bind_ok (defined_at bytes) _ x e in
-    subst (λ (y : DefType × List ℕ). DefForm y.0 bytes y.1) (ok_is (definition.Defined d.0.0, d.0.1) x d.2) (defined_form bytes d.0 d.1)
+mutual
+  unfolding core_largest module_decl_largest module_largest TextsOfCore TextsOfModuleDecl TextsOfModule
 
-pub definition_again : IsComplete definition_at DefForm
-unfolding definition_at
-definition_again (definition.Defined d) bytes rest h = rw (defined_again d bytes rest h) refl
+  pub core_fits : (t : CoreTree) → IsCore t → TextsOfCore t → core_largest t < 2 ^ 32 → FitsCore t
+  core_fits (core.Func params results) is texts small = (omega (arith, small), omega (arith, small))
+  core_fits (core.Module ds) is texts small = (omega (arith, small), module_fits ds is texts (omega (arith, small)))
 
-value_written : (v : ValType) (rest : List ℕ) → Unit {0} → ValForm v (value_text v ++ rest) rest
-value_written (value.Primitive p) rest fits = refl
+  module_decl_fits : (d : ModuleDeclTree) → IsModuleDecl d → TextsOfModuleDecl d → module_decl_largest d < 2 ^ 32 → FitsModuleDecl d
+  module_decl_fits (core.Import m name item) is texts small =
+      (record { is_text = texts.0; short = omega (arith, small) }, record { is_text = texts.1; short = omega (arith, small) }, core_desc_fits item is (omega (arith, small)))
+  module_decl_fits (core.CoreTy t) is texts small = core_fits t is texts small
+  module_decl_fits (core.OuterAlias count index) is texts small = (omega (arith, small), omega (arith, small))
+  module_decl_fits (core.Export name item) is texts small = (record { is_text = texts; short = omega (arith, small) }, core_desc_fits item is (omega (arith, small)))
 
-all_fit : {X : Type 0} (xs : List X) → AllByRecursion (λ (x : X). Unit {0}) xs
-all_fit [] = tt
-all_fit (x ∷ xs) = (tt, all_fit xs)
+  module_fits : (ds : ModuleDecls) → AreModuleDecls ds → TextsOfModule ds → module_largest ds < 2 ^ 32 → FitsModule ds
+  module_fits core.none is texts small = tt
+  module_fits (core.more d ds) is texts small = (module_decl_fits d is.0 texts.0 (omega (arith, small)), module_fits ds is.1 texts.1 (omega (arith, small)))
 
-defined_written : (d : DefinedType) (rest : List ℕ) → FitsDefined d → DefinedForm d (defined_text d ++ rest) rest
-defined_written (defined.Primitive p) rest fits = refl
-defined_written (defined.TupleOf parts) rest fits =
-    (fits.0, (vector_text value_text parts ++ rest, refl, vector_written value_at ValForm value_text (λ _. Unit {0}) value_written parts rest fits.1 (all_fit parts)))
+mutual
+  unfolding definition_largest decl_largest decls_largest TextsOfType TextsOfDecl TextsOfDecls
 
-pub definition_written : (d : DefType) (rest : List ℕ) → FitsDefinition d → DefForm d (definition_text d ++ rest) rest
-definition_written (definition.Defined d) rest fits = defined_written d rest fits
+  pub definition_fits : (t : TypeTree) → IsDefinition t → TextsOfType t → definition_largest t < 2 ^ 32 → FitsDefinition t
+  definition_fits (tree.Defined d) is texts small = defined_fits d is texts small
+  definition_fits (tree.Func f) is texts small = func_fits f is texts small
+  definition_fits (tree.Component ds) is texts small = (omega (arith, small), decls_fit ds _ is texts (omega (arith, small)))
+  definition_fits (tree.Instance ds) is texts small = (omega (arith, small), decls_fit ds _ is texts (omega (arith, small)))
+  definition_fits (tree.Resource destructor) is texts small = optional_fits (λ n. n) (λ n. n < 2 ^ 32) (λ n le. le) destructor small
+
+  decl_fits : (d : DeclTree) (imports : Bool) → IsDecl imports d → TextsOfDecl d → decl_largest d < 2 ^ 32 → FitsDecl imports d
+  decl_fits (tree.CoreTy t) imports is texts small = core_fits t is texts small
+  decl_fits (tree.Ty t) imports is texts small = (is.0, definition_fits t is.1 texts small)
+  decl_fits (tree.Aliased a) imports is texts small = (is.0, alias_fits a is.1 texts small)
+  decl_fits (tree.Import name ty) imports is texts small = (is.0, name_fits name is.1 texts (omega (arith, small)), description_fits ty (omega (arith, small)))
+  decl_fits (tree.Export name ty) imports is texts small = (name_fits name is texts (omega (arith, small)), description_fits ty (omega (arith, small)))
+
+  decls_fit : (ds : Decls) (imports : Bool) → AreDecls imports ds → TextsOfDecls ds → decls_largest ds < 2 ^ 32 → FitsDecls imports ds
+  decls_fit tree.none imports is texts small = tt
+  decls_fit (tree.more d ds) imports is texts small = (decl_fits d imports is.0 texts.0 (omega (arith, small)), decls_fit ds imports is.1 texts.1 (omega (arith, small)))

@@ -1,41 +1,118 @@
--- What the builder keeps: items, and how many each index space numbers.
-use Rattle.std.specs.Prelude.{◌≡◌, ℕ, List, [], ◌∷◌, map, slice_index}
+-- What the builder keeps: each item as its bytes, and how many items each index space numbers.
+use Rattle.std.specs.Prelude.{◌≡◌, ℕ, ◌<◌, ◌^◌, false, List, [], ◌∷◌, length, map, slice_index, Result, Ok, Err, Some, None, ◌==◌, if◌then◌else◌}
 use Rattle.std.specs.List.{AllByRecursion}
-use Rattle.comp_encoder.specs.declared.built.BuiltExport.{BuiltExport}
-use Rattle.comp_encoder.specs.declared.built.BuiltItem.{BuiltItem}
-use Rattle.comp_encoder.specs.declared.built.BuiltItem.TheVariants as built
-use Rattle.comp_encoder.specs.declared.types.Sort.{Sort}
-use Rattle.comp_encoder.specs.Items.{ExportTree, ItemTree, Component, Instance, Aliased, Export}
-use Rattle.comp_encoder.specs.Fits.{FitsItem}
-use Rattle.comp_encoder.specs.Writing.{Group, item_id, next_index, space_of}
+use Rattle.comp_encoder.specs.declared.built.Built.{Built}
+use Rattle.comp_encoder.specs.declared.built.Built.TheVariants as built
+use Rattle.comp_types.specs.declared.types.Sort.{Sort}
+use Rattle.comp_types.specs.Fault.{Fault}
+use Rattle.comp_types.specs.CoreTypes.{core_at}
+use Rattle.comp_types.specs.Definitions.{definition_at}
+use Rattle.comp_types.specs.Parts.{instance_at, alias_at}
+use Rattle.comp_types.specs.Items.{ItemTree, Custom, CoreTy, Component, Instance, Aliased, Ty, Import, Export, import_at, export_at}
+use Rattle.comp_types.specs.Sections.{Section, ContentForm, section_id, section_items, content_at}
+use Rattle.comp_types.specs.Fits.{FitsItem}
+use Rattle.comp_types.specs.Spaces.{space_of}
+use Rattle.comp_encoder.specs.Writing.{Entry, Single, RawSection, Group, item_id, item_text, is_shared, next_index}
 
-abbrev pub export_tree : BuiltExport → ExportTree
-export_tree e = record { name = e.name; sort = e.sort; index = e.index; ty = e.ty }
+-- what was added, as its bytes: an item with the id of its section, or a section
+pub data Kept : Type 0 where
+  Item : ℕ → List ℕ → Kept
+  Whole : ℕ → List ℕ → Kept
 
-abbrev pub built_tree : BuiltItem → ItemTree
-built_tree (built.Component bytes) = Component bytes
-built_tree (built.Instance item) = Instance item
-built_tree (built.Alias item) = Aliased item
-built_tree (built.Export item) = Export (export_tree item)
+abbrev pub kept : Built → Kept
+kept (built.Item id bytes) = Item id bytes.items
+kept (built.Section id content) = Whole id content.items
 
--- the items in call order
-abbrev pub built_items : List BuiltItem → List ItemTree
-built_items items = map built_tree items
+abbrev pub kepts_of : List Built → List Kept
+kepts_of items = map kept items
 
--- each item has a written form, and each index space is counted
-pub record IsBuilt (items : List BuiltItem) (counts : List ℕ) : Type 0 where
-  pub fit : AllByRecursion FitsItem (built_items items)
-  pub counted : (kind : Sort) → slice_index counts (space_of kind) ≡ next_index kind (built_items items)
+-- the item that was read
+abbrev pub read_as : {X : Type 0} → (X → ItemTree) → Result (X × List ℕ) Fault → ItemTree
+read_as item (Ok x) = item x.0
+read_as item (Err fault) = Custom [] []
 
--- a nested component as a group
-abbrev pub nested_group : List ℕ → Group
-nested_group bytes = record { id = 4; items = Component bytes ∷ [] }
+-- the item of these bytes, in a section of this id
+unfoldable pub item_of : ℕ → List ℕ → ItemTree
+item_of id bytes =
+    if id == 3 then read_as CoreTy (core_at (length bytes) bytes)
+    else if id == 4 then Component bytes
+    else if id == 5 then read_as Instance (instance_at bytes)
+    else if id == 6 then read_as Aliased (alias_at bytes)
+    else if id == 7 then read_as Ty (definition_at (length bytes) bytes)
+    else if id == 10 then read_as Import (import_at bytes)
+    else if id == 11 then read_as Export (export_at bytes)
+    else Custom [] []
+
+-- the items of a section that was read
+abbrev pub items_read : Result Section Fault → List ItemTree
+items_read (Ok s) = section_items s
+items_read (Err fault) = []
+
+-- what was added
+unfoldable pub entry_of : Kept → Entry
+entry_of (Item id bytes) = Single (item_of id bytes)
+entry_of (Whole id content) = RawSection id content (items_read (content_at (length content) id content))
+
+-- what was added, in order
+unfoldable pub entries_of : List Kept → List Entry
+entries_of kepts = map entry_of kepts
+
+-- these are an item's bytes, and read as it
+pub record IsBytesOf (item : ItemTree) (id : ℕ) (bytes : List ℕ) : Type 0 where
+  pub is : item_of id bytes ≡ item
+  pub id_is : item_id item ≡ id
+  pub text : item_text item ≡ bytes
+  pub fits : FitsItem item
+
+-- this is the content of a section of this id, and holds these items
+pub record IsContentOf (items : List ItemTree) (id : ℕ) (content : List ℕ) : Type 0 where
+  pub section : Section
+  pub id_is : section_id section ≡ id
+  pub items_are : section_items section ≡ items
+  pub form : ContentForm section content
+
+-- this is the content of a section of this id
+abbrev pub IsContent : ℕ → List ℕ → Type 0
+IsContent id content = (items : List ItemTree) × IsContentOf items id content
+
+-- an item as its bytes, or a section as its content
+abbrev pub IsKept : Kept → Type 0
+IsKept (Item id bytes) = IsBytesOf (item_of id bytes) id bytes
+IsKept (Whole id content) = IsContentOf (items_read (content_at (length content) id content)) id content
+
+-- each index space is counted
+pub record IsBuilt (kepts : List Kept) (counts : List ℕ) : Type 0 where
+  pub fit : AllByRecursion IsKept kepts
+  pub counted : (kind : Sort) → slice_index counts (space_of kind) ≡ next_index kind (entries_of kepts)
+  pub small : (kind : Sort) → slice_index counts (space_of kind) < 2 ^ 32
+
+-- the bytes that stand in a section
+abbrev pub kept_bytes : Kept → List ℕ
+kept_bytes (Item id bytes) = bytes
+kept_bytes (Whole id content) = content
 
 -- items that share a section of this id
-abbrev pub shared_group : ℕ → List BuiltItem → Group
-shared_group id items = record { id = id; items = built_items items }
+abbrev pub shared_group : ℕ → List Kept → Group
+shared_group id kepts = record { id = id; items = map (λ k. item_of id (kept_bytes k)) kepts; raw = None }
 
--- items that share the section of the first one
-abbrev pub first_group : List BuiltItem → Group
+-- the section of what stands first
+abbrev pub first_group : List Kept → Group
 first_group [] = shared_group 0 []
-first_group (item ∷ items) = shared_group (item_id (built_tree item)) (item ∷ items)
+first_group (Item id bytes ∷ kepts) = shared_group id (Item id bytes ∷ kepts)
+first_group (Whole id content ∷ kepts) = record { id = id; items = items_read (content_at (length content) id content); raw = Some content }
+
+-- an item of this id
+abbrev pub IsItem : ℕ → Kept → Type 0
+IsItem id (Item i bytes) = i ≡ id
+IsItem id (Whole i content) = ⊥
+
+-- No item of this id stands first.
+abbrev pub EndsRun : ℕ → List Kept → Type 0
+EndsRun id [] = Unit {0}
+EndsRun id (k ∷ kepts) = ¬ IsItem id k
+
+-- all of these stand in one section
+abbrev pub IsRun : List Kept → Type 0
+IsRun [] = ⊥
+IsRun (Item id bytes ∷ kepts) = AllByRecursion (IsItem id) kepts × (is_shared id ≡ false → kepts ≡ [])
+IsRun (Whole id content ∷ kepts) = kepts ≡ []

@@ -1,9 +1,4 @@
-pub mod Fault
-pub mod Numbers
-pub mod Vectors
-pub mod Types
-pub mod Items
-pub mod Sections
-pub mod Fits
+pub mod Largest
+pub mod Texts
 pub mod Writing
 pub mod Builder

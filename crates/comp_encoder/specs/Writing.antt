@@ -1,62 +1,113 @@
--- The bytes that the builder writes for items: each length, count and index in its shortest spelling, and neighbouring
--- items of one kind in one section, but for nested components, each of which has its own.
-use Rattle.std.specs.Prelude.{◌≡◌, ℕ, ◌<◌, ◌^◌, List, [], ◌∷◌, ◌++◌, length, ◌==◌, ◌&&◌, ◌⊎◌, ◌≤◌, not, if◌then◌else◌, count_by, Contains}
+-- The bytes that the builder writes: each length, count and index in its shortest spelling, and neighbouring items of one
+-- kind in one section. Core types, instances, aliases, types, imports and exports share a section; every other item has
+-- its own, as has a section that was given as its bytes.
+use Rattle.std.specs.Prelude.{◌≡◌, ℕ, ◌<◌, ◌^◌, Bool, false, List, [], ◌∷◌, ◌++◌, length, Option, Some, None, is_none, unwrap_or, ◌==◌, ◌&&◌, ◌||◌, ◌⊎◌, ◌≤◌, if◌then◌else◌, count_by, Contains}
 use Rattle.std.specs.List.{flat_map}
-use Rattle.comp_encoder.specs.declared.types.CoreSort.{CoreSort}
-use Rattle.comp_encoder.specs.declared.types.CoreSort.TheVariants as core
-use Rattle.comp_encoder.specs.declared.types.Sort.{Sort}
-use Rattle.comp_encoder.specs.declared.types.Sort.TheVariants as sort
-use Rattle.comp_encoder.specs.declared.types.Alias.TheVariants as alias
-use Rattle.comp_encoder.specs.Numbers.{number_text}
-use Rattle.comp_encoder.specs.Vectors.{vector_text}
-use Rattle.comp_encoder.specs.Types.{definition_text}
-use Rattle.comp_encoder.specs.Items.{ItemTree, Component, Instance, Aliased, Ty, Export, instance_text, alias_text, export_text}
-use Rattle.comp_encoder.specs.Sections.{header}
+use Rattle.comp_types.specs.declared.types.CoreSort.TheVariants as core
+use Rattle.comp_types.specs.declared.types.Sort.{Sort}
+use Rattle.comp_types.specs.declared.types.Sort.TheVariants as sort
+use Rattle.comp_types.specs.declared.types.TypeRef.{TypeRef}
+use Rattle.comp_types.specs.declared.types.TypeRef.TheVariants as description
+use Rattle.comp_types.specs.declared.types.Alias.{Alias}
+use Rattle.comp_types.specs.declared.types.Alias.TheVariants as alias
+use Rattle.comp_types.specs.declared.types.Canon.{Canon}
+use Rattle.comp_types.specs.declared.types.Canon.TheVariants as canon
+use Rattle.comp_types.specs.Spaces.{space_of}
+use Rattle.comp_types.specs.Numbers.{number_text}
+use Rattle.comp_types.specs.Vectors.{vector_text, name_text}
+use Rattle.comp_types.specs.CoreTypes.{core_text}
+use Rattle.comp_types.specs.Definitions.{definition_text}
+use Rattle.comp_types.specs.Canons.{canon_text}
+use Rattle.comp_types.specs.Parts.{core_instance_text, instance_text, alias_text}
+use Rattle.comp_types.specs.Items.{ItemTree, Custom, CoreModule, CoreMade, CoreTy, Component, Instance, Aliased, Ty, Canonical, Import, Export, import_text, export_text}
+use Rattle.comp_types.specs.Sections.{header}
+
+-- what is added to a component: an item, or a section as its id and content, with the items that it holds
+pub data Entry : Type 0 where
+  Single : ItemTree → Entry
+  RawSection : ℕ → List ℕ → List ItemTree → Entry
+
+-- the items, in order
+abbrev pub items_of : List Entry → List ItemTree
+items_of [] = []
+items_of (Single item ∷ entries) = item ∷ items_of entries
+items_of (RawSection id content items ∷ entries) = items ++ items_of entries
 
 -- the id of the section that holds an item
 abbrev pub item_id : ItemTree → ℕ
+item_id (Custom name bytes) = 0
+item_id (CoreModule bytes) = 1
+item_id (CoreMade item) = 2
+item_id (CoreTy item) = 3
 item_id (Component bytes) = 4
 item_id (Instance item) = 5
 item_id (Aliased item) = 6
 item_id (Ty item) = 7
+item_id (Canonical item) = 8
+item_id (Import item) = 10
 item_id (Export item) = 11
 
 abbrev pub item_text : ItemTree → List ℕ
+item_text (Custom name bytes) = name_text name ++ bytes
+item_text (CoreModule bytes) = bytes
+item_text (CoreMade item) = core_instance_text item
+item_text (CoreTy item) = core_text item
 item_text (Component bytes) = bytes
 item_text (Instance item) = instance_text item
 item_text (Aliased item) = alias_text item
 item_text (Ty item) = definition_text item
+item_text (Canonical item) = canon_text item
+item_text (Import item) = import_text item
 item_text (Export item) = export_text item
 
--- the items of one section, with its id
+-- the sections that items share, and those that are no vector of items
+abbrev pub is_shared : ℕ → Bool
+is_shared id = id == 3 || id == 5 || id == 6 || id == 7 || id == 10 || id == 11
+
+abbrev pub is_plain : ℕ → Bool
+is_plain id = id == 0 || id == 1 || id == 4
+
+-- a section to be written: its id, its items, and its content where that was given
 pub record Group : Type 0 where
   pub id : ℕ
   pub items : List ItemTree
+  pub raw : Option (List ℕ)
 
--- An item in front of groups joins the first, where that is of its kind, and else begins one. Nested components stay alone.
+-- the section of an item alone
+abbrev pub alone : ItemTree → Group
+alone item = record { id = item_id item; items = item ∷ []; raw = None }
+
+-- whether an item shares a section
+abbrev pub joins : ItemTree → Group → Bool
+joins item g = item_id item == g.id && is_shared g.id && is_none g.raw
+
+-- An item in front of sections joins the first, where it shares that, and else begins one.
 abbrev pub joined : ItemTree → List Group → List Group
-joined item [] = record { id = item_id item; items = item ∷ [] } ∷ []
-joined item (g ∷ gs) =
-    if (item_id item == g.id) && not (g.id == 4) then record { id = g.id; items = item ∷ g.items } ∷ gs
-    else record { id = item_id item; items = item ∷ [] } ∷ g ∷ gs
+joined item [] = alone item ∷ []
+joined item (g ∷ gs) = if joins item g then record { id = g.id; items = item ∷ g.items; raw = g.raw } ∷ gs else alone item ∷ g ∷ gs
 
--- the items, cut into those of each section
-abbrev pub groups_of : List ItemTree → List Group
+-- what was added, cut into sections
+abbrev pub groups_of : List Entry → List Group
 groups_of [] = []
-groups_of (item ∷ items) = joined item (groups_of items)
+groups_of (Single item ∷ entries) = joined item (groups_of entries)
+groups_of (RawSection id content items ∷ entries) = record { id = id; items = items; raw = Some content } ∷ groups_of entries
 
--- a group's section: its id, the length of its content, and the content
+-- the content of a section of some items
+abbrev pub items_text : ℕ → List ItemTree → List ℕ
+items_text id items = if is_plain id then flat_map item_text items else vector_text item_text items
+
+-- a section: its id, the length of its content, and the content
 abbrev pub content_text : Group → List ℕ
-content_text g = if g.id == 4 then flat_map item_text g.items else vector_text item_text g.items
+content_text g = unwrap_or g.raw (items_text g.id g.items)
 
 abbrev pub group_text : Group → List ℕ
 group_text g = g.id ∷ (number_text (length (content_text g)) ++ content_text g)
 
--- the component of these items
-abbrev pub component_text : List ItemTree → List ℕ
-component_text items = header ++ flat_map group_text (groups_of items)
+-- the component to which this was added
+abbrev pub component_text : List Entry → List ℕ
+component_text entries = header ++ flat_map group_text (groups_of entries)
 
--- a group whose count and length can be written
+-- a section whose count and length can be written
 pub record IsShort (g : Group) : Type 0 where
   pub count : length g.items < 2 ^ 32
   pub bytes : length (content_text g) < 2 ^ 32
@@ -66,35 +117,50 @@ pub record IsTooLong (n : ℕ) (g : Group) : Type 0 where
   pub above : 2 ^ 32 ≤ n
   pub which : (n ≡ length g.items) ⊎ (n ≡ length (content_text g))
 
--- the number is one of some group
+-- the number is one of some section
 abbrev pub IsTooLongAmong : ℕ → List Group → Type 0
 IsTooLongAmong n groups = (g : Group) × Contains groups g × IsTooLong n g
 
--- What an item is, which names the index space that numbers it.
-abbrev pub item_sort : ItemTree → Sort
-item_sort (Component bytes) = sort.Component
-item_sort (Instance item) = sort.Instance
-item_sort (Aliased (alias.Export kind from name)) = kind
-item_sort (Ty item) = sort.Ty
-item_sort (Export item) = item.sort
+-- What a description or a function on resources brings, and so what an item is. A custom section is in no index space.
+abbrev pub described_sort : TypeRef → Sort
+described_sort (description.Module i) = sort.Core core.Module
+described_sort (description.Func i) = sort.Func
+described_sort (description.TyEqual i) = sort.Ty
+described_sort description.TyFresh = sort.Ty
+described_sort (description.Component i) = sort.Component
+described_sort (description.Instance i) = sort.Instance
 
--- each index space by a number
-abbrev pub core_space : CoreSort → ℕ
-core_space core.Func = 0
-core_space core.Table = 1
-core_space core.Memory = 2
-core_space core.Global = 3
-core_space core.Ty = 4
-core_space core.Module = 5
-core_space core.Instance = 6
+abbrev pub aliased_sort : Alias → Sort
+aliased_sort (alias.Export kind from name) = kind
+aliased_sort (alias.CoreExport kind from name) = sort.Core kind
+aliased_sort (alias.Outer kind count index) = kind
 
-abbrev pub space_of : Sort → ℕ
-space_of (sort.Core c) = core_space c
-space_of sort.Func = 7
-space_of sort.Ty = 8
-space_of sort.Component = 9
-space_of sort.Instance = 10
+abbrev pub canonical_sort : Canon → Sort
+canonical_sort (canon.Lift f options ty) = sort.Func
+canonical_sort _ = sort.Core core.Func
+
+abbrev pub item_sort : ItemTree → Option Sort
+item_sort (Custom name bytes) = None
+item_sort (CoreModule bytes) = Some (sort.Core core.Module)
+item_sort (CoreMade item) = Some (sort.Core core.Instance)
+item_sort (CoreTy item) = Some (sort.Core core.Ty)
+item_sort (Component bytes) = Some sort.Component
+item_sort (Instance item) = Some sort.Instance
+item_sort (Aliased item) = Some (aliased_sort item)
+item_sort (Ty item) = Some sort.Ty
+item_sort (Canonical item) = Some (canonical_sort item)
+item_sort (Import item) = Some (described_sort item.ty)
+item_sort (Export item) = Some item.sort
+
+-- whether this index space numbers what is of a sort
+abbrev pub numbers : ℕ → Option Sort → Bool
+numbers space None = false
+numbers space (Some kind) = space_of kind == space
+
+-- how many of some items an index space numbers
+abbrev pub numbered : Sort → List ItemTree → ℕ
+numbered kind items = count_by (λ item. numbers (space_of kind) (item_sort item)) items
 
 -- how many items an index space numbers, and so the index of the next
-abbrev pub next_index : Sort → List ItemTree → ℕ
-next_index kind items = count_by (λ item. space_of (item_sort item) == space_of kind) items
+abbrev pub next_index : Sort → List Entry → ℕ
+next_index kind entries = numbered kind (items_of entries)

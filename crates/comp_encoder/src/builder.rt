@@ -1,153 +1,86 @@
 //! A builder that writes components.
 
-ghost use Rattle.std.specs.Prelude.{◌≡◌, ◌<◌, ◌≤◌, ◌+◌, ◌^◌, ◌++◌, ◌∷◌, ◌⊎◌, [], ℕ, List, length, map, take, slice_index, All, OnOk, OnErr, IfOk, IfErr, Contains, option_map};
+ghost use Rattle.std.specs.Prelude.{◌≡◌, ◌<◌, ◌≤◌, ◌+◌, ◌^◌, ◌++◌, ◌∷◌, ◌⊎◌, [], ℕ, List, length, max, All, Some, OnOk, OnErr, IfOk, IfErr, Err, None, option_map, true, false};
 ghost use Rattle.std.specs.List.{AllByRecursion};
-ghost use Rattle.comp_encoder.specs.declared.types.Sort.TheVariants as sort;
-ghost use Rattle.comp_encoder.specs.declared.types.InstanceItem.TheVariants as instance;
-ghost use Rattle.comp_encoder.specs.declared.types.Alias.TheVariants as alias;
-ghost use Rattle.comp_encoder.specs.Items.{ItemTree, ExportTree, Component, Instance, Aliased, Export};
-ghost use Rattle.comp_encoder.specs.Sections.{Reads, header};
-ghost use Rattle.comp_encoder.specs.Fits.{IsComponent, FitsName, FitsArg, FitsItem, HasNameOf};
-ghost use Rattle.comp_encoder.specs.Builder.{built_tree};
-ghost use Rattle.comp_encoder.specs.Writing.{IsTooLongAmong, IsShort, item_id, item_sort, content_text, group_text, groups_of, component_text, core_space, space_of, next_index};
+ghost use Rattle.comp_types.specs.declared.types.CoreSort.TheVariants as core_sort;
+ghost use Rattle.comp_types.specs.declared.types.Sort.{Sort as sort_of_item};
+ghost use Rattle.comp_types.specs.declared.types.Sort.TheVariants as sort;
+ghost use Rattle.comp_types.specs.declared.types.InstanceItem.TheVariants as instance;
+ghost use Rattle.comp_types.specs.declared.types.Alias.TheVariants as alias;
+ghost use Rattle.comp_types.specs.Parts.{is_outer};
+ghost use Rattle.comp_types.specs.CoreTypes as core_tree;
+ghost use Rattle.comp_types.specs.Definitions as tree;
+ghost use Rattle.comp_types.specs.Views.{module_tree, instance_type_tree, component_type_tree};
+ghost use Rattle.comp_types.specs.Items.{ItemTree, CoreTy, Component, Instance, Aliased, Ty, Import, Export};
+ghost use Rattle.comp_types.specs.Sections.{Reads};
+ghost use Rattle.comp_types.specs.Fits.{IsComponent};
+ghost use Rattle.comp_types.specs.Forms.{IsDefined, IsFunc, AreDecls, AreModuleDecls};
+ghost use Rattle.comp_types.specs.Spaces.{core_space, space_of};
+ghost use Rattle.comp_encoder.specs.Largest.{vector_largest, arg_largest, defined_largest, func_largest, core_largest, definition_largest};
+ghost use Rattle.comp_encoder.specs.Writing.{Single, RawSection, numbered, IsTooLongAmong, IsShort, items_of, described_sort, item_sort, groups_of, component_text, next_index};
+ghost use Rattle.comp_encoder.specs.Builder.{IsBytesOf, IsContent, IsContentOf, item_of, entries_of};
 
-use crate::built::{BuiltExport, BuiltItem};
-use crate::error::EncodeError;
-use crate::groups::{short, write_items};
-use crate::types::{Alias, Arg, CoreSort, InstanceItem, Sort, TypeRef};
-use bytes::Bytes;
+use crate::built::Built;
+use crate::groups::write_sections;
+use crate::items::{
+    encode_alias_export, encode_alias_outer, encode_component, encode_component_type,
+    encode_core_module, encode_defined, encode_export, encode_function, encode_import,
+    encode_instance, encode_instance_type, encode_resource,
+};
+use crate::raw::{HEADER, count_section};
+use crate::spaces::{described_sort, space_of};
+use comp_types::{
+    Arg, ComponentType, CoreSort, DefinedType, EncodeError, FuncType, InstanceType, ModuleType,
+    Sort, TypeRef,
+};
 use std::alloc::Global;
 use std::marker::Model;
-use warg_base::{Memory, Sequence, Text};
 
-/// The magic bytes, the version and the layer of a component.
-const HEADER: [u8; 8] = [0x00, 0x61, 0x73, 0x6d, 0x0d, 0x00, 0x01, 0x00];
+/// The ids of the sections of core types, components, instances, aliases, types, imports and exports.
+const CORE_TYPE: u8 = 3;
+
+const COMPONENT: u8 = 4;
+
+const INSTANCE: u8 = 5;
+
+const ALIAS: u8 = 6;
+
+const TYPE: u8 = 7;
+
+const IMPORT: u8 = 10;
+
+const EXPORT: u8 = 11;
 
 /// Builds a component, item by item, and writes it.
 ///
-/// A clause sees the items that were added, in order. Each adder gives the new item's index in the index space of
-/// its sort.
+/// A clause sees what was added, in order, by the word `entries_of`. Each adder gives the new item's index in the
+/// index space of its sort, and a refusal adds nothing.
 #[derive(Drop)]
 pub struct ComponentBuilder {
-    items: Vec<BuiltItem>,
+    items: Vec<Built>,
     counts: [u32; 11],
 }
 
 impl Model for ComponentBuilder {
     ghost use Rattle.std.specs.Prelude.{List};
-    ghost use Rattle.comp_encoder.specs.Items.{ItemTree};
+    ghost use Rattle.comp_encoder.specs.Builder.{Kept};
 
-    ghost Value = { List ItemTree };
+    ghost Value = { List Kept };
 
-    ghost use Rattle.comp_encoder.specs.Builder.{built_items, IsBuilt};
+    ghost use Rattle.comp_encoder.specs.Builder.{kepts_of, IsBuilt};
 
-    ghost view = { λ b. built_items b.items.items };
+    ghost view = { λ b. kepts_of b.items.items };
 
-    ghost invariant = { λ b. IsBuilt b.items.items b.counts };
+    ghost invariant = { λ b. IsBuilt (kepts_of b.items.items) b.counts };
 }
 
-/// The number of a core index space.
-fn core_space(sort: CoreSort) -> usize
-    ensures value { result ≡ core_space sort }
-    ensures bound { result < 11 }
-{
-    match sort {
-        CoreSort::Func => 0,
-        CoreSort::Table => 1,
-        CoreSort::Memory => 2,
-        CoreSort::Global => 3,
-        CoreSort::Ty => 4,
-        CoreSort::Module => 5,
-        CoreSort::Instance => 6,
-    }
-}
-
-/// The number of the index space of a sort.
-fn space_of(sort: Sort) -> usize
-    ensures value { result ≡ space_of sort }
-    ensures bound { result < 11 }
-{
-    match sort {
-        Sort::Core(core) => core_space(core),
-        Sort::Func => 7,
-        Sort::Ty => 8,
-        Sort::Component => 9,
-        Sort::Instance => 10,
-    }
-}
-
-/// How many bytes a named item takes beside its name, at most.
-const NAMED: usize = 40;
-
-/// How many bytes an item takes at most, with a section of its own.
-fn room_of(item: &BuiltItem) -> usize {
-    match item {
-        BuiltItem::Component(bytes) => bytes.len().saturating_add(NAMED),
-        BuiltItem::Instance(InstanceItem::Instantiate { args, .. } | InstanceItem::Exports(args)) =>
-            {
-                let mut room = NAMED;
-                for arg in args.as_slice() {
-                    room = room
-                        .saturating_add(arg.name.as_str().len())
-                        .saturating_add(NAMED);
-                }
-                room
-            }
-        BuiltItem::Alias(Alias::Export { name, .. }) => name.as_str().len().saturating_add(NAMED),
-        BuiltItem::Export(export) => export.name.as_str().len().saturating_add(NAMED),
-    }
-}
-
-/// A name that can be written, as a copy.
-fn name_of(alloc: Global, name: &str) -> Result<Text, EncodeError>
-    requires { 0 < length name.now }
-    ensures value { IfOk result (λ text. text ≡ name.now) }
-    ensures fits { OnOk result (FitsName name.now) }
-    ensures too_large { (n : ℕ) → result ≡ Err (EncodeError.TooLarge n) → (n ≡ length name.now) × (2 ^ 32 ≤ n) }
-{
-    short(name.len())?;
-    let text = Text::copy_of(alloc, name)?;
-    Ok(text)
-}
-
-/// An argument under a name that can be written.
-fn named(name: Text, sort: Sort, index: u32) -> Arg
-    requires { FitsName name }
-    ensures value { result ≡ record { name = name; sort = sort; index = index } }
-    ensures fits { FitsArg result }
-{
-    Arg { name, sort, index }
-}
-
-/// An argument that can be written, as a copy.
-fn arg_of(alloc: Global, arg: &Arg) -> Result<Arg, EncodeError>
-    requires { 0 < length arg.now.name }
-    ensures value { IfOk result (λ copy. copy ≡ arg.now) }
-    ensures fits { OnOk result (FitsArg arg.now) }
-    ensures too_large { (n : ℕ) → result ≡ Err (EncodeError.TooLarge n) → (n ≡ length arg.now.name) × (2 ^ 32 ≤ n) }
-{
-    let name = name_of(alloc, arg.name.as_str())?;
-    Ok(named(name, arg.sort, arg.index))
-}
-
-/// Arguments that can be written, as copies.
-fn args_of(alloc: Global, args: &[Arg]) -> Result<Sequence<Arg>, EncodeError>
-    requires { All (λ arg. 0 < length arg.name) args.now }
-    ensures value { IfOk result (λ copies. copies ≡ args.now) }
-    ensures fit { OnOk result (All FitsArg args.now) }
-    ensures too_large { (n : ℕ) → result ≡ Err (EncodeError.TooLarge n) → (2 ^ 32 ≤ n) × HasNameOf n args.now }
-{
-    let mut copies = Sequence::new(alloc);
-    for arg in args {
-        copies.push(arg_of(alloc, arg)?)?;
-    }
-    Ok(copies)
-}
+/// How many bytes a section takes beside its items, at most.
+const FRAME: usize = 11;
 
 impl ComponentBuilder {
     /// A component without items.
     pub fn new(alloc: Global) -> Self
-        ensures { result ≡ [] }
+        ensures { entries_of result ≡ [] }
     {
         ComponentBuilder {
             items: Vec::new(alloc),
@@ -157,9 +90,8 @@ impl ComponentBuilder {
 
     /// The index of the next item of a sort, and the size of its index space once it is added.
     fn next_of(&self, sort: Sort) -> Result<(u32, u32), EncodeError>
-        ensures index { IfOk result (λ n. (n.0 ≡ next_index sort self.now) × (n.1 ≡ n.0 + 1)) }
-        ensures too_large { (n : ℕ) → result ≡ Err (EncodeError.TooLarge n) → (n ≡ next_index sort self.now + 1) × (2 ^ 32 ≤ n) }
-        ensures err { IfErr result (λ e. e ≡ EncodeError.TooLarge (next_index sort self.now + 1)) }
+        ensures index { IfOk result (λ n. (n.0 ≡ next_index sort (entries_of self.now)) × (n.1 ≡ n.0 + 1)) }
+        ensures too_large { (n : ℕ) → result ≡ Err (EncodeError.TooLarge n) → (n ≡ next_index sort (entries_of self.now) + 1) × (2 ^ 32 ≤ n) }
     {
         let index = self.counts[space_of(sort)];
         match index.checked_add(1) {
@@ -168,43 +100,56 @@ impl ComponentBuilder {
         }
     }
 
-    /// Adds an item, and counts it in the index space of its sort.
-    fn add(&mut self, item: BuiltItem, sort: Sort, size: u32) -> Result<(), EncodeError>
-        requires fits { FitsItem (built_tree item) }
-        requires kind { item_sort (built_tree item) ≡ sort }
-        requires next { size ≡ next_index sort self.old + 1 }
-        ensures added { OnOk result (self.new ≡ self.old ++ built_tree item ∷ []) }
+    /// Adds an item as its bytes, and counts it in the index space of its sort.
+    fn add(&mut self, id: u8, bytes: Vec<u8>, sort: Sort, size: u32) -> Result<(), EncodeError>
+        requires bytes { IsBytesOf (item_of id bytes.items) id bytes.items }
+        requires kind { item_sort (item_of id bytes.items) ≡ Some sort }
+        requires next { size ≡ next_index sort (entries_of self.old) + 1 }
+        ensures added { OnOk result (entries_of self.new ≡ entries_of self.old ++ Single (item_of id bytes.items) ∷ []) }
         ensures unchanged { OnErr result (self.new ≡ self.old) }
         ensures err { IfErr result (λ e. e ≡ EncodeError.Memory) }
     {
-        self.items.push(item)?;
+        self.items.push(Built::Item { id, bytes })?;
         self.counts[space_of(sort)] = size;
         Ok(())
+    }
+
+    /// How many types the component has.
+    pub fn type_count(&self) -> u32
+        ensures { result ≡ next_index sort.Ty (entries_of self.now) }
+    {
+        self.counts[space_of(Sort::Ty)]
+    }
+
+    /// How many instances the component has.
+    pub fn instance_count(&self) -> u32
+        ensures { result ≡ next_index sort.Instance (entries_of self.now) }
+    {
+        self.counts[space_of(Sort::Instance)]
     }
 
     /// Adds a nested component, and gives its index.
     ///
     /// `TooLarge` has the length of `bytes`, or the number of components with this one, where that is above
-    /// 2^32 - 1. A refusal adds nothing.
+    /// 2^32 - 1.
     pub fn component_raw(&mut self, alloc: Global, bytes: &[u8]) -> Result<u32, EncodeError>
         requires { IsComponent bytes.now }
-        ensures index { IfOk result (λ i. i ≡ next_index sort.Component self.old) }
-        ensures added { OnOk result (self.new ≡ self.old ++ Component bytes.now ∷ []) }
+        ensures index { IfOk result (λ i. i ≡ next_index sort.Component (entries_of self.old)) }
+        ensures added { OnOk result (entries_of self.new ≡ entries_of self.old ++ Single (Component bytes.now) ∷ []) }
         ensures unchanged { OnErr result (self.new ≡ self.old) }
-        ensures fits { OnOk result ((length bytes.now < 2 ^ 32) × (next_index sort.Component self.old + 1 < 2 ^ 32)) }
-        ensures too_large { (n : ℕ) → result ≡ Err (EncodeError.TooLarge n) → (2 ^ 32 ≤ n) × ((n ≡ length bytes.now) ⊎ (n ≡ next_index sort.Component self.old + 1)) }
+        ensures fits { OnOk result ((length bytes.now < 2 ^ 32) × (next_index sort.Component (entries_of self.old) + 1 < 2 ^ 32)) }
+        ensures too_large { (n : ℕ) → result ≡ Err (EncodeError.TooLarge n) → (2 ^ 32 ≤ n) × ((n ≡ length bytes.now) ⊎ (n ≡ next_index sort.Component (entries_of self.old) + 1)) }
     {
         let (index, size) = self.next_of(Sort::Component)?;
-        short(bytes.len())?;
-        let bytes = Bytes::copy_from_slice(alloc, bytes)?;
-        self.add(BuiltItem::Component(bytes), Sort::Component, size)?;
+        let bytes = encode_component(alloc, bytes)?;
+        self.add(COMPONENT, bytes, Sort::Component, size)?;
         Ok(index)
     }
 
     /// Adds an instance of the component of this index, with these arguments, and gives its index.
     ///
-    /// `TooLarge` has the number of arguments, the length of an argument's name, or the number of instances with
-    /// this one, where that is above 2^32 - 1. A refusal adds nothing.
+    /// `TooLarge` has the largest of the number of arguments and of the lengths of their names, or the number of
+    /// instances with this one, where that is above 2^32 - 1.
     pub fn instantiate(
         &mut self,
         alloc: Global,
@@ -212,24 +157,22 @@ impl ComponentBuilder {
         args: &[Arg],
     ) -> Result<u32, EncodeError>
         requires { All (λ arg. 0 < length arg.name) args.now }
-        ensures index { IfOk result (λ i. i ≡ next_index sort.Instance self.old) }
-        ensures added { OnOk result (self.new ≡ self.old ++ Instance (instance.Instantiate component args.now) ∷ []) }
+        ensures index { IfOk result (λ i. i ≡ next_index sort.Instance (entries_of self.old)) }
+        ensures added { OnOk result (entries_of self.new ≡ entries_of self.old ++ Single (Instance (instance.Instantiate component args.now)) ∷ []) }
         ensures unchanged { OnErr result (self.new ≡ self.old) }
-        ensures fits { OnOk result ((length args.now < 2 ^ 32) × All (λ arg. length arg.name < 2 ^ 32) args.now × (next_index sort.Instance self.old + 1 < 2 ^ 32)) }
-        ensures too_large { (n : ℕ) → result ≡ Err (EncodeError.TooLarge n) → (2 ^ 32 ≤ n) × ((n ≡ length args.now) ⊎ (HasNameOf n args.now ⊎ (n ≡ next_index sort.Instance self.old + 1))) }
+        ensures fits { OnOk result ((vector_largest arg_largest args.now < 2 ^ 32) × (next_index sort.Instance (entries_of self.old) + 1 < 2 ^ 32)) }
+        ensures too_large { (n : ℕ) → result ≡ Err (EncodeError.TooLarge n) → (2 ^ 32 ≤ n) × ((n ≡ vector_largest arg_largest args.now) ⊎ (n ≡ next_index sort.Instance (entries_of self.old) + 1)) }
     {
         let (index, size) = self.next_of(Sort::Instance)?;
-        short(args.len())?;
-        let args = args_of(alloc, args)?;
-        let item = InstanceItem::Instantiate { component, args };
-        self.add(BuiltItem::Instance(item), Sort::Instance, size)?;
+        let bytes = encode_instance(alloc, component, args)?;
+        self.add(INSTANCE, bytes, Sort::Instance, size)?;
         Ok(index)
     }
 
     /// Adds an alias of the export of this name and sort of an instance, and gives its index.
     ///
     /// `TooLarge` has the length of `name`, or the number of items of the sort with this one, where that is above
-    /// 2^32 - 1. A refusal adds nothing.
+    /// 2^32 - 1.
     pub fn alias_export(
         &mut self,
         alloc: Global,
@@ -238,27 +181,65 @@ impl ComponentBuilder {
         sort: Sort,
     ) -> Result<u32, EncodeError>
         requires { 0 < length name.now }
-        ensures index { IfOk result (λ i. i ≡ next_index sort self.old) }
-        ensures added { OnOk result (self.new ≡ self.old ++ Aliased (alias.Export sort instance name.now) ∷ []) }
+        ensures index { IfOk result (λ i. i ≡ next_index sort (entries_of self.old)) }
+        ensures added { OnOk result (entries_of self.new ≡ entries_of self.old ++ Single (Aliased (alias.Export sort instance name.now)) ∷ []) }
         ensures unchanged { OnErr result (self.new ≡ self.old) }
-        ensures fits { OnOk result ((length name.now < 2 ^ 32) × (next_index sort self.old + 1 < 2 ^ 32)) }
-        ensures too_large { (n : ℕ) → result ≡ Err (EncodeError.TooLarge n) → (2 ^ 32 ≤ n) × ((n ≡ length name.now) ⊎ (n ≡ next_index sort self.old + 1)) }
+        ensures fits { OnOk result ((length name.now < 2 ^ 32) × (next_index sort (entries_of self.old) + 1 < 2 ^ 32)) }
+        ensures too_large { (n : ℕ) → result ≡ Err (EncodeError.TooLarge n) → (2 ^ 32 ≤ n) × ((n ≡ length name.now) ⊎ (n ≡ next_index sort (entries_of self.old) + 1)) }
     {
         let (index, size) = self.next_of(sort)?;
-        let name = name_of(alloc, name)?;
-        let item = Alias::Export {
-            sort,
-            instance,
-            name,
-        };
-        self.add(BuiltItem::Alias(item), sort, size)?;
+        let bytes = encode_alias_export(alloc, instance, name, sort)?;
+        self.add(ALIAS, bytes, sort, size)?;
+        Ok(index)
+    }
+
+    /// Adds an alias of the type, core type, core module or component of this index of the scope that is `count`
+    /// scopes further out, and gives its index.
+    ///
+    /// `TooLarge` has the number of items of the sort with this one, where that is above 2^32 - 1.
+    pub fn alias_outer(
+        &mut self,
+        alloc: Global,
+        count: u32,
+        index: u32,
+        sort: Sort,
+    ) -> Result<u32, EncodeError>
+        requires { is_outer sort ≡ true }
+        ensures index { IfOk result (λ i. i ≡ next_index sort (entries_of self.old)) }
+        ensures added { OnOk result (entries_of self.new ≡ entries_of self.old ++ Single (Aliased (alias.Outer sort count index)) ∷ []) }
+        ensures unchanged { OnErr result (self.new ≡ self.old) }
+        ensures fits { OnOk result (next_index sort (entries_of self.old) + 1 < 2 ^ 32) }
+        ensures too_large { (n : ℕ) → result ≡ Err (EncodeError.TooLarge n) → (2 ^ 32 ≤ n) × (n ≡ next_index sort (entries_of self.old) + 1) }
+    {
+        let (place, size) = self.next_of(sort)?;
+        let bytes = encode_alias_outer(alloc, count, index, sort)?;
+        self.add(ALIAS, bytes, sort, size)?;
+        Ok(place)
+    }
+
+    /// Adds an import, and gives the index of what is imported.
+    ///
+    /// `TooLarge` has the length of `name`, or the number of items of the description's sort with this one, where
+    /// that is above 2^32 - 1.
+    pub fn import(&mut self, alloc: Global, name: &str, ty: &TypeRef) -> Result<u32, EncodeError>
+        requires { 0 < length name.now }
+        ensures index { IfOk result (λ i. i ≡ next_index (described_sort ty.now) (entries_of self.old)) }
+        ensures added { OnOk result (entries_of self.new ≡ entries_of self.old ++ Single (Import (record { name = name.now; ty = ty.now })) ∷ []) }
+        ensures unchanged { OnErr result (self.new ≡ self.old) }
+        ensures fits { OnOk result ((length name.now < 2 ^ 32) × (next_index (described_sort ty.now) (entries_of self.old) + 1 < 2 ^ 32)) }
+        ensures too_large { (n : ℕ) → result ≡ Err (EncodeError.TooLarge n) → (2 ^ 32 ≤ n) × ((n ≡ length name.now) ⊎ (n ≡ next_index (described_sort ty.now) (entries_of self.old) + 1)) }
+    {
+        let sort = described_sort(*ty);
+        let (index, size) = self.next_of(sort)?;
+        let bytes = encode_import(alloc, name, *ty)?;
+        self.add(IMPORT, bytes, sort, size)?;
         Ok(index)
     }
 
     /// Adds an export of the item of this sort and index, and gives the index of what is exported.
     ///
     /// `TooLarge` has the length of `name`, or the number of items of the sort with this one, where that is above
-    /// 2^32 - 1. A refusal adds nothing.
+    /// 2^32 - 1.
     pub fn export(
         &mut self,
         alloc: Global,
@@ -268,48 +249,169 @@ impl ComponentBuilder {
         ty: Option<&TypeRef>,
     ) -> Result<u32, EncodeError>
         requires { 0 < length name.now }
-        ensures index { IfOk result (λ i. i ≡ next_index sort self.old) }
-        ensures added { OnOk result (self.new ≡ self.old ++ Export (record { name = name.now; sort = sort; index = index; ty = option_map (λ t. t.now) ty.entry }) ∷ []) }
+        ensures index { IfOk result (λ i. i ≡ next_index sort (entries_of self.old)) }
+        ensures added { OnOk result (entries_of self.new ≡ entries_of self.old ++ Single (Export (record { name = name.now; sort = sort; index = index; ty = option_map (λ t. t.now) ty.entry })) ∷ []) }
         ensures unchanged { OnErr result (self.new ≡ self.old) }
-        ensures fits { OnOk result ((length name.now < 2 ^ 32) × (next_index sort self.old + 1 < 2 ^ 32)) }
-        ensures too_large { (n : ℕ) → result ≡ Err (EncodeError.TooLarge n) → (2 ^ 32 ≤ n) × ((n ≡ length name.now) ⊎ (n ≡ next_index sort self.old + 1)) }
+        ensures fits { OnOk result ((length name.now < 2 ^ 32) × (next_index sort (entries_of self.old) + 1 < 2 ^ 32)) }
+        ensures too_large { (n : ℕ) → result ≡ Err (EncodeError.TooLarge n) → (2 ^ 32 ≤ n) × ((n ≡ length name.now) ⊎ (n ≡ next_index sort (entries_of self.old) + 1)) }
     {
         let (place, size) = self.next_of(sort)?;
-        let name = name_of(alloc, name)?;
-        let item = BuiltExport {
-            name,
-            sort,
-            index,
-            ty: ty.copied(),
-        };
-        self.add(BuiltItem::Export(item), sort, size)?;
+        let bytes = encode_export(alloc, name, sort, index, ty.copied())?;
+        self.add(EXPORT, bytes, sort, size)?;
         Ok(place)
+    }
+
+    /// Adds a type of values, and gives its index.
+    ///
+    /// `TooLarge` has the largest length, count or index in the type, or the number of types with this one, where that is
+    /// above 2^32 - 1.
+    pub fn type_defined(&mut self, alloc: Global, ty: &DefinedType) -> Result<u32, EncodeError>
+        requires { IsDefined ty.now }
+        ensures index { IfOk result (λ i. i ≡ next_index sort.Ty (entries_of self.old)) }
+        ensures added { OnOk result (entries_of self.new ≡ entries_of self.old ++ Single (Ty (tree.Defined ty.now)) ∷ []) }
+        ensures unchanged { OnErr result (self.new ≡ self.old) }
+        ensures fits { OnOk result ((defined_largest ty.now < 2 ^ 32) × (next_index sort.Ty (entries_of self.old) + 1 < 2 ^ 32)) }
+        ensures too_large { (n : ℕ) → result ≡ Err (EncodeError.TooLarge n) → (2 ^ 32 ≤ n) × ((n ≡ defined_largest ty.now) ⊎ (n ≡ next_index sort.Ty (entries_of self.old) + 1)) }
+    {
+        let (index, size) = self.next_of(Sort::Ty)?;
+        let bytes = encode_defined(alloc, ty)?;
+        self.add(TYPE, bytes, Sort::Ty, size)?;
+        Ok(index)
+    }
+
+    /// Adds a type of functions, and gives its index.
+    ///
+    /// `TooLarge` has the largest length, count or index in the type, or the number of types with this one, where that is
+    /// above 2^32 - 1.
+    pub fn type_function(&mut self, alloc: Global, ty: &FuncType) -> Result<u32, EncodeError>
+        requires { IsFunc ty.now }
+        ensures index { IfOk result (λ i. i ≡ next_index sort.Ty (entries_of self.old)) }
+        ensures added { OnOk result (entries_of self.new ≡ entries_of self.old ++ Single (Ty (tree.Func ty.now)) ∷ []) }
+        ensures unchanged { OnErr result (self.new ≡ self.old) }
+        ensures fits { OnOk result ((func_largest ty.now < 2 ^ 32) × (next_index sort.Ty (entries_of self.old) + 1 < 2 ^ 32)) }
+        ensures too_large { (n : ℕ) → result ≡ Err (EncodeError.TooLarge n) → (2 ^ 32 ≤ n) × ((n ≡ func_largest ty.now) ⊎ (n ≡ next_index sort.Ty (entries_of self.old) + 1)) }
+    {
+        let (index, size) = self.next_of(Sort::Ty)?;
+        let bytes = encode_function(alloc, ty)?;
+        self.add(TYPE, bytes, Sort::Ty, size)?;
+        Ok(index)
+    }
+
+    /// Adds a type of instances, and gives its index.
+    ///
+    /// `TooLarge` has the largest length, count or index in the type, or the number of types with this one, where that is
+    /// above 2^32 - 1.
+    pub fn type_instance(&mut self, alloc: Global, ty: &InstanceType) -> Result<u32, EncodeError>
+        requires { AreDecls false (instance_type_tree ty.now) }
+        ensures index { IfOk result (λ i. i ≡ next_index sort.Ty (entries_of self.old)) }
+        ensures added { OnOk result (entries_of self.new ≡ entries_of self.old ++ Single (Ty (tree.Instance (instance_type_tree ty.now))) ∷ []) }
+        ensures unchanged { OnErr result (self.new ≡ self.old) }
+        ensures fits { OnOk result ((definition_largest (tree.Instance (instance_type_tree ty.now)) < 2 ^ 32) × (next_index sort.Ty (entries_of self.old) + 1 < 2 ^ 32)) }
+        ensures too_large { (n : ℕ) → result ≡ Err (EncodeError.TooLarge n) → (2 ^ 32 ≤ n) × ((n ≡ definition_largest (tree.Instance (instance_type_tree ty.now))) ⊎ (n ≡ next_index sort.Ty (entries_of self.old) + 1)) }
+    {
+        let (index, size) = self.next_of(Sort::Ty)?;
+        let bytes = encode_instance_type(alloc, ty)?;
+        self.add(TYPE, bytes, Sort::Ty, size)?;
+        Ok(index)
+    }
+
+    /// Adds a type of components, and gives its index.
+    ///
+    /// `TooLarge` has the largest length, count or index in the type, or the number of types with this one, where that is
+    /// above 2^32 - 1.
+    pub fn type_component(&mut self, alloc: Global, ty: &ComponentType) -> Result<u32, EncodeError>
+        requires { AreDecls true (component_type_tree ty.now) }
+        ensures index { IfOk result (λ i. i ≡ next_index sort.Ty (entries_of self.old)) }
+        ensures added { OnOk result (entries_of self.new ≡ entries_of self.old ++ Single (Ty (tree.Component (component_type_tree ty.now))) ∷ []) }
+        ensures unchanged { OnErr result (self.new ≡ self.old) }
+        ensures fits { OnOk result ((definition_largest (tree.Component (component_type_tree ty.now)) < 2 ^ 32) × (next_index sort.Ty (entries_of self.old) + 1 < 2 ^ 32)) }
+        ensures too_large { (n : ℕ) → result ≡ Err (EncodeError.TooLarge n) → (2 ^ 32 ≤ n) × ((n ≡ definition_largest (tree.Component (component_type_tree ty.now))) ⊎ (n ≡ next_index sort.Ty (entries_of self.old) + 1)) }
+    {
+        let (index, size) = self.next_of(Sort::Ty)?;
+        let bytes = encode_component_type(alloc, ty)?;
+        self.add(TYPE, bytes, Sort::Ty, size)?;
+        Ok(index)
+    }
+
+    /// Adds a fresh resource that no function destroys, and gives its index.
+    ///
+    /// `TooLarge` has the number of types with this one, where that is above 2^32 - 1.
+    pub fn type_resource(&mut self, alloc: Global) -> Result<u32, EncodeError>
+        ensures index { IfOk result (λ i. i ≡ next_index sort.Ty (entries_of self.old)) }
+        ensures added { OnOk result (entries_of self.new ≡ entries_of self.old ++ Single (Ty (tree.Resource None)) ∷ []) }
+        ensures unchanged { OnErr result (self.new ≡ self.old) }
+        ensures fits { OnOk result (next_index sort.Ty (entries_of self.old) + 1 < 2 ^ 32) }
+        ensures too_large { (n : ℕ) → result ≡ Err (EncodeError.TooLarge n) → (2 ^ 32 ≤ n) × (n ≡ next_index sort.Ty (entries_of self.old) + 1) }
+    {
+        let (index, size) = self.next_of(Sort::Ty)?;
+        let bytes = encode_resource(alloc)?;
+        self.add(TYPE, bytes, Sort::Ty, size)?;
+        Ok(index)
+    }
+
+    /// Adds a type of core modules, and gives its index.
+    ///
+    /// `TooLarge` has the largest length, count or index in the type, or the number of core types with this one, where that is
+    /// above 2^32 - 1.
+    pub fn core_type_module(&mut self, alloc: Global, ty: &ModuleType) -> Result<u32, EncodeError>
+        requires { AreModuleDecls (module_tree ty.now) }
+        ensures index { IfOk result (λ i. i ≡ next_index (sort.Core core_sort.Ty) (entries_of self.old)) }
+        ensures added { OnOk result (entries_of self.new ≡ entries_of self.old ++ Single (CoreTy (core_tree.Module (module_tree ty.now))) ∷ []) }
+        ensures unchanged { OnErr result (self.new ≡ self.old) }
+        ensures fits { OnOk result ((core_largest (core_tree.Module (module_tree ty.now)) < 2 ^ 32) × (next_index (sort.Core core_sort.Ty) (entries_of self.old) + 1 < 2 ^ 32)) }
+        ensures too_large { (n : ℕ) → result ≡ Err (EncodeError.TooLarge n) → (2 ^ 32 ≤ n) × ((n ≡ core_largest (core_tree.Module (module_tree ty.now))) ⊎ (n ≡ next_index (sort.Core core_sort.Ty) (entries_of self.old) + 1)) }
+    {
+        let (index, size) = self.next_of(Sort::Core(CoreSort::Ty))?;
+        let bytes = encode_core_module(alloc, ty)?;
+        self.add(CORE_TYPE, bytes, Sort::Core(CoreSort::Ty), size)?;
+        Ok(index)
+    }
+
+    /// Adds the section of this id and content, with the items that it holds, in order. It is written as it is.
+    ///
+    /// `TooLarge` has the length of `content`, or the number of items of an index space, where that is above
+    /// 2^32 - 1. `Memory` is also answered where more than 200 scopes are open in the section at one place.
+    pub fn raw_section(&mut self, alloc: Global, id: u8, content: &[u8]) -> Result<(), EncodeError>
+        requires { IsContent id content.now }
+        ensures added { (items : List ItemTree) → IsContentOf items id content.now → OnOk result (entries_of self.new ≡ entries_of self.old ++ RawSection id content.now items ∷ []) }
+        ensures unchanged { OnErr result (self.new ≡ self.old) }
+        ensures short { OnOk result (length content.now < 2 ^ 32) }
+        ensures small { OnOk result ((kind : sort_of_item) → next_index kind (entries_of self.new) < 2 ^ 32) }
+        ensures too_large { (items : List ItemTree) → IsContentOf items id content.now → (n : ℕ) → result ≡ Err (EncodeError.TooLarge n) → (2 ^ 32 ≤ n) × ((n ≡ length content.now) ⊎ ((n ≡ 2 ^ 32) × ((kind : sort_of_item) × (2 ^ 32 ≤ next_index kind (entries_of self.old) + numbered kind items)))) }
+    {
+        let counts = count_section(alloc, self.counts, id, content)?;
+        let content = Vec::from_slice(alloc, content)?;
+        self.items.push(Built::Section { id, content })?;
+        self.counts = counts;
+        Ok(())
     }
 
     /// How many bytes the component has at most, so that the output is made at its full size.
     fn room(&self) -> usize {
         let mut room = HEADER.len();
         for item in &self.items {
-            room = room.saturating_add(room_of(item));
+            let (Built::Item { bytes, .. } | Built::Section { content: bytes, .. }) = item;
+            room = room.saturating_add(bytes.len()).saturating_add(FRAME);
         }
         room
     }
 
     /// The component as bytes. They read as the items that were added, in order, and as nothing else.
     ///
-    /// Lengths, counts and indices have their shortest spelling, and neighbouring items of one kind share a section,
-    /// but for nested components. `TooLarge` has the length of a section's content, or the number of its items, where
-    /// that is above 2^32 - 1.
+    /// Lengths, counts and indices have their shortest spelling, but in sections that were given as bytes.
+    /// Neighbouring core types, instances, aliases, types, imports and exports share a section; every other item has
+    /// its own. `TooLarge` has the length of a section's content, or the number of its items, where that is above
+    /// 2^32 - 1.
     pub fn finish(self, alloc: Global) -> Result<Vec<u8>, EncodeError>
-        ensures reads { IfOk result (λ bytes. Reads bytes.items self) }
-        ensures once { IfOk result (λ bytes. (items : List ItemTree) → Reads bytes.items items → items ≡ self) }
-        ensures text { IfOk result (λ bytes. bytes.items ≡ component_text self) }
-        ensures fits { OnOk result (AllByRecursion IsShort (groups_of self)) }
-        ensures too_large { (n : ℕ) → result ≡ Err (EncodeError.TooLarge n) → IsTooLongAmong n (groups_of self) }
+        ensures reads { IfOk result (λ bytes. Reads bytes.items (items_of (entries_of self))) }
+        ensures once { IfOk result (λ bytes. (items : List ItemTree) → Reads bytes.items items → items ≡ items_of (entries_of self)) }
+        ensures text { IfOk result (λ bytes. bytes.items ≡ component_text (entries_of self)) }
+        ensures fits { OnOk result (AllByRecursion IsShort (groups_of (entries_of self))) }
+        ensures too_large { (n : ℕ) → result ≡ Err (EncodeError.TooLarge n) → IsTooLongAmong n (groups_of (entries_of self)) }
     {
         let mut out = Vec::with_capacity(alloc, self.room())?;
         out.extend_from_slice(&HEADER)?;
-        write_items(alloc, &mut out, &self.items)?;
+        write_sections(alloc, &mut out, &self.items)?;
         Ok(out)
     }
 }

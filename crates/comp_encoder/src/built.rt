@@ -1,23 +1,10 @@
-//! Items as the builder keeps them.
+//! What the builder keeps.
 
-use crate::types::{Alias, InstanceItem, Sort, TypeRef};
-use bytes::Bytes;
-use warg_base::Text;
-
-/// An export.
+/// What was added, as its bytes.
 #[derive(Debug, Drop)]
-pub struct BuiltExport {
-    pub name: Text,
-    pub sort: Sort,
-    pub index: u32,
-    pub ty: Option<TypeRef>,
-}
-
-/// An item, with a nested component's bytes as a copy.
-#[derive(Debug, Drop)]
-pub enum BuiltItem {
-    Component(Bytes),
-    Instance(InstanceItem),
-    Alias(Alias),
-    Export(BuiltExport),
+pub enum Built {
+    /// An item, in a section of this id.
+    Item { id: u8, bytes: Vec<u8> },
+    /// A section.
+    Section { id: u8, content: Vec<u8> },
 }

@@ -1,26 +1,22 @@
-//! Items, cut into those of each section, and the sections as bytes.
+//! What was added, cut into sections, and the sections as bytes.
 
-ghost use Rattle.std.specs.Prelude.{◌≡◌, ◌≢◌, ◌<◌, ◌≤◌, ◌^◌, ◌++◌, ◌∷◌, ℕ, List, length, take, drop, map, All, OnOk, IfOk, IfErr, Err};
+ghost use Rattle.std.specs.Prelude.{◌≡◌, ◌<◌, ◌≤◌, ◌^◌, ◌++◌, ◌∷◌, ℕ, List, length, take, drop, OnOk, IfOk, Err, false};
 ghost use Rattle.std.specs.List.{flat_map, AllByRecursion};
-ghost use Rattle.comp_encoder.specs.Fits.{FitsItem};
-ghost use Rattle.comp_encoder.specs.Builder.{built_tree, built_items, first_group, nested_group, shared_group};
-ghost use Rattle.comp_encoder.specs.Numbers.{number_text};
-ghost use Rattle.comp_encoder.specs.Writing.{IsTooLong, IsTooLongAmong, IsShort, item_id, group_text, groups_of};
+ghost use Rattle.comp_types.specs.Numbers.{number_text};
+ghost use Rattle.comp_encoder.specs.Builder.{IsKept, IsItem, IsRun, EndsRun, kept, kepts_of, kept_bytes, entries_of, first_group, shared_group};
+ghost use Rattle.comp_encoder.specs.Writing.{IsTooLong, IsTooLongAmong, IsShort, is_shared, is_plain, group_text, groups_of};
 
-use crate::built::BuiltItem;
-use crate::error::EncodeError;
-use crate::write::{write_number, write_vector};
+use crate::built::Built;
+use crate::sink::write_number;
+use comp_types::EncodeError;
 use std::alloc::Global;
-
-/// The id of the section of nested components.
-const COMPONENT: u8 = 4;
+use warg_base::Memory;
 
 /// A length as the format writes it.
 pub fn short(length: usize) -> Result<u32, EncodeError>
     ensures value { IfOk result (λ n. n ≡ length) }
     ensures fits { OnOk result (length < 2 ^ 32) }
     ensures too_large { (n : ℕ) → result ≡ Err (EncodeError.TooLarge n) → (n ≡ length) × (2 ^ 32 ≤ n) }
-    ensures err { IfErr result (λ e. e ≡ EncodeError.TooLarge length) }
 {
     match u32::try_from(length) {
         Ok(length) => Ok(length),
@@ -28,97 +24,126 @@ pub fn short(length: usize) -> Result<u32, EncodeError>
     }
 }
 
-/// The id of the section that holds an item.
-fn id_of(item: &BuiltItem) -> u8
-    ensures { result ≡ item_id (built_tree item.now) }
+/// Whether items share the sections of this id.
+fn is_shared(id: u8) -> bool
+    ensures { result ≡ is_shared id }
 {
-    match item {
-        BuiltItem::Component(_) => COMPONENT,
-        BuiltItem::Instance(_) => 5,
-        BuiltItem::Alias(_) => 6,
-        BuiltItem::Export(_) => 11,
-    }
+    id == 3 || id == 5 || id == 6 || id == 7 || id == 10 || id == 11
 }
 
-/// How many of the items, from the first on, share its section.
-fn group_len(items: &[BuiltItem]) -> usize
-    requires { 0 < length items.now }
-    ensures some { 0 < result }
-    ensures bound { result ≤ length items.now }
-    ensures alone { (first_group (take result items.now)).id ≡ 4 → length (take result items.now) ≡ 1 }
-    ensures first { groups_of (built_items items.now) ≡ first_group (take result items.now) ∷ groups_of (built_items (drop result items.now)) }
+/// Whether the sections of this id are no vectors.
+fn is_plain(id: u8) -> bool
+    ensures { result ≡ is_plain id }
 {
-    let id = id_of(&items[0]);
-    let mut len = 1;
-    while id != COMPONENT && len < items.len() && id_of(&items[len]) == id {
-        len += 1;
+    id == 0 || id == 1 || id == 4
+}
+
+/// How many items of this id stand first.
+fn run_len(items: &[Built], id: u8) -> usize
+    ensures bound { result ≤ length items.now }
+    ensures alike { AllByRecursion (IsItem id) (kepts_of (take result items.now)) }
+    ensures ends { EndsRun id (kepts_of (drop result items.now)) }
+{
+    let mut len = 0;
+    for item in items {
+        match item {
+            Built::Item { id: other, .. } if *other == id => len += 1,
+            _ => return len,
+        }
     }
     len
 }
 
+/// How much of what was added, from the first on, stands in one section.
+fn group_len(items: &[Built]) -> usize
+    requires some { 0 < length items.now }
+    requires fit { AllByRecursion IsKept (kepts_of items.now) }
+    ensures bound { result ≤ length items.now }
+    ensures run { IsRun (kepts_of (take result items.now)) }
+    ensures first { groups_of (entries_of (kepts_of items.now)) ≡ first_group (kepts_of (take result items.now)) ∷ groups_of (entries_of (kepts_of (drop result items.now))) }
+{
+    match &items[0] {
+        Built::Item { id, .. } if is_shared(*id) => run_len(items, *id),
+        _ => 1,
+    }
+}
+
 /// Writes a section: its id, the length of its content, and the content.
-fn write_section(out: &mut Vec<u8>, id: u8, content: &[u8]) -> Result<(), EncodeError>
+pub fn write_section(out: &mut Vec<u8>, id: u8, content: &[u8]) -> Result<(), EncodeError>
     ensures text { OnOk result (out.new.items ≡ out.old.items ++ (id ∷ (number_text (length content.now) ++ content.now))) }
     ensures fits { OnOk result (length content.now < 2 ^ 32) }
     ensures too_large { (n : ℕ) → result ≡ Err (EncodeError.TooLarge n) → (n ≡ length content.now) × (2 ^ 32 ≤ n) }
 {
     let length = short(content.len())?;
     out.push(id)?;
-    write_number(out, length)?;
+    write_number(out, length as u64)?;
     out.extend_from_slice(content)?;
     Ok(())
 }
 
-/// Writes the section of a nested component.
-fn write_nested(out: &mut Vec<u8>, bytes: &[u8]) -> Result<(), EncodeError>
-    ensures text { OnOk result (out.new.items ≡ out.old.items ++ group_text (nested_group bytes.now)) }
-    ensures fits { OnOk result (IsShort (nested_group bytes.now)) }
-    ensures too_large { (n : ℕ) → result ≡ Err (EncodeError.TooLarge n) → IsTooLong n (nested_group bytes.now) }
+/// The bytes that stand in a section.
+fn bytes_of(item: &Built) -> &[u8]
+    ensures { result.now ≡ kept_bytes (kept item.now) }
 {
-    write_section(out, COMPONENT, bytes)
+    match item {
+        Built::Item { bytes, .. } => bytes.as_slice(),
+        Built::Section { content, .. } => content.as_slice(),
+    }
 }
 
-/// Writes the section that items share.
+/// Writes how many items there are, and the items.
+fn write_items(out: &mut Vec<u8>, items: &[Built]) -> Result<(), Memory>
+    ensures { OnOk result (out.new.items ≡ out.old.items ++ (number_text (length items.now) ++ flat_map kept_bytes (kepts_of items.now))) }
+{
+    write_number(out, items.len() as u64)?;
+    for item in items {
+        out.extend_from_slice(bytes_of(item))?;
+    }
+    Ok(())
+}
+
+/// Writes the section that items share, or that is the vector of one item.
 fn write_shared(
     alloc: Global,
     out: &mut Vec<u8>,
     id: u8,
-    items: &[BuiltItem],
+    items: &[Built],
 ) -> Result<(), EncodeError>
-    requires shared { id ≢ 4 }
-    requires fit { All (λ item. FitsItem (built_tree item)) items.now }
-    ensures text { OnOk result (out.new.items ≡ out.old.items ++ group_text (shared_group id items.now)) }
-    ensures fits { OnOk result (IsShort (shared_group id items.now)) }
-    ensures too_large { (n : ℕ) → result ≡ Err (EncodeError.TooLarge n) → IsTooLong n (shared_group id items.now) }
+    requires vector { is_plain id ≡ false }
+    requires fit { AllByRecursion IsKept (kepts_of items.now) }
+    requires alike { AllByRecursion (IsItem id) (kepts_of items.now) }
+    ensures text { OnOk result (out.new.items ≡ out.old.items ++ group_text (shared_group id (kepts_of items.now))) }
+    ensures fits { OnOk result (IsShort (shared_group id (kepts_of items.now))) }
+    ensures too_large { (n : ℕ) → result ≡ Err (EncodeError.TooLarge n) → IsTooLong n (shared_group id (kepts_of items.now)) }
 {
     short(items.len())?;
     let mut content = Vec::new(alloc);
-    write_vector(&mut content, items)?;
+    write_items(&mut content, items)?;
     write_section(out, id, &content)
 }
 
-/// Writes the section of a group of items.
-fn write_group(alloc: Global, out: &mut Vec<u8>, items: &[BuiltItem]) -> Result<(), EncodeError>
-    requires fit { All (λ item. FitsItem (built_tree item)) items.now }
-    requires alone { (first_group items.now).id ≡ 4 → length items.now ≡ 1 }
+/// Writes the section of all of these.
+fn write_group(alloc: Global, out: &mut Vec<u8>, items: &[Built]) -> Result<(), EncodeError>
+    requires fit { AllByRecursion IsKept (kepts_of items.now) }
+    requires run { IsRun (kepts_of items.now) }
     requires some { 0 < length items.now }
-    ensures text { OnOk result (out.new.items ≡ out.old.items ++ group_text (first_group items.now)) }
-    ensures fits { OnOk result (IsShort (first_group items.now)) }
-    ensures too_large { (n : ℕ) → result ≡ Err (EncodeError.TooLarge n) → IsTooLong n (first_group items.now) }
+    ensures text { OnOk result (out.new.items ≡ out.old.items ++ group_text (first_group (kepts_of items.now))) }
+    ensures fits { OnOk result (IsShort (first_group (kepts_of items.now))) }
+    ensures too_large { (n : ℕ) → result ≡ Err (EncodeError.TooLarge n) → IsTooLong n (first_group (kepts_of items.now)) }
 {
-    let first = &items[0];
-    match first {
-        BuiltItem::Component(bytes) => write_nested(out, bytes.as_slice()),
-        _ => write_shared(alloc, out, id_of(first), items),
+    match &items[0] {
+        Built::Section { id, content } => write_section(out, *id, content.as_slice()),
+        Built::Item { id, bytes } if is_plain(*id) => write_section(out, *id, bytes.as_slice()),
+        Built::Item { id, .. } => write_shared(alloc, out, *id, items),
     }
 }
 
-/// Writes items, section by section.
-pub fn write_items(alloc: Global, out: &mut Vec<u8>, items: &[BuiltItem]) -> Result<(), EncodeError>
-    requires { AllByRecursion FitsItem (built_items items.now) }
-    ensures text { OnOk result (out.new.items ≡ out.old.items ++ flat_map group_text (groups_of (built_items items.now))) }
-    ensures fits { OnOk result (AllByRecursion IsShort (groups_of (built_items items.now))) }
-    ensures too_large { (n : ℕ) → result ≡ Err (EncodeError.TooLarge n) → IsTooLongAmong n (groups_of (built_items items.now)) }
+/// Writes what was added, section by section.
+pub fn write_sections(alloc: Global, out: &mut Vec<u8>, items: &[Built]) -> Result<(), EncodeError>
+    requires { AllByRecursion IsKept (kepts_of items.now) }
+    ensures text { OnOk result (out.new.items ≡ out.old.items ++ flat_map group_text (groups_of (entries_of (kepts_of items.now)))) }
+    ensures fits { OnOk result (AllByRecursion IsShort (groups_of (entries_of (kepts_of items.now)))) }
+    ensures too_large { (n : ℕ) → result ≡ Err (EncodeError.TooLarge n) → IsTooLongAmong n (groups_of (entries_of (kepts_of items.now))) }
 {
     let mut rest = items;
     while !rest.is_empty() {

@@ -1,19 +1,26 @@
-//! The items of a WebAssembly component, and a builder that writes them as bytes.
+//! A builder that writes WebAssembly components as bytes.
 //!
-//! The binary format is that of the Component Model's `Binary.md`. This crate carries the components
-//! that a linker of type-exporting components reads and writes.
+//! The binary format is that of the Component Model's `Binary.md`. What items and types are, and what their bytes are,
+//! stands in the crate `comp_types`.
 #![tactic(auto)]
 
 mod builder;
 mod built;
-mod error;
+mod core_types;
+mod definitions;
 mod groups;
-mod types;
-mod write;
+mod items;
+mod parts;
+mod raw;
+mod sink;
+mod spaces;
+#[cfg(test)]
+mod tests;
+mod values;
 
 pub use builder::ComponentBuilder;
-pub use error::EncodeError;
-pub use types::{
-    Alias, Arg, CoreSort, DefType, DefinedType, InstanceItem, Item, Primitive, Sort, TypeRef,
-    ValType,
+pub use comp_types::{
+    Alias, Arg, Canon, CanonOption, ComponentType, CoreDesc, CoreInstance, CoreSort, CoreType,
+    CoreVal, Decl, DefType, DefinedType, EncodeError, FuncType, InstanceItem, InstanceType, Item,
+    Limits, ModuleDecl, ModuleType, Primitive, Sort, TypeRef, ValType,
 };

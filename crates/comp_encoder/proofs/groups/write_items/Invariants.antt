@@ -1,10 +1,8 @@
-use Rattle.std.proofs.Common.{length}
-use Rattle.comp_encoder.specs.Builder.{built_items}
-use Rattle.comp_encoder.proofs.FinishLaws.{IsUnderWay}
+use Rattle.std.proofs.Common.{◌≡◌, ◌++◌, length, take}
+use Rattle.std.specs.List.{flat_map}
+use Rattle.comp_types.specs.Numbers.{number_text}
+use Rattle.comp_encoder.specs.Builder.{kept_bytes, kepts_of}
 use Rattle.comp_encoder.proofs.groups.write_items.Given as goal
 
-abbrev pub invariant-loop-rest : goal.invariant-loop-rest
-invariant-loop-rest l = IsUnderWay l.fn.out.items (built_items l.items) (built_items l.rest) l.out.items
-
-abbrev pub decreases-loop-rest : goal.decreases-loop-rest
-decreases-loop-rest l = length l.rest
+abbrev pub invariant-loop-item : goal.invariant-loop-item
+invariant-loop-item l = l.out.items ≡ l.fn.out.items ++ (number_text (length l.items) ++ flat_map kept_bytes (kepts_of (take l.item-index l.items)))

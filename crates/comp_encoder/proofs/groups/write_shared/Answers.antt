@@ -1,17 +1,20 @@
 use Rattle.std.proofs.Common.{◌≡◌, ℕ, ◌<◌, ◌^◌, List, ◌∷◌, ◌++◌, length, Result, Ok, Err, sym, ap, subst, ◌∙◌, inr}
 use Rattle.std.specs.Prelude.{OnOk}
+use Rattle.std.specs.List.{flat_map}
 use Rattle.std.proofs.lemmas.List.{length-map}
-use Rattle.comp_encoder.specs.declared.error.EncodeError.{EncodeError}
-use Rattle.comp_encoder.specs.Numbers.{number_text}
-use Rattle.comp_encoder.specs.Vectors.{vector_text}
-use Rattle.comp_encoder.specs.Builder.{built_tree, shared_group}
-use Rattle.comp_encoder.specs.Writing.{content_text, item_text}
+use Rattle.comp_types.specs.declared.error.EncodeError.{EncodeError}
+use Rattle.comp_types.specs.Numbers.{number_text}
+use Rattle.comp_encoder.specs.Builder.{kept, kept_bytes, kepts_of, item_of, shared_group}
+use Rattle.comp_encoder.specs.Writing.{content_text}
 use Rattle.comp_encoder.proofs.GroupLaws.{shared_content}
 use Rattle.comp_encoder.proofs.groups.write_shared.Goals as goal
 
-content_is : (c : goal.After-drop-content-2) → c.deref.result.now ≡ content_text (shared_group c.args.id c.args.items.now)
+content_is : (c : goal.After-drop-content-2) → c.deref.result.now ≡ content_text (shared_group c.args.id (kepts_of c.args.items.now))
 content_is c =
-    c.deref.ensures.value ∙ c.in_ok-write_vector.ensures ∙ ap (λ (front : List ℕ). front ++ vector_text (λ item. item_text (built_tree item)) c.args.items.now) c.new-content.ensures.items ∙ sym (shared_content c.args.id c.args.items.now c.requires.shared)
+    let items = c.args.items.now in
+    c.deref.ensures.value ∙ c.in_ok-write_items.ensures ∙ ap (λ (front : List ℕ). front ++ (number_text (length items) ++ flat_map kept_bytes (kepts_of items))) c.new-content.ensures.items
+    ∙ ap (λ n. number_text n ++ flat_map kept_bytes (kepts_of items)) (sym (length-map items kept))
+    ∙ sym (shared_content c.args.id (kepts_of items) c.requires.vector c.requires.fit c.requires.alike)
 
 on_ok : {P Q : Type 0} (r : Result (Unit {0}) EncodeError) → (P → Q) → OnOk r P → OnOk r Q
 on_ok (Ok x) f h = f h
@@ -23,9 +26,10 @@ returns-clause-text c =
 
 pub returns-clause-fits : goal.returns-clause-fits
 returns-clause-fits c =
+    let items = c.args.items.now in
     on_ok c.write_section.result
     (λ (fits : length c.deref.result.now < 2 ^ 32). record {
-      count = subst (λ n. n < 2 ^ 32) (sym (length-map c.args.items.now built_tree)) c.in_ok-short.ensures.fits;
+      count = subst (λ n. n < 2 ^ 32) (sym (length-map (kepts_of items) (λ k. item_of c.args.id (kept_bytes k)) ∙ length-map items kept)) c.in_ok-short.ensures.fits;
       bytes = subst (λ (t : List ℕ). length t < 2 ^ 32) (content_is c) fits;
     })
     c.write_section.ensures.fits

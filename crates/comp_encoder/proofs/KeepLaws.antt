@@ -1,0 +1,70 @@
+-- The bytes of an item read as it.
+use Rattle.std.proofs.Common.{◌≡◌, ℕ, ◌<◌, ◌^◌, List, [], ◌++◌, length, Result, Ok, Err, Vec, Global, refl, ap, subst, ◌∙◌, sym, arith}
+use Rattle.std.specs.Prelude.{IfOk, OnOk}
+use Rattle.std.proofs.lemmas.List.{append-nil}
+use Rattle.comp_types.specs.declared.error.EncodeError.{EncodeError}
+use Rattle.comp_types.specs.declared.types.InstanceItem.{InstanceItem}
+use Rattle.comp_types.specs.declared.types.Alias.{Alias}
+use Rattle.comp_types.specs.Numbers.{FormOf}
+use Rattle.comp_types.specs.Vectors.{ReaderOf}
+use Rattle.comp_types.specs.CoreTypes.{CoreTree, CoreForm, core_text}
+use Rattle.comp_types.specs.Definitions.{TypeTree, DefForm, definition_text}
+use Rattle.comp_types.specs.Parts.{InstanceForm, AliasForm, instance_at, alias_at, instance_text, alias_text}
+use Rattle.comp_types.specs.Items.{ImportTree, ExportTree, ItemTree, CoreTy, Component, Instance, Aliased, Ty, Import, Export, ImportForm, ExportForm, import_at, export_at, import_text, export_text}
+use Rattle.comp_types.specs.Fits.{FitsItem, FitsCore, FitsDefinition, FitsInstance, FitsAlias, FitsImport, FitsExport, IsComponent}
+use Rattle.comp_types.proofs.VectorLaws.{IsComplete}
+use Rattle.comp_types.proofs.PartLaws.{instance_again, instance_written, alias_again, alias_written}
+use Rattle.comp_types.proofs.CoreTypeLaws.{core_again, core_written}
+use Rattle.comp_types.proofs.DefinitionLaws.{definition_again, definition_written}
+use Rattle.comp_types.proofs.ScopeLaws.{core_within, definition_within}
+use Rattle.comp_types.proofs.ItemLaws.{import_again, import_written, export_again, export_written}
+use Rattle.comp_encoder.specs.Writing.{item_id, item_text}
+use Rattle.comp_encoder.specs.Builder.{IsBytesOf, item_of, read_as}
+
+-- what is written is read again, to the end
+reads_back : {X : Type 0} (one : ReaderOf X) (One : FormOf X) (text : X → List ℕ) (x : X) → IsComplete one One → ((rest : List ℕ) → One x (text x ++ rest) rest) → one (text x) ≡ Ok (x, [])
+reads_back one One text x complete written = complete x (text x) [] (subst (λ (t : List ℕ). One x t []) (append-nil (text x)) (written []))
+
+pub bytes_component : (bytes : List ℕ) → IsComponent bytes → IsBytesOf (Component bytes) 4 bytes
+unfolding item_of
+bytes_component bytes fits = record { is = refl; id_is = refl; text = refl; fits = fits }
+
+pub bytes_instance : (i : InstanceItem) → FitsInstance i → IsBytesOf (Instance i) 5 (instance_text i)
+unfolding item_of
+bytes_instance i fits = record { is = ap (read_as Instance) (reads_back instance_at InstanceForm instance_text i instance_again (λ rest. instance_written i rest fits)); id_is = refl; text = refl; fits = fits }
+
+pub bytes_alias : (a : Alias) → FitsAlias a → IsBytesOf (Aliased a) 6 (alias_text a)
+unfolding item_of
+bytes_alias a fits = record { is = ap (read_as Aliased) (reads_back alias_at AliasForm alias_text a alias_again (λ rest. alias_written a rest fits)); id_is = refl; text = refl; fits = fits }
+
+pub bytes_import : (i : ImportTree) → FitsImport i → IsBytesOf (Import i) 10 (import_text i)
+unfolding item_of
+bytes_import i fits = record { is = ap (read_as Import) (reads_back import_at ImportForm import_text i import_again (λ rest. import_written i rest fits)); id_is = refl; text = refl; fits = fits }
+
+pub bytes_export : (e : ExportTree) → FitsExport e → IsBytesOf (Export e) 11 (export_text e)
+unfolding item_of
+bytes_export e fits = record { is = ap (read_as Export) (reads_back export_at ExportForm export_text e export_again (λ rest. export_written e rest fits)); id_is = refl; text = refl; fits = fits }
+
+pub bytes_type : (t : TypeTree) → FitsDefinition t → IsBytesOf (Ty t) 7 (definition_text t)
+unfolding item_of
+bytes_type t fits =
+    let text : List ℕ = definition_text t in
+    let form : DefForm t text [] = subst (λ (bytes : List ℕ). DefForm t bytes []) (append-nil text) (definition_written t [] fits) in
+    record { is = ap (read_as Ty) (definition_again t (length text) text [] (omega (arith, definition_within t text [] form)) form); id_is = refl; text = refl; fits = fits }
+
+pub bytes_core : (t : CoreTree) → FitsCore t → IsBytesOf (CoreTy t) 3 (core_text t)
+unfolding item_of
+bytes_core t fits =
+    let text : List ℕ = core_text t in
+    let form : CoreForm t text [] = subst (λ (bytes : List ℕ). CoreForm t bytes []) (append-nil text) (core_written t [] fits) in
+    record { is = ap (read_as CoreTy) (core_again t (length text) text [] (omega (arith, core_within t text [] form)) form); id_is = refl; text = refl; fits = fits }
+
+-- an item is told by its bytes
+pub bytes_of_it : (item : ItemTree) (id : ℕ) (bytes : List ℕ) → IsBytesOf item id bytes → IsBytesOf (item_of id bytes) id bytes
+bytes_of_it item id bytes h = record { is = refl; id_is = ap item_id h.is ∙ h.id_is; text = ap item_text h.is ∙ h.text; fits = subst FitsItem (sym h.is) h.fits }
+
+-- bytes that were written, where their largest number is small
+pub if_written : (r : Result (Vec ℕ Global) EncodeError) (written : List ℕ) (largest : ℕ) (item : ItemTree) (id : ℕ) → IfOk r (λ bytes. bytes.items ≡ written) → OnOk r (largest < 2 ^ 32) → (largest < 2 ^ 32 → IsBytesOf item id written)
+    → IfOk r (λ bytes. IsBytesOf item id bytes.items)
+if_written (Ok bytes) written largest item id text small is = subst (IsBytesOf item id) (sym text) (is small)
+if_written (Err e) written largest item id text small is = tt

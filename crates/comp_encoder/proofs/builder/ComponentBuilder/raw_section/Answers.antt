@@ -1,0 +1,63 @@
+use Rattle.std.proofs.Common.{◌≡◌, ◌+◌, ◌≤◌, ◌<◌, ◌^◌, ℕ, List, ◌∷◌, ◌++◌, [], length, Result, Err, sym, ap, subst, ◌∙◌, arith, inl, inr}
+use Rattle.std.specs.Prelude.{◌⊎◌, slice_index}
+use Rattle.std.proofs.lemmas.List.{map-append}
+use Rattle.std.proofs.lemmas.Result.{err_from_is_err_and}
+use Rattle.comp_types.specs.declared.error.EncodeError.{EncodeError}
+use Rattle.comp_types.specs.declared.error.EncodeError.TheVariants as encode_error
+use Rattle.comp_types.specs.declared.types.Sort.{Sort}
+use Rattle.comp_types.specs.Items.{ItemTree}
+use Rattle.comp_types.specs.Sections.{ContentForm}
+use Rattle.comp_types.specs.Spaces.{space_of}
+use Rattle.comp_encoder.specs.Writing.{RawSection, next_index, numbered}
+use Rattle.comp_encoder.specs.Builder.{Kept, Whole, IsBuilt, kept, kepts_of, entries_of}
+use Rattle.comp_encoder.proofs.CountLaws.{section_built, entries_section}
+use Rattle.comp_encoder.proofs.builder.ComponentBuilder.raw_section.Goals as goal
+
+-- which number is too large, by what index spaces number in place of their counts
+told : (length n : ℕ) (had has more : Sort → ℕ) → ((kind : Sort) → had kind ≡ has kind) → ((n ≡ length) ⊎ ((n ≡ 2 ^ 32) × ((kind : Sort) × (2 ^ 32 ≤ had kind + more kind))))
+    → ((n ≡ length) ⊎ ((n ≡ 2 ^ 32) × ((kind : Sort) × (2 ^ 32 ≤ has kind + more kind))))
+told length n had has more same (inl h) = inl h
+told length n had has more same (inr h) = inr (h.0, (h.1.0, omega (arith, h.1.1, same h.1.0)))
+
+abbrev failed : {A : Type 0} → EncodeError → Result A EncodeError
+failed x = Err x
+
+err_is : {A : Type 0} (x y : EncodeError) → failed {A = A} x ≡ failed y → x ≡ y
+err_is x y e = cc
+
+pub invariant_of-self-2 : goal.invariant_of-self-2
+invariant_of-self-2 c =
+    let is = c.requires.1 in
+    let ks : List Kept = kepts_of c.self.inside.items.items in
+    let content : List ℕ = c.in_ok-content.content.items in
+    let new : kepts_of c.push.new.self.items ≡ ks ++ Whole c.args.id content ∷ [] = ap kepts_of c.in_ok-push.ensures.items ∙ map-append kept c.self.inside.items.items _ in
+    let form : ContentForm is.section content = subst (ContentForm is.section) (sym c.in_ok-content.ensures.items) is.form in
+    subst (λ (js : List Kept). IsBuilt js c.in_ok-counts.counts) (sym new)
+    (
+    section_built ks c.self.inside.counts c.in_ok-counts.counts c.args.id content is.section c.self.invariant is.id_is form
+    (λ kind. c.in_ok-counts.ensures.counted c.requires.0 is kind ∙ ap (λ (items : List ItemTree). slice_index c.self.inside.counts (space_of kind) + numbered kind items) (sym is.items_are))
+    c.in_ok-counts.ensures.small
+    )
+
+pub returns-clause-added : goal.returns-clause-added
+returns-clause-added c = λ items is.
+    let ks : List Kept = kepts_of c.self.inside.items.items in
+    let content : List ℕ = c.in_ok-content.content.items in
+    let same : content ≡ c.args.content.now = c.in_ok-content.ensures.items in
+    let form : ContentForm is.section content = subst (ContentForm is.section) (sym same) is.form in
+    ap (λ built. entries_of (kepts_of built)) c.in_ok-push.ensures.items ∙ ap entries_of (map-append kept c.self.inside.items.items _) ∙ entries_section ks c.args.id content is.section is.id_is form
+    ∙ ap (λ (xs : List ItemTree). entries_of ks ++ RawSection c.args.id content xs ∷ []) is.items_are ∙ ap (λ (bytes : List ℕ). entries_of ks ++ RawSection c.args.id bytes items ∷ []) same
+    ∙ ap (λ (js : List Kept). entries_of js ++ RawSection c.args.id c.args.content.now items ∷ []) c.self.view_is
+
+pub returns-clause-small : goal.returns-clause-small
+returns-clause-small c = λ kind.
+    let built : IsBuilt (kepts_of c.push.new.self.items) c.in_ok-counts.counts = invariant_of-self-2 c in
+    subst (λ n. n < 2 ^ 32) (built.counted kind) (built.small kind)
+
+pub returns-in_err-counts-clause-too_large : goal.returns-in_err-counts-clause-too_large
+returns-in_err-counts-clause-too_large c = λ items is n e.
+    let p = err_from_is_err_and c.from_residual.result c.from_residual.ensures.1 in
+    let same : p.0 ≡ encode_error.TooLarge n = err_is p.0 (encode_error.TooLarge n) (sym p.1 ∙ e) in
+    let refused = c.in_err-counts.ensures.too_large items is n (ap (λ (x : EncodeError). Err x) (sym p.2 ∙ same)) in
+    let sizes = λ (kind : Sort). c.self.invariant.counted kind ∙ ap (λ (ks : List Kept). next_index kind (entries_of ks)) c.self.view_is in
+    (refused.0, told (length c.args.content.now) n (λ kind. slice_index c.self.inside.counts (space_of kind)) (λ kind. next_index kind (entries_of c.args.self.now)) (λ kind. numbered kind items) sizes refused.1)

@@ -1,4 +1,0 @@
-use Rattle.comp_encoder.proofs.write.+write_leb.Given as goal
-
-abbrev pub decreases-write_leb : goal.decreases-write_leb
-decreases-write_leb l = l.most
