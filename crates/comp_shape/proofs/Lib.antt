@@ -1,7 +1,4 @@
-pub mod Powers
-pub mod ManyLaws
-pub mod FrameLaws
-pub mod PlainLaws
-pub mod ReadLaws
+pub mod FirstLaws
+pub mod PartLaws
 pub mod ShapeLaws
 pub mod NameLaws

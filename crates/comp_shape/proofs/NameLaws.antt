@@ -1,24 +1,22 @@
 -- The names of exports are not empty.
-use Rattle.std.proofs.Common.{◌≡◌, ℕ, ◌<◌, Bool, true, false, cond, List, [], ◌∷◌, ◌++◌, length, map, All, Option, Some, None, refl, sym, ap, subst, ◌∙◌, inl, inr}
+use Rattle.std.proofs.Common.{◌≡◌, ℕ, ◌<◌, Bool, true, false, cond, List, [], ◌∷◌, ◌++◌, length, map, All, Option, Some, None, refl, sym, subst, inl, inr}
 use Rattle.std.specs.Prelude.{slice_get, option_map, option_and_then}
 use Rattle.std.specs.List.{AllByRecursion}
 use Rattle.std.proofs.lemmas.List.Elements.{All-from_recursion}
-use Rattle.comp_encoder.specs.declared.types.DefType.{DefType}
-use Rattle.comp_encoder.specs.Vectors.{Many}
-use Rattle.comp_encoder.specs.Items.{ExportTree, ItemTree, Component, Instance, Aliased, Ty, Export, ExportName, ExportForm}
-use Rattle.comp_encoder.specs.Sections.{Section, Nested, Instances, Aliases, Types, Exports, Sections, none, more, ContentForm, SectionsForm, section_items, items_in}
+use Rattle.comp_types.specs.Vectors.{Many}
+use Rattle.comp_types.specs.Definitions.{TypeTree}
+use Rattle.comp_types.specs.Items.{ExportTree, ItemTree, Ty, Export, ExportName, ExportForm}
+use Rattle.comp_types.specs.Sections.{Section, Types, Exports, Sections, none, more, ContentForm, SectionsForm, section_items, items_in}
 use Rattle.comp_shape.specs.declared.shape.Entity.{Entity}
-use Rattle.comp_shape.specs.FirstForm.{IsFirstForm, AreFirstForm, InFirstForm}
-use Rattle.comp_shape.specs.Shape.{ValueTree, Value, EntityTree, IsType, ShapeTree, Known, is_taken, with_export, after, after_all, nothing_known, shape}
+use Rattle.comp_shape.specs.FirstForm.{is_first_form, are_first_form, InFirstForm}
+use Rattle.comp_shape.specs.Shape.{ValueTree, Value, EntityTree, IsType, ShapeTree, Known, definition_tree, is_taken, with_export, after, after_all, nothing_known, shape}
 use Rattle.comp_shape.specs.Views.{entries}
+use Rattle.comp_shape.proofs.FirstLaws.{both}
 
 -- an item's name is not empty
 abbrev HasName : ItemTree → Type 0
-HasName (Component bytes) = Unit {0}
-HasName (Instance item) = Unit {0}
-HasName (Aliased item) = Unit {0}
-HasName (Ty item) = Unit {0}
 HasName (Export e) = 0 < length e.name
+HasName _ = Unit {0}
 
 export_name : (name bytes rest : List ℕ) → ExportName name bytes rest → 0 < length name
 export_name name bytes rest (inl h) = h.2.not_empty
@@ -28,7 +26,7 @@ exports_named : (es : List ExportTree) (bytes rest : List ℕ) → Many ExportFo
 exports_named [] bytes rest h = tt
 exports_named (e ∷ es) bytes rest h = (export_name e.name bytes h.1.0 h.1.1, exports_named es h.0 rest h.2)
 
-types_named : (ts : List DefType) → AllByRecursion HasName (map Ty ts)
+types_named : (ts : List TypeTree) → AllByRecursion HasName (map Ty ts)
 types_named [] = tt
 types_named (t ∷ ts) = (tt, types_named ts)
 
@@ -36,16 +34,16 @@ both_named : (xs ys : List ItemTree) → AllByRecursion HasName xs → AllByRecu
 both_named [] ys h k = k
 both_named (x ∷ xs) ys h k = (h.0, both_named xs ys h.1 k)
 
-section_named : (s : Section) (content : List ℕ) → IsFirstForm s → ContentForm s content → AllByRecursion HasName (section_items s)
-section_named (Nested bytes inner) content h k = absurd h
-section_named (Instances items) content h k = absurd h
-section_named (Aliases items) content h k = absurd h
+section_named : (s : Section) (content : List ℕ) → is_first_form s ≡ true → ContentForm s content → AllByRecursion HasName (section_items s)
 section_named (Types items) content h k = types_named items
 section_named (Exports items) content h k = exports_named items k.0 [] k.2
+section_named _ content h k = absurd cc
 
-sections_named : (ss : Sections) (bytes : List ℕ) → AreFirstForm ss → SectionsForm ss bytes → AllByRecursion HasName (items_in ss)
+sections_named : (ss : Sections) (bytes : List ℕ) → are_first_form ss ≡ true → SectionsForm ss bytes → AllByRecursion HasName (items_in ss)
 sections_named none bytes h k = tt
-sections_named (more s ss) bytes h k = both_named (section_items s) (items_in ss) (section_named s k.0 h.0 k.3) (sections_named ss k.1 h.1 k.4)
+sections_named (more s ss) bytes h k =
+    let first = both (is_first_form s) (are_first_form ss) h in
+    both_named (section_items s) (items_in ss) (section_named s k.0 first.0 k.3) (sections_named ss k.1 first.1 k.4)
 
 -- entries whose names are not empty
 abbrev AreNamed : List (List ℕ × EntityTree) → Type 0
@@ -66,13 +64,15 @@ export_kept : (k n : Known) (e : ExportTree) (o : Option ValueTree) → 0 < leng
 export_kept k n e None name h is = absurd cc
 export_kept k n e (Some t) name h is = chosen (is_taken e.name k.exports) k n (e.name, IsType (Value t)) _ name h is
 
+type_kept : (k n : Known) (o : Option ValueTree) → AreNamed k.exports → option_map (λ t. record k { types = k.types ++ t ∷ [] }) o ≡ Some n → AreNamed n.exports
+type_kept k n None h is = absurd cc
+type_kept k n (Some t) h is = subst (λ (m : Known). AreNamed m.exports) (some_is _ n is) h
+
 kept : (k n : Known) (item : ItemTree) → HasName item → AreNamed k.exports → after k item ≡ Some n → AreNamed n.exports
 unfolding after
-kept k n (Component bytes) name h is = absurd cc
-kept k n (Instance item) name h is = absurd cc
-kept k n (Aliased item) name h is = absurd cc
-kept k n (Ty d) name h is = subst (λ (m : Known). AreNamed m.exports) (some_is _ n is) h
+kept k n (Ty d) name h is = type_kept k n (definition_tree d) h is
 kept k n (Export e) name h is = export_kept k n e (slice_get k.types e.index) name h is
+kept k n _ name h is = absurd cc
 
 all_kept : (k n : Known) (items : List ItemTree) → AllByRecursion HasName items → AreNamed k.exports → after_all k items ≡ Some n → AreNamed n.exports
 unfolding after_all

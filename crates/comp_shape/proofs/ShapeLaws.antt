@@ -1,19 +1,24 @@
 -- One export more.
-use Rattle.std.proofs.Common.{◌≡◌, ◌<◌, ◌+◌, ℕ, suc, length, get_or, take, drop, drop-cons, Bool, true, false, ◌||◌, List, [], ◌∷◌, ◌++◌, map, Option, Some, None, refl, sym, ap, subst, ◌∙◌}
-use Rattle.std.specs.Prelude.{bytes_eq, slice_get, option_and_then}
+use Rattle.std.proofs.Common.{◌≡◌, ◌<◌, ◌+◌, ℕ, suc, length, get_or, take, drop, drop-cons, Bool, true, false, ◌||◌, List, [], ◌∷◌, ◌++◌, map, Option, Some, None, refl, sym, ap, ◌∙◌}
+use Rattle.std.specs.Prelude.{bytes_eq, slice_get, option_map, option_and_then}
 use Rattle.std.specs.Prelude.{All}
-use Rattle.std.specs.List.{AllByRecursion, list_any}
+use Rattle.std.specs.List.{AllByRecursion, list_all, list_any}
 use Rattle.std.specs.Str.{str_to_ascii_lowercase}
 use Rattle.std.proofs.lemmas.List.{map_push, map-append, take_more, take-append-drop}
 use Rattle.std.proofs.lemmas.List.Elements.{All-from_recursion}
-use Rattle.comp_encoder.specs.declared.types.Item.{Item}
-use Rattle.comp_encoder.specs.declared.types.DefType.{DefType}
-use Rattle.comp_encoder.specs.Sections.{Section, Nested, Instances, Aliases, Types, Exports, Sections, none, more, section_items, items_in}
-use Rattle.comp_shape.specs.FirstForm.{IsPlainExport, IsPlainItem, IsFirstForm, AreFirstForm, InFirstForm}
+use Rattle.comp_types.specs.declared.types.Item.{Item}
+use Rattle.comp_types.specs.declared.types.DefType.{DefType}
+use Rattle.comp_types.specs.declared.types.DefinedType.TheVariants as defined
+use Rattle.comp_types.specs.declared.types.ValType.{ValType}
+use Rattle.comp_types.specs.declared.types.ValType.TheVariants as value
+use Rattle.comp_types.specs.Definitions as definition
+use Rattle.comp_types.specs.Items.{ExportTree, ItemTree, Ty, Export, item_tree}
+use Rattle.comp_types.specs.Views as types
+use Rattle.comp_shape.specs.FirstForm.{InFirstForm, is_primitive, is_plain_type, is_plain_item}
 use Rattle.comp_shape.specs.declared.shape.Entity.{Entity}
-use Rattle.comp_encoder.specs.Items.{ExportTree, ItemTree, Ty, Export, item_tree}
-use Rattle.comp_shape.specs.Shape.{ValueTree, Value, EntityTree, IsType, Known, is_taken, with_export, after, after_all, nothing_known}
-use Rattle.comp_shape.specs.Views.{entries}
+use Rattle.comp_shape.specs.Shape.{ValueTree, Primitive, Value, EntityTree, IsType, Known, part_trees, definition_tree, is_taken, with_export, after, after_all, nothing_known}
+use Rattle.comp_shape.specs.Views.{entries, tree_in, plain_tree, IsPlain}
+use Rattle.comp_shape.proofs.FirstLaws.{both, plain_items}
 
 some_is : {X : Type 0} (x y : X) → Some x ≡ Some y → x ≡ y
 some_is x y e = cc
@@ -78,36 +83,35 @@ loop_adds items i d k n lt e here =
     ap (λ (l : List Item). after_all nothing_known (map item_tree l)) (take_more items i d lt) ∙ ap (after_all nothing_known) (map_push item_tree (take i items) (get_or items i d))
     ∙ after_push nothing_known k n (map item_tree (take i items)) (item_tree (get_or items i d)) e here
 
--- ---- items of the first form
+-- ---- types and items of the first form
 
-exports_plain : (es : List ExportTree) → AllByRecursion IsPlainExport es → AllByRecursion IsPlainItem (map Export es)
-exports_plain [] h = tt
-exports_plain (e ∷ es) h = (h.0, exports_plain es h.1)
+parts_have_trees : (parts : List ValType) → list_all is_primitive parts ≡ true → (ts : List ValueTree) × (part_trees parts ≡ Some ts)
+parts_have_trees [] e = ([], refl)
+parts_have_trees (value.Primitive p ∷ parts) e = let later = parts_have_trees parts e in (Primitive p ∷ later.0, rw later.1 refl)
+parts_have_trees (value.Index i ∷ parts) e = absurd cc
 
-types_plain : (ts : List DefType) → AllByRecursion IsPlainItem (map Ty ts)
-types_plain [] = tt
-types_plain (t ∷ ts) = (tt, types_plain ts)
+-- a type of the first form has a tree
+pub has_tree : (d : definition.TypeTree) → is_plain_type d ≡ true → definition_tree d ≡ Some (tree_in (definition_tree d))
+has_tree (definition.Defined (defined.Primitive p)) e = refl
+has_tree (definition.Defined (defined.TupleOf parts)) e = let trees = parts_have_trees parts e in rw trees.1 refl
+has_tree (definition.Defined _) e = absurd cc
+has_tree _ e = absurd cc
 
-both_plain : (xs ys : List ItemTree) → AllByRecursion IsPlainItem xs → AllByRecursion IsPlainItem ys → AllByRecursion IsPlainItem (xs ++ ys)
-both_plain [] ys h k = k
-both_plain (x ∷ xs) ys h k = (h.0, both_plain xs ys h.1 k)
+-- and stands in the index space of types
+pub type_added : (k : Known) (d : definition.TypeTree) → is_plain_type d ≡ true → after k (Ty d) ≡ Some (record k { types = k.types ++ tree_in (definition_tree d) ∷ [] })
+unfolding after
+type_added k d e = ap (λ (o : Option ValueTree). option_map (λ t. record k { types = k.types ++ t ∷ [] }) o) (has_tree d e)
 
-section_plain : (s : Section) → IsFirstForm s → AllByRecursion IsPlainItem (section_items s)
-section_plain (Nested bytes inner) h = absurd h
-section_plain (Instances items) h = absurd h
-section_plain (Aliases items) h = absurd h
-section_plain (Types items) h = types_plain items
-section_plain (Exports items) h = exports_plain items h
+-- the tree of a type of the first form is that which is made
+pub tree_is : (t : DefType) (v : ValueTree) → Some v ≡ definition_tree (types.type_tree t) → plain_tree t ≡ v
+tree_is t v e = ap tree_in (sym e)
 
-sections_plain : (ss : Sections) → AreFirstForm ss → AllByRecursion IsPlainItem (items_in ss)
-sections_plain none h = tt
-sections_plain (more s ss) h = both_plain (section_items s) (items_in ss) (section_plain s h.0) (sections_plain ss h.1)
+pub no_tree : (t : DefType) → IsPlain t → None ≡ definition_tree (types.type_tree t) → ⊥
+no_tree t plain e = let some : None ≡ Some (plain_tree t) = e ∙ has_tree (types.type_tree t) plain in absurd cc
 
-each_plain : (items : List Item) → AllByRecursion IsPlainItem (map item_tree items) → AllByRecursion (λ i. IsPlainItem (item_tree i)) items
-each_plain [] h = tt
-each_plain (i ∷ is) h = (h.0, each_plain is h.1)
+each_plain : (items : List Item) → list_all is_plain_item (map item_tree items) ≡ true → AllByRecursion (λ i. is_plain_item (item_tree i) ≡ true) items
+each_plain [] e = tt
+each_plain (i ∷ is) e = let h = both (is_plain_item (item_tree i)) (list_all is_plain_item (map item_tree is)) e in (h.0, each_plain is h.1)
 
-pub are_plain : (bytes : List ℕ) (items : List Item) → InFirstForm bytes (map item_tree items) → All (λ i. IsPlainItem (item_tree i)) items
-are_plain bytes items h =
-    let Plain : Item → Type 0 = λ i. IsPlainItem (item_tree i) in
-    All-from_recursion Plain items (each_plain items (subst (AllByRecursion IsPlainItem) (sym h.items_are) (sections_plain h.sections h.first)))
+pub are_plain : (bytes : List ℕ) (items : List Item) → InFirstForm bytes (map item_tree items) → All (λ i. is_plain_item (item_tree i) ≡ true) items
+are_plain bytes items h = let Plain : Item → Type 0 = λ i. is_plain_item (item_tree i) ≡ true in All-from_recursion Plain items (each_plain items (plain_items bytes (map item_tree items) h))

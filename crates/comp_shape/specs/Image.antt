@@ -2,14 +2,14 @@
 -- which export of which instance each of its exports is, all indices followed through aliases and earlier exports.
 use Rattle.std.specs.Prelude.{ℕ, List, [], ◌∷◌, ◌++◌, length, map, Option, Some, None, slice_get, option_map, option_and_then, ◌==◌}
 use Rattle.std.specs.List.{filter}
-use Rattle.comp_encoder.specs.declared.types.Sort.{Sort}
-use Rattle.comp_encoder.specs.declared.types.Sort.TheVariants as sort
-use Rattle.comp_encoder.specs.declared.types.TypeRef.{TypeRef}
-use Rattle.comp_encoder.specs.declared.types.Arg.{Arg}
-use Rattle.comp_encoder.specs.declared.types.InstanceItem.TheVariants as instance
-use Rattle.comp_encoder.specs.declared.types.Alias.TheVariants as alias
-use Rattle.comp_encoder.specs.Items.{ItemTree, Component, Instance, Aliased, Ty, Export}
-use Rattle.comp_encoder.specs.Writing.{space_of}
+use Rattle.comp_types.specs.declared.types.Sort.{Sort}
+use Rattle.comp_types.specs.declared.types.Sort.TheVariants as sort
+use Rattle.comp_types.specs.declared.types.TypeRef.{TypeRef}
+use Rattle.comp_types.specs.declared.types.Arg.{Arg}
+use Rattle.comp_types.specs.declared.types.InstanceItem.TheVariants as instance
+use Rattle.comp_types.specs.declared.types.Alias.TheVariants as alias
+use Rattle.comp_types.specs.Items.{ItemTree, Custom, CoreModule, CoreMade, CoreTy, Component, Instance, Aliased, Ty, Canonical, Import, Export}
+use Rattle.comp_types.specs.Spaces.{space_of}
 use Rattle.comp_shape.specs.Shape.{EntityTree}
 
 -- what an argument is: a whole instance, or an export of one
@@ -82,15 +82,23 @@ abbrev pub arguments : Progress → List Arg → Option (List (List ℕ × ArgOf
 arguments p [] = Some []
 arguments p (a ∷ args) = option_and_then (λ of. option_map (λ later. (a.name, of) ∷ later) (arguments p args)) (as_argument (stands p a.sort a.index))
 
--- one item more
+-- one item more, where it is of a kind that has an image
 unfoldable pub seen : Progress → ItemTree → Option Progress
+seen p (Custom name bytes) = None
+seen p (CoreModule bytes) = None
+seen p (CoreMade item) = None
+seen p (CoreTy item) = None
 seen p (Component bytes) = Some (record { image = record p.image { components = p.image.components ++ bytes ∷ [] }; numbered = p.numbered ++ (sort.Component, Nested (length p.image.components)) ∷ [] })
 seen p (Instance (instance.Instantiate component args)) =
     option_and_then (λ n. option_map (λ given. record { image = record p.image { instances = p.image.instances ++ (n, given) ∷ [] }; numbered = p.numbered ++ (sort.Instance, Made (length p.image.instances)) ∷ [] }) (arguments p args))
     (as_nested (stands p sort.Component component))
 seen p (Instance (instance.Exports members)) = None
 seen p (Aliased (alias.Export kind from name)) = option_map (λ k. record p { numbered = p.numbered ++ (kind, Part k name) ∷ [] }) (as_made (stands p sort.Instance from))
+seen p (Aliased (alias.CoreExport kind from name)) = None
+seen p (Aliased (alias.Outer kind count index)) = None
 seen p (Ty d) = Some (record p { numbered = p.numbered ++ (sort.Ty, Own) ∷ [] })
+seen p (Canonical item) = None
+seen p (Import item) = None
 seen p (Export e) = exported e.ty
   where
     exported : Option TypeRef → Option Progress

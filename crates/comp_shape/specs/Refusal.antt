@@ -1,17 +1,27 @@
--- What a reader answers, against the reading of its bytes.
-use Rattle.std.specs.Prelude.{◌≡◌, Result, Ok, Err}
-use Rattle.comp_encoder.specs.Fault.{Fault, Form}
+-- Refusals: those of readers of bytes, and those that each part of a reading of shapes may give.
+use Rattle.comp_reader.specs.declared.error.ReadError.{ReadError}
+use Rattle.comp_reader.specs.declared.error.ReadError.TheVariants as read
 use Rattle.comp_shape.specs.declared.error.ShapeError.{ShapeError}
 use Rattle.comp_shape.specs.declared.error.ShapeError.TheVariants as errors
 
--- A refusal is the reading's fault, unless memory ran out. Readers of bytes refuse only what has no form.
-abbrev pub Fails : {Y : Type 0} → ShapeError → Result Y Fault → Type 0
-Fails errors.Memory read = Unit {0}
-Fails (errors.Form at) read = read ≡ Err Form
-Fails (errors.Index at) read = ⊥
-Fails (errors.NotBuilt at) read = ⊥
+-- a refusal of bytes as that of a shape
+abbrev pub as_shape : ReadError → ShapeError
+as_shape (read.Form at) = errors.Form at
+as_shape (read.NotCarried at) = errors.NotCarried at
+as_shape read.Memory = errors.Memory
 
--- What a reader answers, seen by view, is what the reading gives, unless memory ran out.
-abbrev pub Gives : {X Y : Type 0} → (X → Y) → Result X ShapeError → Result Y Fault → Type 0
-Gives view (Ok x) read = read ≡ Ok (view x)
-Gives view (Err e) read = Fails e read
+abbrev pub IsNotBuiltOrMemory : ShapeError → Type 0
+IsNotBuiltOrMemory errors.Memory = Unit {0}
+IsNotBuiltOrMemory (errors.NotBuilt at) = Unit {0}
+IsNotBuiltOrMemory _ = ⊥
+
+abbrev pub IsIndexOrMemory : ShapeError → Type 0
+IsIndexOrMemory errors.Memory = Unit {0}
+IsIndexOrMemory (errors.Index at) = Unit {0}
+IsIndexOrMemory _ = ⊥
+
+abbrev pub IsOfItems : ShapeError → Type 0
+IsOfItems errors.Memory = Unit {0}
+IsOfItems (errors.Index at) = Unit {0}
+IsOfItems (errors.NotBuilt at) = Unit {0}
+IsOfItems _ = ⊥

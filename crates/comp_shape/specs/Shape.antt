@@ -1,16 +1,15 @@
 -- The shape of a component: its imports and exports, as types with all indices followed (Component Model, Explainer.md,
 -- "Index Spaces").
-use Rattle.std.specs.Prelude.{ℕ, Bool, List, [], ◌∷◌, ◌++◌, Option, Some, None, slice_get, option_map, option_and_then, map, if◌then◌else◌}
+use Rattle.std.specs.Prelude.{ℕ, Bool, List, [], ◌∷◌, ◌++◌, Option, Some, None, slice_get, option_map, option_and_then, if◌then◌else◌}
 use Rattle.std.specs.List.{list_any}
 use Rattle.std.specs.Str.{str_eq_ignore_ascii_case}
-use Rattle.comp_encoder.specs.declared.types.Primitive.{Primitive as PrimitiveType}
-use Rattle.comp_encoder.specs.declared.types.ValType.{ValType}
-use Rattle.comp_encoder.specs.declared.types.ValType.TheVariants as value
-use Rattle.comp_encoder.specs.declared.types.DefinedType.{DefinedType}
-use Rattle.comp_encoder.specs.declared.types.DefinedType.TheVariants as defined
-use Rattle.comp_encoder.specs.declared.types.DefType.{DefType}
-use Rattle.comp_encoder.specs.declared.types.DefType.TheVariants as definition
-use Rattle.comp_encoder.specs.Items.{ExportTree, ItemTree, Component, Instance, Aliased, Ty, Export}
+use Rattle.comp_types.specs.declared.types.Primitive.{Primitive as PrimitiveType}
+use Rattle.comp_types.specs.declared.types.ValType.{ValType}
+use Rattle.comp_types.specs.declared.types.ValType.TheVariants as value
+use Rattle.comp_types.specs.declared.types.DefinedType.{DefinedType}
+use Rattle.comp_types.specs.declared.types.DefinedType.TheVariants as defined
+use Rattle.comp_types.specs.Definitions as definition
+use Rattle.comp_types.specs.Items.{ExportTree, ItemTree, Ty, Export}
 
 -- a value type as a tree
 mutual
@@ -33,20 +32,27 @@ pub record ShapeTree : Type 0 where
   pub imports : List (List ℕ × EntityTree)
   pub exports : List (List ℕ × EntityTree)
 
--- a type that a component defines, as a tree
-abbrev pub part_tree : ValType → ValueTree
-part_tree (value.Primitive p) = Primitive p
+-- a type that a component defines as a tree, where it is a primitive or a tuple of primitives
+abbrev pub part_tree : ValType → Option ValueTree
+part_tree (value.Primitive p) = Some (Primitive p)
+part_tree (value.Index i) = None
+
+abbrev pub part_trees : List ValType → Option (List ValueTree)
+part_trees [] = Some []
+part_trees (part ∷ parts) = option_and_then (λ t. option_map (λ ts. t ∷ ts) (part_trees parts)) (part_tree part)
 
 abbrev pub trees_of : List ValueTree → ValueTrees
 trees_of [] = none
 trees_of (t ∷ ts) = more t (trees_of ts)
 
-abbrev pub defined_tree : DefinedType → ValueTree
-defined_tree (defined.Primitive p) = Primitive p
-defined_tree (defined.TupleOf parts) = TupleOf (trees_of (map part_tree parts))
+abbrev pub defined_tree : DefinedType → Option ValueTree
+defined_tree (defined.Primitive p) = Some (Primitive p)
+defined_tree (defined.TupleOf parts) = option_map (λ ts. TupleOf (trees_of ts)) (part_trees parts)
+defined_tree _ = None
 
-abbrev pub definition_tree : DefType → ValueTree
+abbrev pub definition_tree : definition.TypeTree → Option ValueTree
 definition_tree (definition.Defined d) = defined_tree d
+definition_tree _ = None
 
 -- What stands in the index space of types after some items, and what they export.
 pub record Known : Type 0 where
@@ -62,11 +68,9 @@ abbrev pub with_export : Known → ExportTree → ValueTree → Option Known
 with_export k e t = if is_taken e.name k.exports then None else Some (record { types = k.types ++ t ∷ []; exports = k.exports ++ (e.name, IsType (Value t)) ∷ [] })
 
 unfoldable pub after : Known → ItemTree → Option Known
-after k (Component bytes) = None
-after k (Instance item) = None
-after k (Aliased item) = None
-after k (Ty d) = Some (record k { types = k.types ++ definition_tree d ∷ [] })
+after k (Ty d) = option_map (λ t. record k { types = k.types ++ t ∷ [] }) (definition_tree d)
 after k (Export e) = option_and_then (with_export k e) (slice_get k.types e.index)
+after k _ = None
 
 unfoldable pub after_all : Known → List ItemTree → Option Known
 after_all k [] = Some k

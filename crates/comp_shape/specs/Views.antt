@@ -1,6 +1,9 @@
 -- Shapes as trees, wherever they lie in memory.
-use Rattle.std.specs.Prelude.{◌≡◌, ℕ, List, map}
+use Rattle.std.specs.Prelude.{◌≡◌, ℕ, List, map, All, Option, Some, None, true}
 use Rattle.std.specs.Str.{str_to_ascii_lowercase}
+use Rattle.comp_types.specs.declared.types.DefType.{DefType}
+use Rattle.comp_types.specs.Views as types
+use Rattle.comp_shape.specs.FirstForm.{is_plain_type}
 use Rattle.comp_shape.specs.declared.shape.ValueShape.{ValueShape, fold-ValueShape}
 use Rattle.comp_shape.specs.declared.shape.ValueShape.TheOpen.{ValueShape-F}
 use Rattle.comp_shape.specs.declared.shape.ValueShape.TheOpen as layer
@@ -10,9 +13,7 @@ use Rattle.comp_shape.specs.declared.shape.Entity.{Entity}
 use Rattle.comp_shape.specs.declared.shape.Entity.TheVariants as entity
 use Rattle.comp_shape.specs.declared.shape.Shape.{Shape}
 use Rattle.comp_shape.specs.declared.space.Space.{Space}
-use Rattle.comp_shape.specs.declared.error.ShapeError.{ShapeError}
-use Rattle.comp_shape.specs.declared.error.ShapeError.TheVariants as errors
-use Rattle.comp_shape.specs.Shape.{Known, definition_tree, trees_of, ValueTree, Primitive, TupleOf, TypeTree, Value, EntityTree, IsType, ShapeTree}
+use Rattle.comp_shape.specs.Shape.{Known, definition_tree, ValueTree, none, trees_of, Primitive, TupleOf, TypeTree, Value, EntityTree, IsType, ShapeTree}
 
 abbrev pub value_step : ValueShape-F ValueTree → ValueTree
 value_step (layer.Primitive p) = Primitive p
@@ -33,17 +34,25 @@ entries es = map (λ e. (e.0, entity_tree e.1)) es
 abbrev pub shape_tree : Shape → ShapeTree
 shape_tree s = record { imports = entries s.imports.items; exports = entries s.exports.items }
 
+-- the tree of a type of the first form. Of other types it is the empty tuple, which is the tree of no type.
+abbrev pub tree_in : Option ValueTree → ValueTree
+tree_in (Some t) = t
+tree_in None = TupleOf none
+
+abbrev pub plain_tree : DefType → ValueTree
+plain_tree t = tree_in (definition_tree (types.type_tree t))
+
 -- what a space knows
 abbrev pub known : Space → Known
-known s = record { types = map (λ t. definition_tree t.now) s.types.items; exports = entries s.exports.items }
+known s = record { types = map (λ t. plain_tree t.now) s.types.items; exports = entries s.exports.items }
 
 -- the names of a space are those of its exports, in lower case
 abbrev pub IsNamed : Space → Type 0
 IsNamed s = s.names.keys ≡ map (λ e. str_to_ascii_lowercase e.0) s.exports.items
 
--- refusals of items
-abbrev pub IsIndexOrMemory : ShapeError → Type 0
-IsIndexOrMemory errors.Memory = Unit {0}
-IsIndexOrMemory (errors.Form at) = ⊥
-IsIndexOrMemory (errors.Index at) = Unit {0}
-IsIndexOrMemory (errors.NotBuilt at) = ⊥
+-- the types of a space are of the first form
+abbrev pub IsPlain : DefType → Type 0
+IsPlain t = is_plain_type (types.type_tree t) ≡ true
+
+abbrev pub ArePlain : Space → Type 0
+ArePlain s = All (λ t. IsPlain t.now) s.types.items

@@ -1,15 +1,13 @@
 //! The shape of a WebAssembly component: what it imports and what it exports, as types with all indices followed.
 //!
-//! The binary format is that of the Component Model's `Binary.md`. Components of the first form are read: sections
-//! of primitive and tuple types, and of exports of types without a description.
+//! The binary format is that of the Component Model's `Binary.md`. Items are read of all components. Shapes are those of
+//! components of the first form: sections of primitive types and tuples of these, and of exports of types without a
+//! description.
 #![tactic(auto)]
 
 mod error;
-mod frames;
+mod first_form;
 mod items;
-mod parts;
-mod places;
-mod read;
 mod shape;
 mod space;
 mod values;

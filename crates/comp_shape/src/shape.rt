@@ -1,6 +1,6 @@
 //! Shapes: what a component imports and exports.
 
-use comp_encoder::Primitive;
+use comp_types::Primitive;
 use warg_base::Text;
 
 /// A value type, with all indices followed.

@@ -1,7 +1,7 @@
 //! What is known after some items: the index space of types, and the exports.
 
 use crate::shape::Entity;
-use comp_encoder::DefType;
+use comp_types::DefType;
 use indexmap::IndexSet;
 use warg_base::Text;
 

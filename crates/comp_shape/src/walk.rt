@@ -1,28 +1,34 @@
 //! Shapes from items, item by item.
 
-ghost use Rattle.std.specs.Prelude.{◌≡◌, ◌<◌, ◌++◌, ◌∷◌, ℕ, length, All, List, Some, None, map, OnOk, OnErr, IfOk, IfErr, IfSome, IfNone, Err, slice_get, bytes_eq};
+ghost use Rattle.std.specs.Prelude.{◌≡◌, ◌<◌, ◌++◌, ◌∷◌, ℕ, length, All, List, Some, None, true, map, OnOk, OnErr, IfOk, IfErr, IfSome, IfNone, Err, slice_get, bytes_eq};
 ghost use Rattle.std.specs.List.{list_any};
-ghost use Rattle.comp_encoder.specs.declared.types.Sort.TheVariants as sort;
-ghost use Rattle.comp_encoder.specs.Items.{ItemTree, Export, item_tree};
-ghost use Rattle.comp_shape.specs.Shape.{after, after_all, definition_tree, nothing_known, shape};
-ghost use Rattle.comp_shape.specs.FirstForm.{InFirstForm, IsFramed, IsPlainItem};
-ghost use Rattle.comp_shape.specs.Views.{known, shape_tree, IsNamed, IsIndexOrMemory};
+ghost use Rattle.comp_types.specs.declared.types.Sort.TheVariants as sort;
+ghost use Rattle.comp_types.specs.Fault.{Form as no_form, NotCarried as not_carried};
+ghost use Rattle.comp_types.specs.Items.{ItemTree, Export, item_tree};
+ghost use Rattle.comp_types.specs.Sections.{Reads, component_at};
+ghost use Rattle.comp_shape.specs.Shape.{after, after_all, nothing_known, shape};
+ghost use Rattle.comp_shape.specs.FirstForm.{InFirstForm, is_plain_item};
+ghost use Rattle.comp_shape.specs.Refusal.{IsIndexOrMemory, IsOfItems};
+ghost use Rattle.comp_shape.specs.Views.{known, plain_tree, shape_tree, IsNamed, IsPlain, ArePlain};
 
 use crate::error::ShapeError;
+use crate::first_form::check_first_form;
 use crate::items::read_items;
-use crate::places::item_place;
 use crate::shape::{Entity, Shape, TypeShape};
 use crate::space::Space;
 use crate::values::value_of;
-use comp_encoder::{DefType, Item};
+use comp_reader::item_place;
+use comp_types::{DefType, Item};
 use indexmap::IndexSet;
 use std::alloc::Global;
 use warg_base::Text;
 
 /// The type of an index.
 fn type_at<'a>(types: &[&'a DefType], index: u32) -> Option<&'a DefType>
-    ensures there { IfSome result (λ t. slice_get (map (λ d. definition_tree d.now) types.now) index ≡ Some (definition_tree t.now)) }
-    ensures absent { IfNone result (slice_get (map (λ d. definition_tree d.now) types.now) index ≡ None) }
+    requires { All (λ t. IsPlain t.now) types.now }
+    ensures plain { IfSome result (λ t. IsPlain t.now) }
+    ensures there { IfSome result (λ t. slice_get (map (λ t. plain_tree t.now) types.now) index ≡ Some (plain_tree t.now)) }
+    ensures absent { IfNone result (slice_get (map (λ t. plain_tree t.now) types.now) index ≡ None) }
 {
     let index = index as usize;
     if index < types.len() {
@@ -48,8 +54,10 @@ fn add_export(
     name: &Text,
     index: u32,
 ) -> Result<(), ShapeError>
-    requires { IsNamed space.old }
+    requires has_names { IsNamed space.old }
+    requires has_plain { ArePlain space.old }
     ensures named { OnOk result (IsNamed space.new) }
+    ensures plain { OnOk result (ArePlain space.new) }
     ensures added { OnOk result (after (known space.old) (Export (record { name = name.now; sort = sort.Ty; index = index; ty = None })) ≡ Some (known space.new)) }
     ensures index { (at : ℕ) → result ≡ Err (ShapeError.Index at) → after (known space.old) (Export (record { name = name.now; sort = sort.Ty; index = index; ty = None })) ≡ None }
     ensures only { IfErr result IsIndexOrMemory }
@@ -61,7 +69,10 @@ fn add_export(
     if is_taken(&space.names, &lower) {
         return Err(ShapeError::Index(number));
     }
-    let entity = Entity::Ty(TypeShape::Value(value_of(alloc, ty)?));
+    let Some(value) = value_of(alloc, ty)? else {
+        return Err(ShapeError::Index(number));
+    };
+    let entity = Entity::Ty(TypeShape::Value(value));
     let name = name.try_clone(alloc)?;
     space.types.push(ty)?;
     space.exports.push((name, entity))?;
@@ -77,9 +88,11 @@ fn add_item<'a>(
     number: usize,
     item: &'a Item<'a>,
 ) -> Result<(), ShapeError>
-    requires plain { IsPlainItem (item_tree item.now) }
+    requires of_first_form { is_plain_item (item_tree item.now) ≡ true }
     requires has_names { IsNamed space.old }
+    requires has_plain { ArePlain space.old }
     ensures named { OnOk result (IsNamed space.new) }
+    ensures plain { OnOk result (ArePlain space.new) }
     ensures added { OnOk result (after (known space.old) (item_tree item.now) ≡ Some (known space.new)) }
     ensures index { (at : ℕ) → result ≡ Err (ShapeError.Index at) → after (known space.old) (item_tree item.now) ≡ None }
     ensures only { IfErr result IsIndexOrMemory }
@@ -90,15 +103,13 @@ fn add_item<'a>(
             Ok(())
         }
         Item::Export { name, index, .. } => add_export(alloc, space, number, name, *index),
-        Item::Component { .. } | Item::Instance(_) | Item::Alias(_) => Err(ShapeError::Index(
-            number,
-        )),
+        _ => Err(ShapeError::Index(number)),
     }
 }
 
 /// What is known after all items.
 fn space_of<'a>(alloc: Global, items: &'a [Item<'a>]) -> Result<Space<'a>, ShapeError>
-    requires { All (λ item. IsPlainItem (item_tree item)) items.now }
+    requires { All (λ item. is_plain_item (item_tree item) ≡ true) items.now }
     ensures known { IfOk result (λ space. after_all nothing_known (map item_tree items.now) ≡ Some (known space)) }
     ensures index { (at : ℕ) → result ≡ Err (ShapeError.Index at) → after_all nothing_known (map item_tree items.now) ≡ None }
     ensures only { IfErr result IsIndexOrMemory }
@@ -116,23 +127,20 @@ fn space_of<'a>(alloc: Global, items: &'a [Item<'a>]) -> Result<Space<'a>, Shape
     Ok(space)
 }
 
-/// The shape of a component of the first form.
-///
-/// `Form` and `NotBuilt` are those of [`read_items`]. `Index` is answered exactly where the component is of the first
-/// form, and an export names a type whose index is not there yet, or has the name of an earlier one, ASCII letter case
-/// set aside, with the place of that export (`Explainer.md`, "Index Spaces" and "Import and Export Definitions").
-pub fn read_shape(alloc: Global, bytes: &[u8]) -> Result<Shape, ShapeError>
-    ensures found { IfOk result (λ s. (items : List ItemTree) × InFirstForm bytes.now items × (shape items ≡ Some (shape_tree s))) }
+/// The shape of a component, which was read as these items.
+fn shape_of<'a>(alloc: Global, bytes: &[u8], items: &'a [Item<'a>]) -> Result<Shape, ShapeError>
+    requires { Reads bytes.now (map item_tree items.now) }
+    ensures found { IfOk result (λ s. InFirstForm bytes.now (map item_tree items.now) × (shape (map item_tree items.now) ≡ Some (shape_tree s))) }
     ensures named { IfOk result (λ s. All (λ e. 0 < length e.0) s.exports.items) }
-    ensures form { (at : ℕ) → result ≡ Err (ShapeError.Form at) → IsFramed bytes.now → ⊥ }
-    ensures not_built { (at : ℕ) → result ≡ Err (ShapeError.NotBuilt at) → IsFramed bytes.now × ((items : List ItemTree) → InFirstForm bytes.now items → ⊥) }
-    ensures index { (at : ℕ) → result ≡ Err (ShapeError.Index at) → (items : List ItemTree) × InFirstForm bytes.now items × (shape items ≡ None) }
+    ensures not_built { (at : ℕ) → result ≡ Err (ShapeError.NotBuilt at) → (others : List ItemTree) → InFirstForm bytes.now others → ⊥ }
+    ensures index { (at : ℕ) → result ≡ Err (ShapeError.Index at) → InFirstForm bytes.now (map item_tree items.now) × (shape (map item_tree items.now) ≡ None) }
+    ensures only { IfErr result IsOfItems }
 {
-    let items = match read_items(alloc, bytes) {
-        Ok(items) => items,
+    match check_first_form(alloc, bytes, items) {
+        Ok(()) => {}
         Err(error) => return Err(error),
-    };
-    match space_of(alloc, &items) {
+    }
+    match space_of(alloc, items) {
         Ok(space) => {
             let Space { exports, .. } = space;
             Ok(Shape {
@@ -140,7 +148,30 @@ pub fn read_shape(alloc: Global, bytes: &[u8]) -> Result<Shape, ShapeError>
                 exports,
             })
         }
-        Err(ShapeError::Index(number)) => Err(ShapeError::Index(item_place(alloc, bytes, number))),
+        Err(ShapeError::Index(number)) => Err(ShapeError::Index(
+            item_place(alloc, bytes, number).item,
+        )),
+        Err(_) => Err(ShapeError::Memory),
+    }
+}
+
+/// The shape of a component of the first form.
+///
+/// `Form` and `NotCarried` are those of [`read_items`]. `NotBuilt` is answered exactly where that reads the bytes, and a
+/// section is no vector of primitive types and tuples of these, and no vector of exports of types without a description,
+/// with the place of the first such section's id. `Index` is answered exactly where the component is of the first form,
+/// and an export names a type whose index is not there yet, or has the name of an earlier one, ASCII letter case set
+/// aside, with the place of that export (`Explainer.md`, "Index Spaces" and "Import and Export Definitions").
+pub fn read_shape(alloc: Global, bytes: &[u8]) -> Result<Shape, ShapeError>
+    ensures found { IfOk result (λ s. (items : List ItemTree) × InFirstForm bytes.now items × (shape items ≡ Some (shape_tree s))) }
+    ensures named { IfOk result (λ s. All (λ e. 0 < length e.0) s.exports.items) }
+    ensures form { (at : ℕ) → result ≡ Err (ShapeError.Form at) → component_at 200 bytes.now ≡ Err no_form }
+    ensures not_carried { (at : ℕ) → result ≡ Err (ShapeError.NotCarried at) → component_at 200 bytes.now ≡ Err not_carried }
+    ensures not_built { (at : ℕ) → result ≡ Err (ShapeError.NotBuilt at) → (items : List ItemTree) × Reads bytes.now items × ((others : List ItemTree) → InFirstForm bytes.now others → ⊥) }
+    ensures index { (at : ℕ) → result ≡ Err (ShapeError.Index at) → (items : List ItemTree) × InFirstForm bytes.now items × (shape items ≡ None) }
+{
+    match read_items(alloc, bytes) {
+        Ok(items) => shape_of(alloc, bytes, &items),
         Err(error) => Err(error),
     }
 }

@@ -3,10 +3,11 @@ use Rattle.std.proofs.lemmas.Result.{err_from_is_err_and}
 use Rattle.comp_shape.specs.declared.error.ShapeError.{ShapeError}
 use Rattle.comp_shape.specs.declared.error.ShapeError.TheVariants as errors
 use Rattle.comp_shape.specs.Shape.{after, after_all}
-use Rattle.comp_encoder.specs.declared.types.Item.{Item}
-use Rattle.comp_encoder.specs.Items.{item_tree}
+use Rattle.comp_types.specs.declared.types.Item.{Item}
+use Rattle.comp_types.specs.Items.{item_tree}
 use Rattle.comp_shape.specs.Views.{known}
 use Rattle.comp_shape.proofs.ShapeLaws.{loop_stops, loop_adds}
+use Rattle.std.proofs.lemmas.List.Elements.{All-nil}
 use Rattle.comp_shape.proofs.walk.space_of.Goals as goal
 
 abbrev failed : {A : Type 0} → ShapeError → Result A ShapeError
@@ -17,7 +18,7 @@ err_is x y e = cc
 
 pub loop-item-init : goal.loop-item-init
 unfolding after_all
-loop-item-init c = (rw (c.new.ensures.items, c.new-3.ensures.items) refl, rw c.new-3.ensures.items c.new-2.ensures.empty, refl)
+loop-item-init c = (rw (c.new.ensures.items, c.new-3.ensures.items) refl, rw c.new-3.ensures.items c.new-2.ensures.empty, rw c.new.ensures.items (All-nil _), refl)
 
 pub returns-in_err-add_item-clause-index : goal.returns-in_err-add_item-clause-index
 returns-in_err-add_item-clause-index c = λ at e.
@@ -30,5 +31,9 @@ pub loop-item-preserved : goal.loop-item-preserved
 loop-item-preserved c = (
   loop_adds c.args.items.now c.loop-item.item-index c.item-item.result (known c.loop-item.space) _ c.loop-item-test.true c.loop-item.invariant.0 (subst (λ (i : Item). after (known c.loop-item.space) (item_tree i) ≡ Some (known c.add_item.new.space)) c.item-item.is c.in_ok-add_item.ensures.added),
   c.in_ok-add_item.ensures.named,
-  ap (λ n. n + 1) c.loop-item.invariant.2,
+  c.in_ok-add_item.ensures.plain,
+  ap (λ n. n + 1) c.loop-item.invariant.3,
 )
+
+pub add_item-requires-clause-has_plain : goal.add_item-requires-clause-has_plain
+add_item-requires-clause-has_plain c = c.loop-item.invariant.2

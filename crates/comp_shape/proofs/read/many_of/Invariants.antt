@@ -1,7 +1,0 @@
-use Rattle.std.proofs.Common.{◌≡◌, ◌-◌, map}
-use Rattle.comp_encoder.specs.Vectors.{many_at}
-use Rattle.comp_shape.proofs.ManyLaws.{with_front}
-use Rattle.comp_shape.proofs.read.many_of.Given as goal
-
-abbrev pub invariant-loop : goal.invariant-loop
-invariant-loop g l = with_front (map g.T.Field.tree l.values.items) (many_at g.T.Field.tree_at (l.count - l.counter) l.rest) ≡ many_at g.T.Field.tree_at l.count l.bytes

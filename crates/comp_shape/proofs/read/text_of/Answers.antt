@@ -1,9 +1,0 @@
-use Rattle.std.proofs.lemmas.Bool.{false_from_ne_true}
-use Rattle.std.proofs.lemmas.Str.{is_utf8-from_IsUtf8, IsUtf8-from_is_utf8}
-use Rattle.comp_shape.proofs.read.text_of.Goals as goal
-
-pub returns-in-Ok : goal.returns-in-Ok
-returns-in-Ok c = let h = c.in-Ok.ensures.cases in (is_utf8-from_IsUtf8 c.args.bytes.now h.1, h.0)
-
-pub returns-in-Err : goal.returns-in-Err
-returns-in-Err c = false_from_ne_true _ (λ e. c.in-Err.ensures.cases.0 (IsUtf8-from_is_utf8 c.args.bytes.now e))

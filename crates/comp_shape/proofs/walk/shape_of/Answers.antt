@@ -1,0 +1,16 @@
+use Rattle.std.proofs.Common.{[], map, refl, ap}
+use Rattle.std.specs.Prelude.{option_map}
+use Rattle.comp_types.specs.Items.{item_tree}
+use Rattle.comp_shape.specs.Shape.{Known}
+use Rattle.comp_shape.specs.Views.{entries}
+use Rattle.comp_shape.proofs.NameLaws.{exports_have_names}
+use Rattle.comp_shape.proofs.ShapeLaws.{are_plain}
+use Rattle.comp_shape.proofs.walk.shape_of.Goals as goal
+
+pub space_of-requires : goal.space_of-requires
+space_of-requires c = are_plain c.args.bytes.now c.args.items.now c.in-Ok.ensures.first
+
+pub returns-in-Ok-space_of-clause-named : goal.returns-in-Ok-space_of-clause-named
+returns-in-Ok-space_of-clause-named c =
+    exports_have_names c.args.bytes.now (map item_tree c.args.items.now) c.in-Ok-space_of.space.exports.items (record { imports = []; exports = entries c.in-Ok-space_of.space.exports.items }) c.in-Ok.ensures.first
+    (ap (option_map (λ (k : Known). record { imports = []; exports = k.exports })) c.in-Ok-space_of.ensures.known) refl
