@@ -1,14 +1,16 @@
 -- Bytes that are refused have no shape.
-use Rattle.std.proofs.Common.{◌≡◌, ◌∙◌, ◌⊎◌, inl, inr, ap, map, ◌≤◌, ◌<◌, arith, refl, length, get_or, sym, subst, ℕ, List, [], ◌∷◌, Some, None, Option, IfSome}
+use Rattle.std.proofs.Common.{◌≡◌, ◌∙◌, ◌⊎◌, inl, inr, ap, map, ◌≤◌, ◌<◌, arith, refl, length, get_or, sym, subst, ℕ, List, [], ◌∷◌, Some, None, Option, Result, Ok, Err, IfSome}
 use Rattle.std.proofs.lemmas.Option.{same_Some}
 use Rattle.warg_base.specs.Faults.{Rose}
 use Rattle.warg_base.specs.Files.{FileMap, file_at}
-use Rattle.comp_encoder.specs.Items.{ItemTree}
-use Rattle.comp_encoder.specs.Sections.{Sections, none, more, SectionsForm, section_id}
-use Rattle.comp_encoder.proofs.SectionLaws.{reads_once}
+use Rattle.comp_types.specs.Fault.{Fault, Form, NotCarried, TooDeep}
+use Rattle.comp_types.specs.Items.{ItemTree}
+use Rattle.comp_types.specs.Sections.{Sections, ComponentForm, component_at}
+use Rattle.comp_types.proofs.SectionLaws.{reads_once}
+use Rattle.comp_types.proofs.DepthLaws.{component_within}
 use Rattle.comp_shape.specs.declared.error.ShapeError.{ShapeError}
 use Rattle.comp_shape.specs.declared.error.ShapeError.TheVariants as errors
-use Rattle.comp_shape.specs.FirstForm.{InFirstForm, IsFramed, Frames}
+use Rattle.comp_shape.specs.FirstForm.{InFirstForm}
 use Rattle.comp_shape.specs.Shape.{ShapeTree, shape}
 use Rattle.wasm_compose.specs.Component.{IsRefused, RefusedAt}
 use Rattle.wasm_compose.specs.Link.{LinkFits}
@@ -17,28 +19,37 @@ use Rattle.warg_program.specs.declared.stop.Stop.TheVariants as stop
 use Rattle.warg_program.specs.Lines.{status_of}
 use Rattle.warg_program.specs.Run.{Exports, HasFile, IsCause, IsLink, OutFailed}
 
--- sections are framed
-sections_framed : (ss : Sections) (bytes : List ℕ) → SectionsForm ss bytes → (fs : List (ℕ × List ℕ)) × Frames fs bytes
-sections_framed none bytes h = ([], h)
-sections_framed (more s ss) bytes h =
-    let later = sections_framed ss h.1 h.4 in
-    ((section_id s, h.0) ∷ later.0, (h.1, h.2, later.1))
+abbrev failed : Fault → Result Sections Fault
+failed fault = Err fault
 
-first_framed : (bytes : List ℕ) (items : List ItemTree) → InFirstForm bytes items → IsFramed bytes
-first_framed bytes items h = (h.form.0, h.form.1, sections_framed h.sections h.form.0 h.form.2)
+-- what has a form is read, or has too many open scopes
+no_form : (ss : Sections) (bytes : List ℕ) → ComponentForm ss bytes → component_at 200 bytes ≡ Err Form → ⊥
+no_form ss bytes h e =
+    elim (component_within ss 200 bytes h) [
+      | inl deep ↦ let same : failed TooDeep ≡ failed Form = sym deep ∙ e in absurd cc
+      | inr read ↦ let same : Ok ss ≡ failed Form = sym read ∙ e in absurd cc
+    ]
 
--- and of one list of items
+not_carried : (ss : Sections) (bytes : List ℕ) → ComponentForm ss bytes → component_at 200 bytes ≡ Err NotCarried → ⊥
+not_carried ss bytes h e =
+    elim (component_within ss 200 bytes h) [
+      | inl deep ↦ let same : failed TooDeep ≡ failed NotCarried = sym deep ∙ e in absurd cc
+      | inr read ↦ let same : Ok ss ≡ failed NotCarried = sym read ∙ e in absurd cc
+    ]
+
+-- the items of a component of the first form
 first_once : (bytes : List ℕ) (a b : List ItemTree) → InFirstForm bytes a → InFirstForm bytes b → a ≡ b
 first_once bytes a b h k = reads_once bytes a b (h.sections, h.items_are, h.form) (k.sections, k.items_are, k.form)
 
 pub no_shape : (e : ShapeError) (bytes : List ℕ) → IsRefused e bytes → (names : List (List ℕ)) → Exports bytes names → ⊥
 no_shape errors.Memory bytes h names x = h
-no_shape (errors.Form at) bytes h names x = h (first_framed bytes x.items x.form)
+no_shape (errors.Form at) bytes h names x = no_form x.form.sections bytes x.form.form h
+no_shape (errors.NotCarried at) bytes h names x = not_carried x.form.sections bytes x.form.form h
 no_shape (errors.Index at) bytes h names x =
     let same = first_once bytes h.0 x.items h.1 x.form in
     let nothing : IfSome (shape h.0) (λ _. ⊥) = rw h.2 tt in
     subst (λ s. IfSome s (λ _. ⊥)) x.shape_is (subst (λ items. IfSome (shape items) (λ _. ⊥)) same nothing)
-no_shape (errors.NotBuilt at) bytes h names x = h.1 x.items x.form
+no_shape (errors.NotBuilt at) bytes h names x = h.2 x.items x.form
 
 pub refused : (e : ShapeError) (told : Option FileMap) (root : List ℕ) → RefusedAt e told root → (bytes : List ℕ) × HasFile told root bytes × ((names : List (List ℕ)) → Exports bytes names → ⊥)
 refused e told root h = (h.0, h.1, no_shape e h.0 h.2)

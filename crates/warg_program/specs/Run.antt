@@ -2,7 +2,7 @@
 use Rattle.std.specs.Prelude.{◌≡◌, ◌⊎◌, ℕ, List, [], ◌∷◌, ◌++◌, map, codes, Option, Some, None, IfSome}
 use Rattle.warg_base.specs.Faults.{Rose}
 use Rattle.warg_base.specs.Files.{FileMap, PartlyWritten, file_at, with_file}
-use Rattle.comp_encoder.specs.Items.{ItemTree}
+use Rattle.comp_types.specs.Items.{ItemTree}
 use Rattle.comp_shape.specs.FirstForm.{InFirstForm}
 use Rattle.comp_shape.specs.Shape.{ShapeTree, shape}
 use Rattle.wasm_compose.specs.Link.{IsLinked, LinkFits}

@@ -2,8 +2,8 @@
 //! hashes are those of `sha256sum`.
 
 use crate::run::run;
-use comp_encoder::Sort;
 use comp_shape::{ShapeError, read_items, read_shape};
+use comp_types::Sort;
 use std::alloc::Global;
 use std::rt::HostRuntime;
 use std::test::Fail;
@@ -101,6 +101,19 @@ fn a_component_with_a_custom_section_is_refused(rt: HostRuntime) -> Result<(), F
 }
 
 #[test]
+fn a_component_with_an_import_is_refused(rt: HostRuntime) -> Result<(), Fail> {
+    let alloc = rt.alloc();
+    // It imports a component `c` of a type without declarations.
+    let root = b"\0asm\r\0\x01\0\x07\x03\x01\x41\0\x0a\x06\x01\0\x01c\x04\0";
+    let mut files = files(alloc, root)?;
+    let (status, out) = link(alloc, &mut files)?;
+    assert_eq!(rt; status, 6);
+    assert_eq!(rt; out.bytes(), b"refused BadComponent\n".as_slice());
+    assert_eq!(rt; read_items(alloc, root)?.len(), 2);
+    Ok(())
+}
+
+#[test]
 fn a_missing_component_is_named(rt: HostRuntime) -> Result<(), Fail> {
     let alloc = rt.alloc();
     let mut files = MemoryFiles::new(alloc);
@@ -163,6 +176,20 @@ fn a_refused_component_tells_the_place_of_the_fault(rt: HostRuntime) -> Result<(
         matches!(
             read_shape(alloc, b"\0asm\x01\0\0\0"),
             Err(ShapeError::Form(4))
+        )
+    );
+    // A section that is longer than what is left.
+    assert!(rt;
+        matches!(
+            read_shape(alloc, b"\0asm\r\0\x01\0\x07\x03\x01\x79"),
+            Err(ShapeError::Form(10))
+        )
+    );
+    // The id of a start section.
+    assert!(rt;
+        matches!(
+            read_shape(alloc, b"\0asm\r\0\x01\0\x09\x01\0"),
+            Err(ShapeError::NotCarried(8))
         )
     );
     // The id of a custom section.

@@ -2,16 +2,16 @@
 use Rattle.std.proofs.Common.{◌≡◌, ◌∙◌, subst, take, get_or, sym, ap, refl, ℕ, ◌+◌, ◌*◌, ◌^◌, ◌<◌, List, [], ◌∷◌, ◌++◌, length, map, Option, Some, None, slice_get, filter, option_map, option_and_then, arith}
 use Rattle.std.proofs.lemmas.List.{append-nil, map-append, map_push, take_more, get_or-map, length-map, append_assoc, length-append, length-take}
 use Rattle.std.proofs.lemmas.List.Elements.{filter-append, All-append, All-nil, All-cons}
-use Rattle.std.proofs.lemmas.List.Sums.{sum_by-append}
-use Rattle.comp_encoder.specs.declared.types.Sort.{Sort}
-use Rattle.comp_encoder.specs.declared.types.Sort.TheVariants as sort
-use Rattle.comp_encoder.specs.declared.types.Alias.TheVariants as alias
-use Rattle.comp_encoder.specs.Items.{ItemTree, Aliased, Export}
-use Rattle.comp_encoder.specs.Writing.{next_index}
+use Rattle.comp_types.specs.declared.types.Sort.{Sort}
+use Rattle.comp_types.specs.declared.types.Sort.TheVariants as sort
+use Rattle.comp_types.specs.declared.types.Alias.TheVariants as alias
+use Rattle.comp_types.specs.Items.{ItemTree, Aliased, Export}
+use Rattle.comp_encoder.specs.Writing.{Entry, Single, items_of, next_index}
+use Rattle.comp_encoder.proofs.CountLaws.{next_append}
 use Rattle.comp_shape.specs.Image.{Image, Exported, Progress, Standing, Part, Made, image, seen, seen_all, space, stands, as_made, as_part}
 use Rattle.comp_shape.specs.declared.shape.Entity.{Entity}
 use Rattle.comp_shape.specs.Views.{entries}
-use Rattle.wasm_compose.specs.Link.{NamesFit, link_exports, link_items, link_image}
+use Rattle.wasm_compose.specs.Link.{NamesFit, link_exports, link_items, link_image, singles}
 
 -- what an export of the instance adds
 abbrev pub export_items : ℕ → List ℕ → List ItemTree
@@ -24,9 +24,18 @@ exports_push start (first ∷ names) name =
     ap (λ (l : List ItemTree). export_items start first ++ l) (exports_push (start + 2) names name ∙ ap (λ i. link_exports (start + 2) names ++ export_items i name) (omega arith))
 
 -- two types for each name
-pub exports_types : (start : ℕ) (names : List (List ℕ)) → next_index sort.Ty (link_exports start names) ≡ 2 * length names
+pub exports_types : (start : ℕ) (names : List (List ℕ)) → next_index sort.Ty (singles (link_exports start names)) ≡ 2 * length names
 exports_types start [] = refl
-exports_types start (name ∷ names) = sum_by-append _ (export_items start name) (link_exports (start + 2) names) ∙ ap (λ n. 2 + n) (exports_types (start + 2) names) ∙ omega arith
+exports_types start (name ∷ names) = next_append sort.Ty (singles (export_items start name)) (singles (link_exports (start + 2) names)) ∙ ap (λ n. 2 + n) (exports_types (start + 2) names) ∙ omega arith
+
+-- an alias of a type is one type more
+pub alias_counts : (old new : List Entry) (name : List ℕ) → new ≡ old ++ Single (Aliased (alias.Export sort.Ty 0 name)) ∷ [] → next_index sort.Ty new ≡ next_index sort.Ty old + 1
+alias_counts old new name e = ap (next_index sort.Ty) e ∙ next_append sort.Ty old (Single (Aliased (alias.Export sort.Ty 0 name)) ∷ [])
+
+-- items that are added one by one
+pub items_single : (items : List ItemTree) → items_of (singles items) ≡ items
+items_single [] = refl
+items_single (item ∷ items) = ap (λ (l : List ItemTree). item ∷ l) (items_single items)
 
 -- the last of a list
 last_is : {X : Type 0} (xs : List X) (x : X) (n : ℕ) → length xs ≡ n → slice_get (xs ++ x ∷ []) n ≡ Some x
@@ -114,26 +123,29 @@ abbrev FitsLength : List ℕ → Type 0
 FitsLength name = length name < 2 ^ 32
 
 -- The items of some exports were added, and their names fit.
-pub record HasLinked (old new : List ItemTree) (names : List (List ℕ)) : Type 0 where
-  pub added : new ≡ old ++ link_exports 0 names
+pub record HasLinked (old new : List Entry) (names : List (List ℕ)) : Type 0 where
+  pub added : new ≡ old ++ singles (link_exports 0 names)
   pub fits : NamesFit names
 
-pub types_linked : (old new : List ItemTree) (names : List (List ℕ)) → next_index sort.Ty old ≡ 0 → HasLinked old new names → next_index sort.Ty new ≡ 2 * length names
+pub types_linked : (old new : List Entry) (names : List (List ℕ)) → next_index sort.Ty old ≡ 0 → HasLinked old new names → next_index sort.Ty new ≡ 2 * length names
 types_linked old new names first h =
-    ap (next_index sort.Ty) h.added ∙ sum_by-append _ old (link_exports 0 names) ∙ omega (arith, first, exports_types 0 names)
+    ap (next_index sort.Ty) h.added ∙ next_append sort.Ty old (singles (link_exports 0 names)) ∙ omega (arith, first, exports_types 0 names)
 
-pub linked_none : (old : List ItemTree) → HasLinked old old []
+pub linked_none : (old : List Entry) → HasLinked old old []
 linked_none old = record {
   added = sym (append-nil old);
   fits = record { lengths = All-nil _; types = omega arith };
 }
 
-pub linked_more : (old new newer : List ItemTree) (names : List (List ℕ)) (name : List ℕ) → next_index sort.Ty old ≡ 0 → HasLinked old new names → newer ≡ new ++ link_exports (next_index sort.Ty new) (name ∷ []) → length name < 2 ^ 32 → next_index sort.Ty new + 2 < 2 ^ 32 → HasLinked old newer (names ++ name ∷ [])
+pub linked_more : (old new newer : List Entry) (names : List (List ℕ)) (name : List ℕ) → next_index sort.Ty old ≡ 0 → HasLinked old new names → newer ≡ new ++ singles (link_exports (next_index sort.Ty new) (name ∷ [])) → length name < 2 ^ 32 → next_index sort.Ty new + 2 < 2 ^ 32 → HasLinked old newer (names ++ name ∷ [])
 linked_more old new newer names name first h more short room =
-    let counted = types_linked old new names first h in record {
+    let counted = types_linked old new names first h in
+    let pushed : singles (link_exports 0 names) ++ singles (export_items (2 * length names) name) ≡ singles (link_exports 0 (names ++ name ∷ [])) =
+    sym (map-append Single (link_exports 0 names) (export_items (2 * length names) name)) ∙ ap singles (ap (λ i. link_exports 0 names ++ export_items i name) (omega arith) ∙ sym (exports_push 0 names name)) in
+    record {
       added =
-          more ∙ ap (λ i. new ++ export_items i name) counted ∙ ap (λ (l : List ItemTree). l ++ export_items (2 * length names) name) h.added
-          ∙ append_assoc old (link_exports 0 names) (export_items (2 * length names) name) ∙ ap (λ (l : List ItemTree). old ++ l) (ap (λ i. link_exports 0 names ++ export_items i name) (omega arith) ∙ sym (exports_push 0 names name));
+          more ∙ ap (λ i. new ++ singles (export_items i name)) counted ∙ ap (λ (l : List Entry). l ++ singles (export_items (2 * length names) name)) h.added
+          ∙ append_assoc old (singles (link_exports 0 names)) (singles (export_items (2 * length names) name)) ∙ ap (λ (l : List Entry). old ++ l) pushed;
       fits = record {
         lengths = All-append FitsLength names (name ∷ []) h.fits.lengths (All-cons FitsLength name [] short (All-nil FitsLength));
         types = rw (length-append names (name ∷ [])) (omega (arith, counted, room));
@@ -149,13 +161,13 @@ one_fits exports i d h lt =
     )
 
 -- one more of some exports
-pub linked_next : (old new newer : List ItemTree) (exports : List (List ℕ × Entity)) (i : ℕ) (d : List ℕ × Entity) → i < length exports → next_index sort.Ty old ≡ 0 → HasLinked old new (map (λ e. e.0) (take i exports)) → newer ≡ new ++ link_exports (next_index sort.Ty new) ((get_or exports i d).0 ∷ []) → length (get_or exports i d).0 < 2 ^ 32 → next_index sort.Ty new + 2 < 2 ^ 32 → HasLinked old newer (map (λ e. e.0) (take (i + 1) exports))
+pub linked_next : (old new newer : List Entry) (exports : List (List ℕ × Entity)) (i : ℕ) (d : List ℕ × Entity) → i < length exports → next_index sort.Ty old ≡ 0 → HasLinked old new (map (λ e. e.0) (take i exports)) → newer ≡ new ++ singles (link_exports (next_index sort.Ty new) ((get_or exports i d).0 ∷ [])) → length (get_or exports i d).0 < 2 ^ 32 → next_index sort.Ty new + 2 < 2 ^ 32 → HasLinked old newer (map (λ e. e.0) (take (i + 1) exports))
 linked_next old new newer exports i d lt first h more short room =
     let front = ap (map (λ (e : List ℕ × Entity). e.0)) (take_more exports i d lt) ∙ map_push (λ (e : List ℕ × Entity). e.0) (take i exports) (get_or exports i d) in
     subst (λ names. HasLinked old newer names) (sym front) (linked_more old new newer (map (λ e. e.0) (take i exports)) (get_or exports i d).0 first h more short room)
 
 -- So many exports that fit leave room for one more.
-pub room_left : (old new : List ItemTree) (exports : List (List ℕ × Entity)) (i : ℕ) (d : List ℕ × Entity) → i < length exports → next_index sort.Ty old ≡ 0 → HasLinked old new (map (λ e. e.0) (take i exports)) → NamesFit (map (λ e. e.0) exports) → next_index sort.Ty new + 2 < 2 ^ 32
+pub room_left : (old new : List Entry) (exports : List (List ℕ × Entity)) (i : ℕ) (d : List ℕ × Entity) → i < length exports → next_index sort.Ty old ≡ 0 → HasLinked old new (map (λ e. e.0) (take i exports)) → NamesFit (map (λ e. e.0) exports) → next_index sort.Ty new + 2 < 2 ^ 32
 room_left old new exports i d lt first h fits =
     let counted = types_linked old new _ first h in
     let taken = length-map (take i exports) (λ (e : List ℕ × Entity). e.0) in

@@ -1,12 +1,14 @@
 -- What a component shows.
-use Rattle.std.specs.Prelude.{◌≡◌, ℕ, List, [], ◌∷◌, map, Option, Some, None, IfSome}
+use Rattle.std.specs.Prelude.{◌≡◌, ℕ, List, [], ◌∷◌, map, Option, Some, None, Err, IfSome}
 use Rattle.std.specs.List.{flat_map}
 use Rattle.warg_base.specs.Files.{FileMap, file_at}
-use Rattle.comp_encoder.specs.Items.{ItemTree, Component as Nested, Instance, Aliased, Ty, Export}
+use Rattle.comp_types.specs.Fault.{Form, NotCarried}
+use Rattle.comp_types.specs.Items.{ItemTree, Export}
+use Rattle.comp_types.specs.Sections.{Reads, component_at}
 use Rattle.comp_shape.specs.declared.shape.Shape.{Shape}
 use Rattle.comp_shape.specs.declared.error.ShapeError.{ShapeError}
 use Rattle.comp_shape.specs.declared.error.ShapeError.TheVariants as errors
-use Rattle.comp_shape.specs.FirstForm.{InFirstForm, IsFramed}
+use Rattle.comp_shape.specs.FirstForm.{InFirstForm}
 use Rattle.comp_shape.specs.Shape.{ShapeTree, shape}
 use Rattle.comp_shape.specs.Views.{shape_tree}
 use Rattle.wasm_compose.specs.declared.component.Component.{Component}
@@ -36,11 +38,8 @@ export_names c = map (λ e. e.0) (shape_of c).exports
 
 -- the exports among items
 abbrev pub export_in : ItemTree → List ComponentExport
-export_in (Nested bytes) = []
-export_in (Instance item) = []
-export_in (Aliased item) = []
-export_in (Ty item) = []
 export_in (Export e) = (record { name = e.name; sort = e.sort; index = e.index }) ∷ []
+export_in _ = []
 
 -- The bytes have this shape, and these exports.
 pub record IsReadAs (bytes : List ℕ) (s : Shape) (exports : List ComponentExport) : Type 0 where
@@ -57,9 +56,10 @@ pub record IsRead (c : Component) (bytes : List ℕ) : Type 0 where
 -- why bytes have no shape
 abbrev pub IsRefused : ShapeError → List ℕ → Type 0
 IsRefused errors.Memory bytes = ⊥
-IsRefused (errors.Form at) bytes = IsFramed bytes → ⊥
+IsRefused (errors.Form at) bytes = component_at 200 bytes ≡ Err Form
+IsRefused (errors.NotCarried at) bytes = component_at 200 bytes ≡ Err NotCarried
 IsRefused (errors.Index at) bytes = (items : List ItemTree) × InFirstForm bytes items × (shape items ≡ None)
-IsRefused (errors.NotBuilt at) bytes = IsFramed bytes × ((items : List ItemTree) → InFirstForm bytes items → ⊥)
+IsRefused (errors.NotBuilt at) bytes = (items : List ItemTree) × Reads bytes items × ((others : List ItemTree) → InFirstForm bytes others → ⊥)
 
 -- the file at a path has such bytes
 abbrev pub RefusedAt : ShapeError → Option FileMap → List ℕ → Type 0

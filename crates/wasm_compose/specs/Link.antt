@@ -1,12 +1,12 @@
 -- The component that makes one instance of another and exports its exports.
 use Rattle.std.specs.Prelude.{◌≡◌, ℕ, ◌+◌, ◌*◌, ◌<◌, ◌^◌, List, [], ◌∷◌, length, map, All, Some, None}
 use Rattle.std.specs.List.{AllByRecursion}
-use Rattle.comp_encoder.specs.declared.types.Sort.TheVariants as sort
-use Rattle.comp_encoder.specs.declared.types.InstanceItem.TheVariants as instance
-use Rattle.comp_encoder.specs.declared.types.Alias.TheVariants as alias
-use Rattle.comp_encoder.specs.Items.{ItemTree, Component, Instance, Aliased, Export}
-use Rattle.comp_encoder.specs.Sections.{Reads}
-use Rattle.comp_encoder.specs.Writing.{IsShort, groups_of}
+use Rattle.comp_types.specs.declared.types.Sort.TheVariants as sort
+use Rattle.comp_types.specs.declared.types.InstanceItem.TheVariants as instance
+use Rattle.comp_types.specs.declared.types.Alias.TheVariants as alias
+use Rattle.comp_types.specs.Items.{ItemTree, Component, Instance, Aliased, Export}
+use Rattle.comp_types.specs.Sections.{Reads}
+use Rattle.comp_encoder.specs.Writing.{Entry, Single, IsShort, groups_of}
 use Rattle.comp_shape.specs.Image.{Image, image}
 
 -- each export: an alias of the instance's export, and the export of that. Both stand in the index space of types.
@@ -19,6 +19,10 @@ link_exports index (name ∷ names) =
 abbrev pub link_items : List ℕ → List (List ℕ) → List ItemTree
 link_items root names = Component root ∷ Instance (instance.Instantiate 0 []) ∷ link_exports 0 names
 
+-- what is added to a builder for items, one by one
+abbrev pub singles : List ItemTree → List Entry
+singles = map Single
+
 -- the lengths of the names, and the number of types that the exports make
 pub record NamesFit (names : List (List ℕ)) : Type 0 where
   pub lengths : All (λ name. length name < 2 ^ 32) names
@@ -28,7 +32,7 @@ pub record NamesFit (names : List (List ℕ)) : Type 0 where
 pub record LinkFits (root : List ℕ) (names : List (List ℕ)) : Type 0 where
   pub component : length root < 2 ^ 32
   pub names_fit : NamesFit names
-  pub sections : AllByRecursion IsShort (groups_of (link_items root names))
+  pub sections : AllByRecursion IsShort (groups_of (singles (link_items root names)))
 
 -- one component, one instance of it without arguments, no imports, and the component's exports
 abbrev pub link_image : List ℕ → List (List ℕ) → Image

@@ -1,7 +1,7 @@
 //! Components: their bytes, and what these import and export.
 
 ghost use Rattle.std.specs.Prelude.{◌≡◌, ◌<◌, length, All, true, is_ok};
-ghost use Rattle.comp_encoder.specs.Sections.{component_at};
+ghost use Rattle.comp_types.specs.Sections.{component_at};
 ghost use Rattle.wasm_compose.specs.Content.{content_bytes};
 
 use crate::content::Content;
@@ -17,6 +17,6 @@ pub struct Component<'a> {
     pub(crate) content: Content<'a>,
     pub(crate) shape: Shape,
     pub(crate) exports: Vec<ComponentExport>,
-    ghost is_component: { is_ok (component_at (content_bytes content)) ≡ true },
+    ghost is_component: { is_ok (component_at 1 (content_bytes content)) ≡ true },
     ghost named: { All (λ e. 0 < length e.0) shape.exports.items },
 }

@@ -2,7 +2,7 @@
 
 ghost use Rattle.std.specs.Prelude.{◌≡◌};
 
-use comp_encoder::Sort;
+use comp_types::Sort;
 use std::fmt;
 use warg_base::Text;
 

@@ -1,28 +1,30 @@
 //! The component that makes one instance of another, and exports what it exports.
 
 ghost use Rattle.std.specs.Prelude.{◌≡◌, ◌≤◌, ◌<◌, ◌+◌, ◌*◌, ◌++◌, ◌^◌, ℕ, List, [], ◌∷◌, All, length, map, IfOk, OnOk, Err, None};
-ghost use Rattle.comp_encoder.specs.declared.types.Sort.TheVariants as sort;
-ghost use Rattle.comp_encoder.specs.declared.error.EncodeError.TheVariants as encode_error;
-ghost use Rattle.comp_encoder.specs.declared.types.Alias.TheVariants as alias;
-ghost use Rattle.comp_encoder.specs.Items.{Aliased, Export};
-ghost use Rattle.comp_encoder.specs.Writing.{component_text, next_index};
+ghost use Rattle.comp_types.specs.declared.types.Sort.TheVariants as sort;
+ghost use Rattle.comp_types.specs.declared.error.EncodeError.TheVariants as encode_error;
+ghost use Rattle.comp_types.specs.declared.types.Alias.TheVariants as alias;
+ghost use Rattle.comp_types.specs.Items.{Aliased, Export};
+ghost use Rattle.comp_encoder.specs.Builder.{entries_of};
+ghost use Rattle.comp_encoder.specs.Writing.{Single, component_text, next_index};
 ghost use Rattle.wasm_compose.specs.Component.{bytes_of, export_names};
-ghost use Rattle.wasm_compose.specs.Link.{IsLinked, LinkFits, NamesFit, link_exports, link_items};
+ghost use Rattle.wasm_compose.specs.Link.{IsLinked, LinkFits, NamesFit, link_exports, link_items, singles};
 ghost use Rattle.wasm_compose.specs.declared.error.ComposeError.TheVariants.{TooLarge as too_large};
 
 use crate::component::Component;
 use crate::error::ComposeError;
-use comp_encoder::{ComponentBuilder, EncodeError, Sort};
+use comp_encoder::ComponentBuilder;
 use comp_shape::Entity;
+use comp_types::{EncodeError, Sort};
 use std::alloc::Global;
 use warg_base::Text;
 
 /// Exports an export of the first instance under its own name.
 fn link_export(alloc: Global, builder: &mut ComponentBuilder, name: &str) -> Result<(), EncodeError>
     requires { 0 < length name.now }
-    ensures added { OnOk result (builder.new ≡ builder.old ++ link_exports (next_index sort.Ty builder.old) (name.now ∷ [])) }
-    ensures fits { OnOk result ((length name.now < 2 ^ 32) × (next_index sort.Ty builder.old + 2 < 2 ^ 32)) }
-    ensures too_large { (n : ℕ) → result ≡ Err (encode_error.TooLarge n) → (2 ^ 32 ≤ n) × (length name.now < 2 ^ 32 → next_index sort.Ty builder.old + 2 < 2 ^ 32 → ⊥) }
+    ensures added { OnOk result (entries_of builder.new ≡ entries_of builder.old ++ singles (link_exports (next_index sort.Ty (entries_of builder.old)) (name.now ∷ []))) }
+    ensures fits { OnOk result ((length name.now < 2 ^ 32) × (next_index sort.Ty (entries_of builder.old) + 2 < 2 ^ 32)) }
+    ensures too_large { (n : ℕ) → result ≡ Err (encode_error.TooLarge n) → (2 ^ 32 ≤ n) × (length name.now < 2 ^ 32 → next_index sort.Ty (entries_of builder.old) + 2 < 2 ^ 32 → ⊥) }
 {
     let index = builder.alias_export(alloc, 0, name, Sort::Ty)?;
     builder.export(alloc, name, Sort::Ty, index, None)?;
@@ -36,8 +38,8 @@ fn link_each(
     exports: &[(Text, Entity)],
 ) -> Result<(), EncodeError>
     requires named { All (λ e. 0 < length e.0) exports.now }
-    requires first { next_index sort.Ty builder.old ≡ 0 }
-    ensures added { OnOk result (builder.new ≡ builder.old ++ link_exports 0 (map (λ e. e.0) exports.now)) }
+    requires first { next_index sort.Ty (entries_of builder.old) ≡ 0 }
+    ensures added { OnOk result (entries_of builder.new ≡ entries_of builder.old ++ singles (link_exports 0 (map (λ e. e.0) exports.now))) }
     ensures fits { OnOk result (NamesFit (map (λ e. e.0) exports.now)) }
     ensures too_large { (n : ℕ) → result ≡ Err (encode_error.TooLarge n) → (2 ^ 32 ≤ n) × (NamesFit (map (λ e. e.0) exports.now) → ⊥) }
 {
@@ -49,7 +51,7 @@ fn link_each(
 
 /// The component that nests `component`, as its items.
 fn build(alloc: Global, component: &Component<'_>) -> Result<ComponentBuilder, EncodeError>
-    ensures items { IfOk result (λ builder. builder ≡ link_items (bytes_of component.now) (export_names component.now)) }
+    ensures items { IfOk result (λ builder. entries_of builder ≡ singles (link_items (bytes_of component.now) (export_names component.now))) }
     ensures fits { OnOk result ((length (bytes_of component.now) < 2 ^ 32) × NamesFit (export_names component.now)) }
     ensures too_large { (n : ℕ) → result ≡ Err (encode_error.TooLarge n) → (2 ^ 32 ≤ n) × (length (bytes_of component.now) < 2 ^ 32 → NamesFit (export_names component.now) → ⊥) }
 {
@@ -65,7 +67,7 @@ fn build(alloc: Global, component: &Component<'_>) -> Result<ComponentBuilder, E
 /// `TooLarge` is answered exactly where a length, a count or an index to be written is above 2^32 - 1.
 pub fn link_root(alloc: Global, component: &Component<'_>) -> Result<Vec<u8>, ComposeError>
     ensures linked { IfOk result (λ bytes. IsLinked (bytes_of component.now) (export_names component.now) bytes.items) }
-    ensures written { IfOk result (λ bytes. bytes.items ≡ component_text (link_items (bytes_of component.now) (export_names component.now))) }
+    ensures written { IfOk result (λ bytes. bytes.items ≡ component_text (singles (link_items (bytes_of component.now) (export_names component.now)))) }
     ensures fits { OnOk result (LinkFits (bytes_of component.now) (export_names component.now)) }
     ensures too_large { (n : ℕ) → result ≡ Err (too_large n) → (2 ^ 32 ≤ n) × (LinkFits (bytes_of component.now) (export_names component.now) → ⊥) }
 {

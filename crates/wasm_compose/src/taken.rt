@@ -6,7 +6,7 @@ ghost use Rattle.warg_base.specs.Faults.{Rose};
 ghost use Rattle.warg_base.specs.Files.{file_at};
 ghost use Rattle.warg_base.specs.declared.files.FileError.{FileError as file_error};
 ghost use Rattle.warg_base.specs.declared.files.FileError.TheVariants as file;
-ghost use Rattle.comp_encoder.specs.Items.{ItemTree, item_tree};
+ghost use Rattle.comp_types.specs.Items.{ItemTree, item_tree};
 ghost use Rattle.comp_shape.specs.declared.error.ShapeError.{ShapeError as shape_error};
 ghost use Rattle.comp_shape.specs.FirstForm.{InFirstForm};
 ghost use Rattle.comp_shape.specs.Shape.{shape};
@@ -19,8 +19,8 @@ use crate::component::Component;
 use crate::content::Content;
 use crate::error::ComponentError;
 use crate::export::ComponentExport;
-use comp_encoder::Item;
 use comp_shape::{Shape, ShapeError, read_items, read_shape};
+use comp_types::Item;
 use std::alloc::Global;
 use warg_base::{FileError, Files, Memory, Text};
 

@@ -1,11 +1,12 @@
 use Rattle.std.proofs.Common.{◌≡◌, ◌<◌, ◌^◌, ℕ, ◌∷◌, [], ◌++◌, List, Result, Err, length, sym, ap, subst, ◌∙◌}
 use Rattle.std.proofs.lemmas.Result.{err_from_is_err_and}
-use Rattle.comp_encoder.specs.declared.error.EncodeError.{EncodeError}
-use Rattle.comp_encoder.specs.declared.error.EncodeError.TheVariants as encode_error
-use Rattle.comp_encoder.specs.declared.types.Sort.TheVariants as sort
+use Rattle.comp_types.specs.declared.error.EncodeError.{EncodeError}
+use Rattle.comp_types.specs.declared.error.EncodeError.TheVariants as encode_error
+use Rattle.comp_types.specs.declared.types.Sort.TheVariants as sort
+use Rattle.comp_encoder.specs.Builder.{entries_of}
 use Rattle.comp_encoder.specs.Writing.{next_index}
 use Rattle.comp_shape.specs.declared.shape.Entity.{Entity}
-use Rattle.wasm_compose.specs.Link.{link_exports}
+use Rattle.wasm_compose.specs.Link.{link_exports, singles}
 use Rattle.wasm_compose.proofs.LinkLaws.{linked_next, one_fits, room_left}
 use Rattle.wasm_compose.proofs.link.link_each.Goals as goal
 
@@ -27,7 +28,7 @@ returns-in_err-link_export-clause-too_large c = λ n e.
       refused.0,
       λ h.
           refused.1 (subst (λ name. length name < 2 ^ 32) (sym name_is) (one_fits exports i d h c.loop-name-test.true).0)
-          (room_left c.args.builder.now c.loop-name.builder exports i d c.loop-name-test.true c.requires.first c.loop-name.invariant h),
+          (room_left (entries_of c.args.builder.now) (entries_of c.loop-name.builder) exports i d c.loop-name-test.true c.requires.first c.loop-name.invariant h),
     )
 
 pub loop-name-preserved : goal.loop-name-preserved
@@ -35,10 +36,10 @@ loop-name-preserved c =
     let exports = c.args.exports.now in
     let i = c.loop-name.name-index in
     let d = c.loop-name-item.result in
-    let new = c.loop-name.builder in
-    let newer = c.link_export.new.builder in
+    let new = entries_of c.loop-name.builder in
+    let newer = entries_of c.link_export.new.builder in
     let name_is = c.as_str.ensures ∙ ap (λ (e : List ℕ × Entity). e.0) c.loop-name-item.is in
-    linked_next c.args.builder.now new newer exports i d c.loop-name-test.true c.requires.first c.loop-name.invariant
-    (subst (λ name. newer ≡ new ++ link_exports (next_index sort.Ty new) (name ∷ [])) name_is c.in_ok-link_export.ensures.added)
+    linked_next (entries_of c.args.builder.now) new newer exports i d c.loop-name-test.true c.requires.first c.loop-name.invariant
+    (subst (λ name. newer ≡ new ++ singles (link_exports (next_index sort.Ty new) (name ∷ []))) name_is c.in_ok-link_export.ensures.added)
     (subst (λ name. length name < 2 ^ 32) name_is c.in_ok-link_export.ensures.fits.0)
     c.in_ok-link_export.ensures.fits.1
