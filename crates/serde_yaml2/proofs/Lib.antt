@@ -1,5 +1,5 @@
-pub mod Numbers
-pub mod Loops
-pub mod EntryLemmas
-pub mod Tails
-pub mod WholeTexts
+pub mod Pieces
+pub mod Lists
+pub mod Maps
+pub mod Nodes
+pub mod Characters

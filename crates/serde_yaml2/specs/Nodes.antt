@@ -1,100 +1,28 @@
--- Which nodes are read, and as which value. A node is a tree, or none: the end of an empty document.
-use Rattle.std.specs.Prelude.{ℕ, ◌+◌, List, cond, Option, Some, None, option_map, option_and_then, Result, Ok, Err}
-use Rattle.yaml_small.specs.Trees.{Tree, Leaf, Seq, Map, Trees, none, more, Pairs, no_pairs, pair}
-use Rattle.yaml_small.specs.Scalars.{is_plain}
-use Rattle.serde_yaml2.specs.Source.{Refusal}
-use Rattle.serde_yaml2.specs.Scalar.{is_null}
+-- What is written for values of any kind.
+use Rattle.yaml_small.specs.declared.yaml.Yaml.{Yaml}
+use Rattle.yaml_small.specs.Data as tree
+use Rattle.yaml_small.specs.Data.{Data, Items, Members}
+use Rattle.yaml_small.specs.View.{view}
+use Rattle.yaml_text.specs.Written as spec
+use Rattle.yaml_text.specs.Written.{Written, Elements}
 
-abbrev pub value_of : {X : Type 0} → Result X Refusal → Option X
-value_of (Ok x) = Some x
-value_of (Err refusal) = None
+-- each value by its kind
+abbrev mutual
+  pub data_written : Data → Written
+  data_written (tree.integer n) = spec.number n
+  data_written (tree.text t) = spec.text t
+  data_written (tree.boolean b) = spec.boolean b
+  data_written (tree.array ds) = spec.list (items_written ds)
+  data_written (tree.hash ms) = spec.map (members_written ms)
+  data_written tree.null = spec.null
 
--- what a scalar's text is taken for, of any style, and plain alone; a list, a map and no node are nothing
-abbrev pub any_node : {X : Type 0} → (List ℕ → Result X Refusal) → Option Tree → Option X
-any_node f None = None
-any_node f (Some (Leaf s)) = value_of (f s.text)
-any_node f (Some (Seq ts)) = None
-any_node f (Some (Map ps)) = None
+  pub items_written : Items → Elements
+  items_written tree.no_items = spec.no_elements
+  items_written (tree.item d ds) = spec.element (data_written d) (items_written ds)
 
-abbrev pub plain_node : {X : Type 0} → (List ℕ → Result X Refusal) → Option Tree → Option X
-plain_node f None = None
-plain_node f (Some (Leaf s)) = cond (is_plain s.style) (value_of (f s.text)) None
-plain_node f (Some (Seq ts)) = None
-plain_node f (Some (Map ps)) = None
+  pub members_written : Members → spec.Members
+  members_written tree.no_members = spec.no_members
+  members_written (tree.member key d ms) = spec.member key (data_written d) (members_written ms)
 
--- `null` or `~`, or an empty document
-abbrev pub unit_node : Option Tree → Option (Unit {0})
-unit_node None = Some tt
-unit_node (Some (Leaf s)) = cond (is_null s.text) (Some tt) None
-unit_node (Some (Seq ts)) = None
-unit_node (Some (Map ps)) = None
-
--- `null` or `~` is no value, anything else is what the type reads
-abbrev pub option_node : {X : Type 0} → (Option Tree → Option X) → Option Tree → Option (Option X)
-option_node of_node None = option_map Some (of_node None)
-option_node of_node (Some (Leaf s)) = cond (is_null s.text) (Some None) (option_map Some (of_node (Some (Leaf s))))
-option_node of_node (Some (Seq ts)) = option_map Some (of_node (Some (Seq ts)))
-option_node of_node (Some (Map ps)) = option_map Some (of_node (Some (Map ps)))
-
--- a list's items, each put to what was read before
-abbrev pub seq_as : {X : Type 0} → (X → ℕ → Option Tree → Option X) → ℕ → X → Trees → Option X
-seq_as takes at x none = Some x
-seq_as takes at x (more t ts) = option_and_then (λ y. seq_as takes (at + 1) y ts) (takes x at (Some t))
-
-abbrev pub seq_node : {X : Type 0} → (X → ℕ → Option Tree → Option X) → X → Option Tree → Option X
-seq_node takes x None = None
-seq_node takes x (Some (Leaf s)) = None
-seq_node takes x (Some (Seq ts)) = seq_as takes 0 x ts
-seq_node takes x (Some (Map ps)) = None
-
--- a map's entries, each put to what was read before
-abbrev pub map_as : {X : Type 0} → (X → List ℕ → Option Tree → Option X) → X → Pairs → Option X
-map_as takes x no_pairs = Some x
-map_as takes x (pair key t ps) = option_and_then (λ y. map_as takes y ps) (takes x key.text (Some t))
-
-abbrev pub map_node : {X : Type 0} → (X → List ℕ → Option Tree → Option X) → X → Option Tree → Option X
-map_node takes x None = None
-map_node takes x (Some (Leaf s)) = None
-map_node takes x (Some (Seq ts)) = None
-map_node takes x (Some (Map ps)) = map_as takes x ps
-
--- a map of one entry
-abbrev pub enum_node : {X : Type 0} → (X → List ℕ → Option Tree → Option X) → X → Option Tree → Option X
-enum_node takes x None = None
-enum_node takes x (Some (Leaf s)) = None
-enum_node takes x (Some (Seq ts)) = None
-enum_node takes x (Some (Map no_pairs)) = None
-enum_node takes x (Some (Map (pair key t no_pairs))) = takes x key.text (Some t)
-enum_node takes x (Some (Map (pair key t (pair other u ps)))) = None
-
--- a list of two and of three
-abbrev pub pair_node : {X Y : Type 0} → (Option Tree → Option X) → (Option Tree → Option Y) → Option Tree → Option (X × Y)
-pair_node first second None = None
-pair_node first second (Some (Leaf s)) = None
-pair_node first second (Some (Map ps)) = None
-pair_node first second (Some (Seq none)) = None
-pair_node first second (Some (Seq (more t none))) = None
-pair_node first second (Some (Seq (more t (more u none)))) = option_and_then (λ x. option_map (λ y. (x, y)) (second (Some u))) (first (Some t))
-pair_node first second (Some (Seq (more t (more u (more v ts))))) = None
-
-abbrev pub triple_node : {X Y Z : Type 0} → (Option Tree → Option X) → (Option Tree → Option Y) → (Option Tree → Option Z) → Option Tree → Option (X × Y × Z)
-triple_node first second third None = None
-triple_node first second third (Some (Leaf s)) = None
-triple_node first second third (Some (Map ps)) = None
-triple_node first second third (Some (Seq none)) = None
-triple_node first second third (Some (Seq (more t none))) = None
-triple_node first second third (Some (Seq (more t (more u none)))) = None
-triple_node first second third (Some (Seq (more t (more u (more v none))))) =
-    option_and_then (λ x. option_and_then (λ y. option_map (λ z. (x, y, z)) (third (Some v))) (second (Some u))) (first (Some t))
-triple_node first second third (Some (Seq (more t (more u (more v (more w ts)))))) = None
-
--- what is read in a node, put to something
-abbrev pub mapped_node : {X Y : Type 0} → (X → Y) → (Option Tree → Option X) → Option Tree → Option Y
-mapped_node f of_node node = option_map f (of_node node)
-
--- what is read in a node, put to a test
-abbrev pub checked_node : {X Y : Type 0} → (X → Result Y Refusal) → (Option Tree → Option X) → Option Tree → Option Y
-checked_node f of_node node = option_and_then (λ x. value_of (f x)) (of_node node)
-
-abbrev pub refused_node : {X : Type 0} → Option Tree → Option X
-refused_node _ = None
+abbrev pub node_written : Yaml → Written
+node_written node = data_written (view node)

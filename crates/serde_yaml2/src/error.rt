@@ -1,82 +1,38 @@
-//! Why a value was not read.
+//! Why a value was not written.
 
 ghost use Rattle.std.specs.Prelude.{◌≡◌};
-ghost use Rattle.serde_yaml2.specs.declared.error.DeError.TheVariants.{Memory};
-ghost use Rattle.serde_yaml2.specs.Conversions.{from_scan};
+ghost use Rattle.serde_yaml2.specs.declared.error.Errors.TheVariants.{Memory};
 
-use std::alloc::{AllocError, AllocFailed};
+use std::alloc::AllocError;
 use thiserror::Error;
 use warg_base::{Memory as OutOfMemory, Text};
-use yaml_small::{Event, Marker, ScanError};
 
-/// Why a value was not read.
+/// Why a value was not written.
 #[derive(Debug, Drop, PartialEq, Eq, Error)]
-pub enum DeError {
-    /// A scalar's text is not what the read takes: what was expected, the text, and its place.
-    #[error("expected {0}, and `{1}` stands here: {2:?}")]
-    UnexpectedScalar(Text, Text, Marker),
-    /// An event is not what the read takes: what was expected, the event, and its place.
-    #[error("expected {0}, and {1:?} stands here: {2:?}")]
-    UnexpectedEvent(Text, Event, Marker),
-    /// No document of a carried form goes on.
-    #[error("{0}")]
-    Scan(ScanError),
-    /// A plain scalar is no number in the type's range: its text.
-    #[error("`{0}` is no number that fits here")]
-    ParseNumber(Text),
-    /// Texts and bytes are never lent: read a text that is owned.
-    #[error("this kind of value cannot be read; read an owned text")]
-    Unsupported,
-    /// A real number has no value here: its place.
-    #[error("a real number stands here, which is not supported; put it in quotes: {0:?}")]
-    RealForm(Marker),
-    /// More stands behind the value: where.
-    #[error("the text goes on behind the value; remove what stands here: {0:?}")]
-    NotEnded(Marker),
-    /// A map has a field that the type does not have: its name.
-    #[error("there is no field `{0}`; correct its name or remove it")]
-    UnknownField(Text),
-    /// A map lacks a field without a default: its name.
-    #[error("the field `{0}` is missing; add it")]
-    MissingField(Text),
+pub enum Errors {
+    /// Lists and maps are nested more than 64 deep.
+    #[error("lists and maps are nested more than 64 deep; make the value flatter")]
+    FormArgsError,
+    /// A value has no form in YAML here: what it is.
+    #[error("{0} have no form in YAML here; write them as a text")]
+    UnsupportedSerializationError(Text),
     /// No memory was left.
     #[error("out of memory: free some, or give the program more, and try again")]
     Memory,
 }
 
-impl From<AllocError> for DeError {
+impl From<AllocError> for Errors {
     ghost from_gives = { λ _ e. e ≡ Memory };
 
-    fn from(_error: AllocError) -> DeError {
-        DeError::Memory
+    fn from(_error: AllocError) -> Errors {
+        Errors::Memory
     }
 }
 
-impl<T: Drop> From<AllocFailed<T>> for DeError {
+impl From<OutOfMemory> for Errors {
     ghost from_gives = { λ _ e. e ≡ Memory };
 
-    fn from(_error: AllocFailed<T>) -> DeError {
-        DeError::Memory
-    }
-}
-
-impl From<OutOfMemory> for DeError {
-    ghost from_gives = { λ _ e. e ≡ Memory };
-
-    fn from(_error: OutOfMemory) -> DeError {
-        DeError::Memory
-    }
-}
-
-impl From<ScanError> for DeError {
-    ghost from_gives = { λ error e. e ≡ from_scan error };
-
-    fn from(error: ScanError) -> DeError {
-        match error {
-            ScanError::Memory => DeError::Memory,
-            ScanError::Form(_) | ScanError::NotCarried(_) | ScanError::TooDeep(_) => DeError::Scan(
-                error,
-            ),
-        }
+    fn from(_error: OutOfMemory) -> Errors {
+        Errors::Memory
     }
 }

@@ -1,272 +1,158 @@
-//! Types of std that are read.
+//! Types of std that are written.
 
-ghost use Rattle.std.specs.Prelude.{ℕ, ◌∷◌, ◌++◌, [], List, Bool, ℤ, pos, negsuc, Option, map, option_map, string_bytes, Result, Ok, bytes_eq};
-ghost use Rattle.indexmap.specs.IndexMap.{insert_entry};
-ghost use Rattle.serde_yaml2.specs.Scalar as scalar;
-ghost use Rattle.serde_yaml2.specs.Collections as spec;
-ghost use Rattle.serde_yaml2.specs.Nodes as nodes;
-ghost use Rattle.serde_yaml2.specs.Laws as laws;
-ghost use Rattle.serde_yaml2.specs.CollectionLaws as collections;
-ghost use Rattle.serde_yaml2.specs.PartLaws as parts;
+ghost use Rattle.std.specs.Prelude.{pos, string_bytes};
+ghost use Rattle.yaml_text.specs.Written as spec;
+ghost use Rattle.serde_yaml2.specs.Values.{character_of, optional, pair_of, triple_of};
 
-use crate::deserializer::YamlDeserializer;
-use crate::error::DeError;
-use crate::read::ReadYaml;
-use std::alloc::Global;
+use crate::error::Errors;
+use crate::serializer::YamlSerializer;
+use crate::write::WriteYaml;
 use warg_base::Text;
 
-impl ReadYaml for bool {
-    ghost Seen = { Bool };
+/// A value that is lent is written as it is.
+impl<T: WriteYaml> WriteYaml for &T {
+    ghost written = { λ r. T.written r.now };
 
-    ghost seen = { λ b. b };
-
-    ghost of_node = { nodes.plain_node scalar.truth };
-
-    ghost read_at = { scalar.bool_at };
-
-    fn read_yaml(alloc: Global, de: &mut YamlDeserializer<'_>) -> Result<Self, DeError> {
-        de.read_bool(alloc)
+    fn write_yaml(&self, ser: &mut YamlSerializer) -> Result<(), Errors> {
+        let value: &T = *self;
+        value.write_yaml(ser)
     }
-
-    ghost reads = { laws.plain_reads scalar.truth };
 }
 
-impl ReadYaml for char {
-    ghost Seen = { ℕ };
+impl WriteYaml for bool {
+    ghost written = { λ b. spec.boolean b };
 
-    ghost seen = { λ c. c };
-
-    ghost of_node = { nodes.plain_node scalar.character };
-
-    ghost read_at = { scalar.char_at };
-
-    fn read_yaml(alloc: Global, de: &mut YamlDeserializer<'_>) -> Result<Self, DeError> {
-        de.read_char(alloc)
+    fn write_yaml(&self, ser: &mut YamlSerializer) -> Result<(), Errors> {
+        ser.write_bool(*self)
     }
-
-    ghost reads = { laws.plain_reads scalar.character };
 }
 
-impl ReadYaml for u8 {
-    ghost Seen = { ℕ };
+impl WriteYaml for char {
+    ghost written = { λ c. character_of c };
 
-    ghost seen = { λ n. n };
-
-    ghost of_node = { nodes.plain_node (scalar.unsigned 255) };
-
-    ghost read_at = { scalar.unsigned_at 255 };
-
-    fn read_yaml(alloc: Global, de: &mut YamlDeserializer<'_>) -> Result<Self, DeError> {
-        de.read_u8(alloc)
+    fn write_yaml(&self, ser: &mut YamlSerializer) -> Result<(), Errors> {
+        ser.write_char(*self)
     }
-
-    ghost reads = { laws.plain_reads (scalar.unsigned 255) };
 }
 
-impl ReadYaml for u16 {
-    ghost Seen = { ℕ };
+impl WriteYaml for u8 {
+    ghost written = { λ n. spec.number (pos n) };
 
-    ghost seen = { λ n. n };
-
-    ghost of_node = { nodes.plain_node (scalar.unsigned 65535) };
-
-    ghost read_at = { scalar.unsigned_at 65535 };
-
-    fn read_yaml(alloc: Global, de: &mut YamlDeserializer<'_>) -> Result<Self, DeError> {
-        de.read_u16(alloc)
+    fn write_yaml(&self, ser: &mut YamlSerializer) -> Result<(), Errors> {
+        ser.write_u64(u64::from(*self))
     }
-
-    ghost reads = { laws.plain_reads (scalar.unsigned 65535) };
 }
 
-impl ReadYaml for u32 {
-    ghost Seen = { ℕ };
+impl WriteYaml for u16 {
+    ghost written = { λ n. spec.number (pos n) };
 
-    ghost seen = { λ n. n };
-
-    ghost of_node = { nodes.plain_node (scalar.unsigned 4294967295) };
-
-    ghost read_at = { scalar.unsigned_at 4294967295 };
-
-    fn read_yaml(alloc: Global, de: &mut YamlDeserializer<'_>) -> Result<Self, DeError> {
-        de.read_u32(alloc)
+    fn write_yaml(&self, ser: &mut YamlSerializer) -> Result<(), Errors> {
+        ser.write_u64(u64::from(*self))
     }
-
-    ghost reads = { laws.plain_reads (scalar.unsigned 4294967295) };
 }
 
-impl ReadYaml for u64 {
-    ghost Seen = { ℕ };
+impl WriteYaml for u32 {
+    ghost written = { λ n. spec.number (pos n) };
 
-    ghost seen = { λ n. n };
-
-    ghost of_node = { nodes.plain_node (scalar.unsigned 18446744073709551615) };
-
-    ghost read_at = { scalar.unsigned_at 18446744073709551615 };
-
-    fn read_yaml(alloc: Global, de: &mut YamlDeserializer<'_>) -> Result<Self, DeError> {
-        de.read_u64(alloc)
+    fn write_yaml(&self, ser: &mut YamlSerializer) -> Result<(), Errors> {
+        ser.write_u64(u64::from(*self))
     }
-
-    ghost reads = { laws.plain_reads (scalar.unsigned 18446744073709551615) };
 }
 
-impl ReadYaml for i8 {
-    ghost Seen = { ℤ };
+impl WriteYaml for u64 {
+    ghost written = { λ n. spec.number (pos n) };
 
-    ghost seen = { λ n. n };
-
-    ghost of_node = { nodes.plain_node (scalar.signed (negsuc 127) (pos 127)) };
-
-    ghost read_at = { scalar.signed_at (negsuc 127) (pos 127) };
-
-    fn read_yaml(alloc: Global, de: &mut YamlDeserializer<'_>) -> Result<Self, DeError> {
-        de.read_i8(alloc)
+    fn write_yaml(&self, ser: &mut YamlSerializer) -> Result<(), Errors> {
+        ser.write_u64(*self)
     }
-
-    ghost reads = { laws.plain_reads (scalar.signed (negsuc 127) (pos 127)) };
 }
 
-impl ReadYaml for i16 {
-    ghost Seen = { ℤ };
+impl WriteYaml for i8 {
+    ghost written = { λ n. spec.number n };
 
-    ghost seen = { λ n. n };
-
-    ghost of_node = { nodes.plain_node (scalar.signed (negsuc 32767) (pos 32767)) };
-
-    ghost read_at = { scalar.signed_at (negsuc 32767) (pos 32767) };
-
-    fn read_yaml(alloc: Global, de: &mut YamlDeserializer<'_>) -> Result<Self, DeError> {
-        de.read_i16(alloc)
+    fn write_yaml(&self, ser: &mut YamlSerializer) -> Result<(), Errors> {
+        ser.write_i64(i64::from(*self))
     }
-
-    ghost reads = { laws.plain_reads (scalar.signed (negsuc 32767) (pos 32767)) };
 }
 
-impl ReadYaml for i32 {
-    ghost Seen = { ℤ };
+impl WriteYaml for i16 {
+    ghost written = { λ n. spec.number n };
 
-    ghost seen = { λ n. n };
-
-    ghost of_node = { nodes.plain_node (scalar.signed (negsuc 2147483647) (pos 2147483647)) };
-
-    ghost read_at = { scalar.signed_at (negsuc 2147483647) (pos 2147483647) };
-
-    fn read_yaml(alloc: Global, de: &mut YamlDeserializer<'_>) -> Result<Self, DeError> {
-        de.read_i32(alloc)
+    fn write_yaml(&self, ser: &mut YamlSerializer) -> Result<(), Errors> {
+        ser.write_i64(i64::from(*self))
     }
-
-    ghost reads = { laws.plain_reads (scalar.signed (negsuc 2147483647) (pos 2147483647)) };
 }
 
-impl ReadYaml for i64 {
-    ghost Seen = { ℤ };
+impl WriteYaml for i32 {
+    ghost written = { λ n. spec.number n };
 
-    ghost seen = { λ n. n };
-
-    ghost of_node = { nodes.plain_node (scalar.signed (negsuc 9223372036854775807) (pos 9223372036854775807)) };
-
-    ghost read_at = { scalar.signed_at (negsuc 9223372036854775807) (pos 9223372036854775807) };
-
-    fn read_yaml(alloc: Global, de: &mut YamlDeserializer<'_>) -> Result<Self, DeError> {
-        de.read_i64(alloc)
+    fn write_yaml(&self, ser: &mut YamlSerializer) -> Result<(), Errors> {
+        ser.write_i64(i64::from(*self))
     }
-
-    ghost reads = { laws.plain_reads (scalar.signed (negsuc 9223372036854775807) (pos 9223372036854775807)) };
 }
 
-impl ReadYaml for Text {
-    ghost Seen = { List ℕ };
+impl WriteYaml for i64 {
+    ghost written = { λ n. spec.number n };
 
-    ghost seen = { λ t. t };
-
-    ghost of_node = { nodes.any_node Ok };
-
-    ghost read_at = { scalar.any_at };
-
-    fn read_yaml(alloc: Global, de: &mut YamlDeserializer<'_>) -> Result<Self, DeError> {
-        de.read_text(alloc)
+    fn write_yaml(&self, ser: &mut YamlSerializer) -> Result<(), Errors> {
+        ser.write_i64(*self)
     }
-
-    ghost reads = { laws.any_reads };
 }
 
-impl ReadYaml for String {
-    ghost Seen = { List ℕ };
+impl WriteYaml for Text {
+    ghost written = { λ t. spec.text t };
 
-    ghost seen = { λ t. string_bytes t };
-
-    ghost of_node = { nodes.any_node Ok };
-
-    ghost read_at = { scalar.any_at };
-
-    fn read_yaml(alloc: Global, de: &mut YamlDeserializer<'_>) -> Result<Self, DeError> {
-        Ok(de.read_text(alloc)?.into_string())
+    fn write_yaml(&self, ser: &mut YamlSerializer) -> Result<(), Errors> {
+        ser.write_text(self.as_str())
     }
-
-    ghost reads = { laws.any_reads };
 }
 
-impl ReadYaml for () {
-    ghost Seen = { Unit {0} };
+impl WriteYaml for String {
+    ghost written = { λ t. spec.text (string_bytes t) };
 
-    ghost seen = { λ u. u };
-
-    ghost of_node = { nodes.unit_node };
-
-    ghost read_at = { scalar.unit_at };
-
-    fn read_yaml(alloc: Global, de: &mut YamlDeserializer<'_>) -> Result<Self, DeError> {
-        de.read_unit(alloc)
+    fn write_yaml(&self, ser: &mut YamlSerializer) -> Result<(), Errors> {
+        ser.write_text(self.as_str())
     }
-
-    ghost reads = { laws.unit_reads };
 }
 
-impl<T: ReadYaml> ReadYaml for Option<T> {
-    ghost Seen = { Option T.Seen };
+impl WriteYaml for () {
+    ghost written = { λ _. spec.null };
 
-    ghost seen = { λ o. option_map T.seen o };
-
-    ghost of_node = { nodes.option_node T.of_node };
-
-    ghost read_at = { spec.option_at T.read_at };
-
-    fn read_yaml(alloc: Global, de: &mut YamlDeserializer<'_>) -> Result<Self, DeError> {
-        de.read_option(alloc)
+    fn write_yaml(&self, ser: &mut YamlSerializer) -> Result<(), Errors> {
+        ser.write_none()
     }
-
-    ghost reads = { parts.option_reads T.of_node T.read_at T.reads };
 }
 
-impl<A: ReadYaml, B: ReadYaml> ReadYaml for (A, B) {
-    ghost Seen = { A.Seen × B.Seen };
+impl<T: WriteYaml> WriteYaml for Option<T> {
+    ghost written = { λ o. optional T.written o };
 
-    ghost seen = { λ p. (A.seen p.0, B.seen p.1) };
-
-    ghost of_node = { nodes.pair_node A.of_node B.of_node };
-
-    ghost read_at = { spec.pair_at A.read_at B.read_at };
-
-    fn read_yaml(alloc: Global, de: &mut YamlDeserializer<'_>) -> Result<Self, DeError> {
-        de.read_pair(alloc)
+    fn write_yaml(&self, ser: &mut YamlSerializer) -> Result<(), Errors> {
+        match self {
+            Some(value) => value.write_yaml(ser),
+            None => ser.write_none(),
+        }
     }
-
-    ghost reads = { parts.pair_reads A.of_node B.of_node A.read_at B.read_at A.reads B.reads };
 }
 
-impl<A: ReadYaml, B: ReadYaml, C: ReadYaml> ReadYaml for (A, B, C) {
-    ghost Seen = { A.Seen × B.Seen × C.Seen };
+impl<A: WriteYaml, B: WriteYaml> WriteYaml for (A, B) {
+    ghost written = { λ p. pair_of (A.written p.0) (B.written p.1) };
 
-    ghost seen = { λ p. (A.seen p.0, B.seen p.1, C.seen p.2) };
-
-    ghost of_node = { nodes.triple_node A.of_node B.of_node C.of_node };
-
-    ghost read_at = { spec.triple_at A.read_at B.read_at C.read_at };
-
-    fn read_yaml(alloc: Global, de: &mut YamlDeserializer<'_>) -> Result<Self, DeError> {
-        de.read_triple(alloc)
+    fn write_yaml(&self, ser: &mut YamlSerializer) -> Result<(), Errors> {
+        let mut list = ser.seq(2)?;
+        list.element(&self.0)?;
+        list.element(&self.1)?;
+        list.end()
     }
+}
 
-    ghost reads = { parts.triple_reads A.of_node B.of_node C.of_node A.read_at B.read_at C.read_at A.reads B.reads C.reads };
+impl<A: WriteYaml, B: WriteYaml, C: WriteYaml> WriteYaml for (A, B, C) {
+    ghost written = { λ p. triple_of (A.written p.0) (B.written p.1) (C.written p.2) };
+
+    fn write_yaml(&self, ser: &mut YamlSerializer) -> Result<(), Errors> {
+        let mut list = ser.seq(3)?;
+        list.element(&self.0)?;
+        list.element(&self.1)?;
+        list.element(&self.2)?;
+        list.end()
+    }
 }

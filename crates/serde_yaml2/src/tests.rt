@@ -1,144 +1,103 @@
-//! Reads of whole texts, and their errors.
+//! Texts that values are written as, worked out by hand.
 
-use crate::{DeError, ReadYaml, YamlDeserializer, from_str};
+use crate::{Errors, WriteYaml, YamlNodeWrapper, YamlSerializer, to_string};
 use indexmap::IndexMap;
 use std::alloc::Global;
 use std::test::Fail;
 use warg_base::Text;
-use yaml_small::{Event, Marker};
+use yaml_small::{Yaml, YamlList, YamlPairs};
 
-/// Whether a text is refused with this error, whatever was expected.
-fn error_of<T: ReadYaml>(alloc: Global, text: &str) -> Result<Option<DeError>, Fail> {
-    match from_str::<T>(alloc, text) {
-        Ok(_) => Ok(None),
-        Err(error) => Ok(Some(error)),
-    }
+/// The text of a value.
+fn text_of<T: WriteYaml>(alloc: Global, value: &T) -> Result<Text, Fail> {
+    Ok(Text::new(to_string(alloc, value)?))
 }
 
 #[test]
-fn scalars_are_read(rt: HostRuntime) -> Result<(), Fail> {
+fn each_item_of_a_list_has_a_line(rt: HostRuntime) -> Result<(), Fail> {
     let alloc = rt.alloc();
-    assert_eq!(rt; from_str::<bool>(alloc, "true\n")?, true);
-    assert_eq!(rt; from_str::<char>(alloc, "x")?, 'x');
-    Ok(())
-}
-
-#[test]
-fn numbers_are_read(rt: HostRuntime) -> Result<(), Fail> {
-    let alloc = rt.alloc();
-    assert_eq!(rt; from_str::<u8>(alloc, "255")?, 255);
+    let numbers = [1u8, 2, 3].to_vec(alloc)?;
     assert_eq!(rt;
-        from_str::<u64>(alloc, "+18446744073709551615")?,
-        18_446_744_073_709_551_615
+        text_of(alloc, &numbers)?.as_str(),
+        "- \n  1\n- \n  2\n- \n  3\n"
     );
-    assert_eq!(rt; from_str::<i8>(alloc, "-128")?, -128);
-    assert_eq!(rt; from_str::<i64>(alloc, "-9223372036854775808")?, i64::MIN);
-    Ok(())
-}
-
-#[test]
-fn texts_are_read_in_any_style(rt: HostRuntime) -> Result<(), Fail> {
-    let alloc = rt.alloc();
-    assert_eq!(rt; from_str::<Text>(alloc, "'12'")?.as_str(), "12");
+    let inner = [1u8].to_vec(alloc)?;
+    let outer = vec![in alloc; inner]?;
+    assert_eq!(rt; text_of(alloc, &outer)?.as_str(), "- \n  - \n   1\n  \n");
     assert_eq!(rt;
-        from_str::<String>(alloc, "|-\n  First\n  Second")?.as_str(),
-        "First\nSecond"
+        text_of(alloc, &(1u64, -2i64, ()))?.as_str(),
+        "- \n  1\n- \n  -2\n- \n  ~\n"
     );
     Ok(())
 }
 
 #[test]
-fn nothing_is_read(rt: HostRuntime) -> Result<(), Fail> {
+fn texts_are_quoted_or_blocks(rt: HostRuntime) -> Result<(), Fail> {
     let alloc = rt.alloc();
-    from_str::<()>(alloc, "~")?;
-    from_str::<()>(alloc, "")?;
+    let quoted = Text::copy_of(alloc, "Hello 'world")?;
+    assert_eq!(rt; text_of(alloc, &quoted)?.as_str(), "'Hello ''world'");
+    let lines = Text::copy_of(alloc, "First\nSecond")?;
+    assert_eq!(rt; text_of(alloc, &lines)?.as_str(), "|-\n  First\n  Second");
+    let ended = Text::copy_of(alloc, "First\n")?;
+    assert_eq!(rt; text_of(alloc, &ended)?.as_str(), "\"First\\n\"");
+    assert_eq!(rt; text_of(alloc, &'x')?.as_str(), "x");
+    assert_eq!(rt; text_of(alloc, &'-')?.as_str(), "'-'");
     Ok(())
 }
 
 #[test]
-fn lists_are_read(rt: HostRuntime) -> Result<(), Fail> {
+fn maps_have_quoted_keys(rt: HostRuntime) -> Result<(), Fail> {
     let alloc = rt.alloc();
+    let empty = IndexMap::<Text, bool>::new(alloc);
+    assert_eq!(rt; text_of(alloc, &empty)?.as_str(), "{}");
+    let mut map = IndexMap::<Text, Option<bool>>::new(alloc);
+    let _ = map.insert(Text::copy_of(alloc, "b")?, Some(true))?;
+    let _ = map.insert(Text::copy_of(alloc, "a")?, None)?;
+    assert_eq!(rt; text_of(alloc, &map)?.as_str(), "'b':\n  true\n'a':\n  ~\n");
+    Ok(())
+}
+
+#[test]
+fn values_of_any_kind_are_written_by_their_kind(rt: HostRuntime) -> Result<(), Fail> {
+    let alloc = rt.alloc();
+    let mut entries = IndexMap::<Text, Yaml>::new(alloc);
+    let none = Yaml::Array(YamlList::new(Vec::new(alloc)));
+    let _ = entries.insert(Text::copy_of(alloc, "b")?, none)?;
+    let _ = entries.insert(Text::copy_of(alloc, "a")?, Yaml::Null)?;
+    let map = Yaml::Hash(YamlPairs::new(alloc, entries)?);
+    let text = Yaml::Text(Text::copy_of(alloc, "x")?);
+    let items = vec![in alloc; Yaml::Integer(-7), text, Yaml::Boolean(true), map]?;
+    let list = YamlNodeWrapper::new(Yaml::Array(YamlList::new(items)));
     assert_eq!(rt;
-        from_str::<Vec<u8>>(alloc, "- \n  1\n- \n  2\n- \n  3\n")?.as_slice(),
-        [1, 2, 3].as_slice()
+        text_of(alloc, &list)?.as_str(),
+        "- \n  -7\n- \n  'x'\n- \n  true\n- \n  'b':\n   []\n  'a':\n   ~\n  \n"
     );
-    assert_eq!(rt; from_str::<(u8, bool)>(alloc, "[1, true]")?, (1, true));
-    assert_eq!(rt; from_str::<(u8, u8, u8)>(alloc, "[1, 2, 3]")?, (1, 2, 3));
     Ok(())
 }
 
 #[test]
-fn a_missing_value_is_none(rt: HostRuntime) -> Result<(), Fail> {
+fn variants_stand_behind_what_was_written(rt: HostRuntime) -> Result<(), Fail> {
     let alloc = rt.alloc();
-    assert_eq!(rt; from_str::<Option<u8>>(alloc, "null")?, None);
-    assert_eq!(rt; from_str::<Option<u8>>(alloc, "7")?, Some(7));
+    let mut ser = YamlSerializer::new(String::new(alloc));
+    ser.write_empty_variant("B")?;
+    assert_eq!(rt; ser.into_string().as_str(), "B: []");
+    let mut ser = YamlSerializer::new(String::new(alloc));
+    ser.write_unit_variant("A")?;
+    assert_eq!(rt; ser.into_string().as_str(), "A: ~");
+    let mut ser = YamlSerializer::new(String::from_str(alloc, "# a variant\n")?);
+    ser.write_newtype_variant("C", &7u8)?;
+    assert_eq!(rt; ser.into_string().as_str(), "# a variant\nC:\n  7");
     Ok(())
 }
 
 #[test]
-fn a_map_keeps_the_last_value_at_the_first_place(rt: HostRuntime) -> Result<(), Fail> {
+fn bytes_are_refused_and_write_nothing(rt: HostRuntime) -> Result<(), Fail> {
     let alloc = rt.alloc();
-    let map = from_str::<IndexMap<Text, u8>>(alloc, "b: 1\na: 2\nb: 3\n")?;
-    assert_eq!(rt; map.len(), 2);
-    let key = Text::copy_of(alloc, "b")?;
-    assert_eq!(rt; map.get(&key).copied(), Some(3));
-    assert_eq!(rt; map.get_index_of(&key), Some(0));
-    Ok(())
-}
-
-#[test]
-fn errors_say_what_stands_there(rt: HostRuntime) -> Result<(), Fail> {
-    let alloc = rt.alloc();
+    let mut ser = YamlSerializer::new(String::new(alloc));
+    let refused = ser.write_bytes(alloc, b"a").err();
     assert_eq!(rt;
-        error_of::<u8>(alloc, "256")?,
-        Some(DeError::ParseNumber(Text::copy_of(alloc, "256")?))
+        refused,
+        Some(Errors::UnsupportedSerializationError(Text::copy_of(alloc, "bytes")?))
     );
-    assert_eq!(rt;
-        error_of::<u8>(alloc, "-0")?,
-        Some(DeError::ParseNumber(Text::copy_of(alloc, "-0")?))
-    );
-    let quoted = DeError::UnexpectedEvent(
-        Text::copy_of(alloc, "a plain number")?,
-        Event::Scalar(Text::copy_of(alloc, "12")?, yaml_small::Style::SingleQuoted),
-        Marker {
-            line: 1,
-            col: 0,
-            index: 0,
-        },
-    );
-    assert_eq!(rt; error_of::<u8>(alloc, "'12'")?, Some(quoted));
-    let word = DeError::UnexpectedScalar(
-        Text::copy_of(alloc, "`true` or `false`")?,
-        Text::copy_of(alloc, "yes")?,
-        Marker {
-            line: 1,
-            col: 0,
-            index: 0,
-        },
-    );
-    assert_eq!(rt; error_of::<bool>(alloc, "yes")?, Some(word));
-    let short = DeError::UnexpectedEvent(
-        Text::copy_of(alloc, "a plain number")?,
-        Event::SequenceEnd,
-        Marker {
-            line: 1,
-            col: 3,
-            index: 3,
-        },
-    );
-    assert_eq!(rt; error_of::<(u8, u8)>(alloc, "[1 ]")?, Some(short));
-    assert_eq!(rt; error_of::<u8>(alloc, "1\n...\n2")?.is_some(), true);
-    Ok(())
-}
-
-#[test]
-fn what_follows_the_value_is_no_end(rt: HostRuntime) -> Result<(), Fail> {
-    let alloc = rt.alloc();
-    let mut de = YamlDeserializer::from_str(alloc, "[1, 2]")?;
-    assert_eq!(rt; de.finish(alloc).is_err(), true);
-    assert_eq!(rt; de.read_str().is_err(), true);
-    assert_eq!(rt; de.read_bytes().is_err(), true);
-    assert_eq!(rt; de.read_byte_buf().is_err(), true);
-    assert_eq!(rt; de.at_scalar(alloc)?, false);
+    assert_eq!(rt; ser.into_string().as_str(), "");
     Ok(())
 }

@@ -1,35 +1,24 @@
-//! Values read from whole texts.
+//! Whole texts of values.
 
-ghost use Rattle.std.specs.Prelude.{IfOk, Ok};
-ghost use Rattle.serde_yaml2.specs.Whole as whole;
-ghost use Rattle.serde_yaml2.specs.Answers.{Gives};
+ghost use Rattle.std.specs.Prelude.{◌≡◌, ◌≤◌, IfOk, IfErr, OnOk, string_bytes};
+ghost use Rattle.yaml_small.specs.Trees.{depth};
+ghost use Rattle.yaml_text.specs.Written.{tree_of, written};
+ghost use Rattle.serde_yaml2.specs.Output.{Explains};
 
-use crate::deserializer::YamlDeserializer;
-use crate::error::DeError;
-use crate::read::ReadYaml;
+use crate::error::Errors;
+use crate::serializer::YamlSerializer;
+use crate::write::WriteYaml;
 use std::alloc::Global;
 
-/// Reads the one value that a text holds: one document and nothing behind it.
-#[tactic(auto, unfolding(crate::specs::Whole::whole_at))]
-pub fn from_str<T: ReadYaml>(alloc: Global, text: &str) -> Result<T, DeError>
-    // What is read stands in a carried document.
-    ensures found { IfOk result (λ value. whole.Holds T.of_node text.now (T.seen value)) }
-    // What stands in a carried document is read, unless memory runs out.
-    ensures only { (x : T.Seen) → whole.Holds T.of_node text.now x → Gives T.seen result (Ok x) }
-    // Which error it is.
-    ensures exact { Gives T.seen result (whole.whole_at T.read_at text.now) }
+/// The text of a value.
+pub fn to_string<T: WriteYaml>(alloc: Global, value: &T) -> Result<String, Errors>
+    // The text is that of the definition.
+    ensures text { IfOk result (λ text. string_bytes text ≡ written 0 (T.written value.now)) }
+    // `FormArgsError` comes exactly where lists and maps are nested more than 64 deep.
+    ensures fits { OnOk result (depth (tree_of (T.written value.now)) ≤ 64) }
+    ensures refused { IfErr result (λ e. Explains e (depth (tree_of (T.written value.now)))) }
 {
-    let read = read_whole(alloc, text);
-    read
-}
-
-/// Reads the one value that a text holds, step by step.
-#[tactic(auto, unfolding(crate::specs::Whole::whole_at))]
-fn read_whole<T: ReadYaml>(alloc: Global, text: &str) -> Result<T, DeError>
-    ensures { Gives T.seen result (whole.whole_at T.read_at text.now) }
-{
-    let mut de = YamlDeserializer::from_str(alloc, text)?;
-    let value = T::read_yaml(alloc, &mut de)?;
-    de.finish(alloc)?;
-    Ok(value)
+    let mut ser = YamlSerializer::new(String::new(alloc));
+    value.write_yaml(&mut ser)?;
+    Ok(ser.into_string())
 }

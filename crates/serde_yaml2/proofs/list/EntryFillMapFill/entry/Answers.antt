@@ -1,6 +1,0 @@
-use Rattle.std.proofs.Common.{rules}
-use Rattle.serde_yaml2.proofs.EntryLemmas.{seen_insert}
-use Rattle.serde_yaml2.proofs.list.EntryFillMapFill.entry.Goals as goal
-
-pub returns : goal.returns
-returns g c = rw c.in_ok-insert.ensures.entries (rw (seen_insert g.V.ReadYaml.seen c.args.self.now.entries.entries c.args.key c.in_ok-value.value) (search rules))

@@ -1,0 +1,4 @@
+use Rattle.yaml_read.proofs.list.IndexMapTextReadYaml.read_yaml.Goals as goal
+
+pub returns-in-Err : goal.returns-in-Err
+returns-in-Err g c = rw c.new.ensures.empty at c.in-Err.ensures

@@ -1,0 +1,17 @@
+pub mod Source
+pub mod Answers
+pub mod Scalar
+pub mod Conversions
+pub mod Collections
+pub mod Told
+pub mod Nodes
+pub mod Laws
+pub mod Joins
+pub mod CollectionLaws
+pub mod PartLaws
+pub mod Taking
+pub mod Entries
+pub mod Whole
+pub mod Any
+pub mod AnyLaws
+pub mod Wrapped

@@ -1,0 +1,21 @@
+//! Typed values read from YAML text.
+#![tactic(auto)]
+
+mod any;
+mod bracket;
+mod collection;
+mod deserializer;
+mod error;
+mod impls;
+mod list;
+mod read;
+#[cfg(test)]
+mod tests;
+mod text;
+mod wrapper;
+
+pub use deserializer::YamlDeserializer;
+pub use error::DeError;
+pub use read::{MapFill, ReadYaml, SeqFill};
+pub use text::from_str;
+pub use wrapper::YamlNodeWrapper;
