@@ -1,0 +1,5 @@
+pub mod Fields
+pub mod FieldLaws
+pub mod Choices
+pub mod Kinds
+pub mod ChoiceLaws
