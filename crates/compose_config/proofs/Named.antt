@@ -1,7 +1,7 @@
 -- The search for an entry by its name.
 use Rattle.std.proofs.Common.{◌≡◌, ℕ, zero, suc, ◌+◌, ◌<◌, ◌≤◌, List, [], ◌∷◌, length, drop, map, slice_get, true, false, cond, Some, None, refl, sym, ap, arith, bytes_eq, add-one}
 use Rattle.std.proofs.lemmas.List.{drop_all}
-use Rattle.serde_yaml2.specs.Entries.{seen_entry}
+use Rattle.yaml_read.specs.Entries.{seen_entry}
 use Rattle.compose_config.specs.Plan.{Name, Instance, instance_named}
 
 some_is : {A : Type 0} (x y : A) → Some x ≡ Some y → x ≡ y

@@ -8,10 +8,10 @@ use Rattle.yaml_small.specs.declared.schema.Resolved.TheVariants as resolved
 use Rattle.yaml_small.specs.Schema as schema
 use Rattle.yaml_small.specs.Trees.{Scalar, Tree, Leaf, Seq, Map, pair, no_pairs}
 use Rattle.yaml_small.specs.declared.event.Style.TheVariants.{Plain}
-use Rattle.serde_yaml2.specs.Source.{Source, Refusal, WrongScalar, UnknownField, MissingField}
-use Rattle.serde_yaml2.specs.Scalar.{truth, bool_at, any_at}
-use Rattle.serde_yaml2.specs.Collections.{scalar_front, seq_at, map_at, option_at, pushed, mapped_at, checked_at, refused_at}
-use Rattle.serde_yaml2.specs.Nodes.{any_node, plain_node, seq_node, map_node, option_node, mapped_node, checked_node, refused_node}
+use Rattle.yaml_read.specs.Source.{Source, Refusal, WrongScalar, UnknownField, MissingField}
+use Rattle.yaml_read.specs.Scalar.{truth, bool_at, any_at}
+use Rattle.yaml_read.specs.Collections.{scalar_front, seq_at, map_at, option_at, pushed, mapped_at, checked_at, refused_at}
+use Rattle.yaml_read.specs.Nodes.{any_node, plain_node, seq_node, map_node, option_node, mapped_node, checked_node, refused_node}
 
 abbrev pub Name : Type 0
 Name = List ℕ

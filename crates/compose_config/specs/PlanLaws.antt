@@ -7,15 +7,15 @@ use Rattle.yaml_small.specs.declared.event.Event.{Event}
 use Rattle.yaml_small.specs.declared.event.Event.TheVariants as events
 use Rattle.yaml_small.specs.Trees.{Tree, Leaf, Seq, Map, scalar_event}
 use Rattle.yaml_small.specs.Stream.{State, next}
-use Rattle.serde_yaml2.specs.Source.{Source, Refusal, UnknownField, front}
-use Rattle.serde_yaml2.specs.Scalar.{truth, any_at}
-use Rattle.serde_yaml2.specs.Collections.{is_scalar, scalar_front, option_at, pushed, mapped_at, checked_at}
-use Rattle.serde_yaml2.specs.Nodes.{any_node, option_node, mapped_node, checked_node}
-use Rattle.serde_yaml2.specs.Told.{Tells, Found, Gets, Reads}
-use Rattle.serde_yaml2.specs.Taking.{pull_is, front_is, fronts}
-use Rattle.serde_yaml2.specs.Laws.{plain_reads, any_reads}
-use Rattle.serde_yaml2.specs.CollectionLaws.{told_once, seq_reads, map_reads}
-use Rattle.serde_yaml2.specs.PartLaws.{option_reads, mapped_reads, checked_reads, choice_reads, refused_reads}
+use Rattle.yaml_read.specs.Source.{Source, Refusal, UnknownField, front}
+use Rattle.yaml_read.specs.Scalar.{truth, any_at}
+use Rattle.yaml_read.specs.Collections.{is_scalar, scalar_front, option_at, pushed, mapped_at, checked_at}
+use Rattle.yaml_read.specs.Nodes.{any_node, option_node, mapped_node, checked_node}
+use Rattle.yaml_read.specs.Told.{Tells, Found, Gets, Reads}
+use Rattle.yaml_read.specs.Taking.{pull_is, front_is, fronts}
+use Rattle.yaml_read.specs.Laws.{plain_reads, any_reads}
+use Rattle.yaml_read.specs.CollectionLaws.{told_once, seq_reads, map_reads}
+use Rattle.yaml_read.specs.PartLaws.{option_reads, mapped_reads, checked_reads, choice_reads, refused_reads}
 use Rattle.compose_config.specs.Plan
 
 bind_twice : {A B C : Type 0} (r : Result A Refusal) (g : A → Result B Refusal) (h : B → Result C Refusal) → ((r >>= g) >>= h) ≡ (r >>= λ a. g a >>= h)

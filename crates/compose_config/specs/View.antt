@@ -1,6 +1,6 @@
 -- What a configuration and its parts say, without where they lie in memory.
 use Rattle.std.specs.Prelude.{map}
-use Rattle.serde_yaml2.specs.Entries.{seen_entry}
+use Rattle.yaml_read.specs.Entries.{seen_entry}
 use Rattle.compose_config.specs.declared.parts.Dependency.{Dependency}
 use Rattle.compose_config.specs.declared.parts.InstantiationArg.{InstantiationArg}
 use Rattle.compose_config.specs.declared.parts.Instantiation.{Instantiation}

@@ -1,9 +1,9 @@
 //! The configuration of a composition.
 
 ghost use Rattle.std.specs.Prelude.{◌≡◌, [], IfOk, Ok, map, option_map, option_copied};
-ghost use Rattle.serde_yaml2.specs.Answers.{source_of, Gives};
-ghost use Rattle.serde_yaml2.specs.Entries.{seen_entry};
-ghost use Rattle.serde_yaml2.specs.Whole.{Holds, whole_at};
+ghost use Rattle.yaml_read.specs.Answers.{source_of, Gives};
+ghost use Rattle.yaml_read.specs.Entries.{seen_entry};
+ghost use Rattle.yaml_read.specs.Whole.{Holds, whole_at};
 ghost use Rattle.compose_config.specs.Plan as plan;
 ghost use Rattle.compose_config.specs.View.{settings_of, instance_of};
 ghost use Rattle.compose_config.specs.PlanLaws as laws;
@@ -11,9 +11,9 @@ ghost use Rattle.compose_config.specs.PlanLaws as laws;
 use crate::index::index_map;
 use crate::parts::{Dependency, Instantiation};
 use indexmap::IndexMap;
-use serde_yaml2::{DeError, MapFill, ReadYaml, YamlDeserializer, from_str};
 use std::alloc::Global;
 use warg_base::Text;
+use yaml_read::{DeError, MapFill, ReadYaml, YamlDeserializer, from_str};
 
 /// How a component is composed of others.
 ///

@@ -3,17 +3,17 @@
 ghost use Rattle.std.specs.Prelude.{◌≡◌, ℕ, List, [], Option, Some, map, bytes_eq, IfOk};
 ghost use Rattle.indexmap.specs.IndexMap.{insert_entry};
 ghost use Rattle.yaml_small.specs.Trees.{Tree};
-ghost use Rattle.serde_yaml2.specs.Answers.{source_of, Gives};
-ghost use Rattle.serde_yaml2.specs.Collections as collections;
-ghost use Rattle.serde_yaml2.specs.Nodes as nodes;
-ghost use Rattle.serde_yaml2.specs.Entries.{seen_entry};
+ghost use Rattle.yaml_read.specs.Answers.{source_of, Gives};
+ghost use Rattle.yaml_read.specs.Collections as collections;
+ghost use Rattle.yaml_read.specs.Nodes as nodes;
+ghost use Rattle.yaml_read.specs.Entries.{seen_entry};
 ghost use Rattle.compose_config.specs.Plan as plan;
 ghost use Rattle.compose_config.specs.PlanLaws as laws;
 
 use indexmap::IndexMap;
-use serde_yaml2::{DeError, MapFill, ReadYaml, YamlDeserializer};
 use std::alloc::Global;
 use warg_base::{Memory, Text};
+use yaml_read::{DeError, MapFill, ReadYaml, YamlDeserializer};
 use yaml_small::{Resolved, resolve};
 
 /// A type of which a text is short for a value.

@@ -1,17 +1,17 @@
 //! Dependencies, instantiations and their arguments.
 
 ghost use Rattle.std.specs.Prelude.{◌≡◌, ℕ, List, Option, Some, option_map};
-ghost use Rattle.serde_yaml2.specs.Answers.{source_of, Gives};
-ghost use Rattle.serde_yaml2.specs.Collections as collections;
-ghost use Rattle.serde_yaml2.specs.Scalar as scalar;
+ghost use Rattle.yaml_read.specs.Answers.{source_of, Gives};
+ghost use Rattle.yaml_read.specs.Collections as collections;
+ghost use Rattle.yaml_read.specs.Scalar as scalar;
 ghost use Rattle.compose_config.specs.Plan as plan;
 ghost use Rattle.compose_config.specs.PlanLaws as laws;
 
 use crate::index::{FromText, index_map};
 use indexmap::IndexMap;
-use serde_yaml2::{DeError, MapFill, ReadYaml, YamlDeserializer};
 use std::alloc::Global;
 use warg_base::{Memory, Text};
+use yaml_read::{DeError, MapFill, ReadYaml, YamlDeserializer};
 
 /// A component that a composition depends on.
 #[derive(Debug, Drop)]

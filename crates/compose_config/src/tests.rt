@@ -1,9 +1,10 @@
 //! Configurations read from text.
 
 use crate::Config;
-use serde_yaml2::DeError;
+use std::alloc::Global;
 use std::test::Fail;
 use warg_base::Text;
+use yaml_read::DeError;
 use yaml_small::Marker;
 
 const PLAN: &str = "\
@@ -23,10 +24,56 @@ instantiations:
   data: {dependency: backend}
 ";
 
+/// The text of `examples/plan.yaml` at the repository's top.
+const EXAMPLE: &str = "\
+# Which packages are put together, and what is passed to them.
+#
+# `root` is the instance whose exports the composed component has. An instance is made of the package that its
+# `dependency` names; where it names none, its own name is that of the package.
+instantiations:
+  root:
+    dependency: demo:app
+    # Each import of demo:app that is given here, and the instance that is passed for it. What is not given is
+    # looked for in the registry, or stays an import of the composed component.
+    arguments:
+      demo:log/sink@1.0.0: log
+  log:
+    dependency: demo:log
+";
+
+/// The configuration of a text.
+fn config_of(alloc: Global, text: &str) -> Result<Config, Fail> {
+    Ok(Config::from_text(alloc, text)?)
+}
+
+/// Why a text is refused.
+fn refusal_of(alloc: Global, text: &str) -> Result<DeError, Fail> {
+    Ok(Config::from_text(alloc, text).err().ok_or("read")?)
+}
+
+#[test]
+fn the_example_plan_is_read(rt: HostRuntime) -> Result<(), Fail> {
+    let alloc = rt.alloc();
+    let config = config_of(alloc, EXAMPLE)?;
+    assert_eq!(rt; config.instantiations.len(), 2);
+    assert_eq!(rt; config.dependencies.len(), 0);
+    assert_eq!(rt; config.dependency_name("root"), "demo:app");
+    assert_eq!(rt; config.dependency_name("log"), "demo:log");
+    let root = Text::copy_of(alloc, "root")?;
+    let arguments = &config.instantiations.get(&root).ok_or("root")?.arguments;
+    assert_eq!(rt; arguments.len(), 1);
+    let sink = arguments
+        .get(&Text::copy_of(alloc, "demo:log/sink@1.0.0")?)
+        .ok_or("sink")?;
+    assert_eq!(rt; sink.instance.as_str(), "log");
+    assert_eq!(rt; sink.export.is_none(), true);
+    Ok(())
+}
+
 #[test]
 fn a_plan_is_read(rt: HostRuntime) -> Result<(), Fail> {
     let alloc = rt.alloc();
-    let config = Config::from_text(alloc, PLAN)?;
+    let config = config_of(alloc, PLAN)?;
     assert_eq!(rt; config.search_paths.len(), 1);
     assert_eq!(rt; config.skip_validation, false);
     let frontend = Text::copy_of(alloc, "frontend")?;
@@ -51,7 +98,7 @@ fn a_plan_is_read(rt: HostRuntime) -> Result<(), Fail> {
 fn a_repeated_argument_has_its_last_value(rt: HostRuntime) -> Result<(), Fail> {
     let alloc = rt.alloc();
     let text = "instantiations:\n  root:\n    arguments:\n      a: b\n      a: {instance: c}\n";
-    let config = Config::from_text(alloc, text)?;
+    let config = config_of(alloc, text)?;
     assert_eq!(rt; config.instantiations.len(), 1);
     let root = Text::copy_of(alloc, "root")?;
     let arguments = &config.instantiations.get(&root).ok_or("root")?.arguments;
@@ -63,14 +110,9 @@ fn a_repeated_argument_has_its_last_value(rt: HostRuntime) -> Result<(), Fail> {
 }
 
 #[test]
-fn a_typo_is_named(rt: HostRuntime) -> Result<(), Fail> {
+fn a_number_is_no_instance(rt: HostRuntime) -> Result<(), Fail> {
     let alloc = rt.alloc();
-    let number = Config::from_text(
-        alloc,
-        "instantiations:\n  root:\n    arguments:\n      a: 12\n",
-    )
-    .err()
-    .ok_or("12")?;
+    let text = "instantiations:\n  root:\n    arguments:\n      a: 12\n";
     let expected = DeError::UnexpectedScalar(
         Text::copy_of(alloc, "a text or a map")?,
         Text::copy_of(alloc, "12")?,
@@ -80,28 +122,40 @@ fn a_typo_is_named(rt: HostRuntime) -> Result<(), Fail> {
             index: 48,
         },
     );
-    assert_eq!(rt; number, expected);
-    let field = Config::from_text(alloc, "colour: 1\n")
-        .err()
-        .ok_or("colour")?;
+    assert_eq!(rt; refusal_of(alloc, text)?, expected);
+    Ok(())
+}
+
+#[test]
+fn a_field_that_is_unknown_is_named(rt: HostRuntime) -> Result<(), Fail> {
+    let alloc = rt.alloc();
     assert_eq!(rt;
-        field,
+        refusal_of(alloc, "colour: 1\n")?,
         DeError::UnknownField(Text::copy_of(alloc, "colour")?)
     );
-    let missing = Config::from_text(
-        alloc,
-        "instantiations: {root: {arguments: {a: {export: e}}}}",
-    )
-    .err()
-    .ok_or("export")?;
+    Ok(())
+}
+
+#[test]
+fn a_field_that_is_missing_is_named(rt: HostRuntime) -> Result<(), Fail> {
+    let alloc = rt.alloc();
     assert_eq!(rt;
-        missing,
+        refusal_of(
+            alloc,
+            "instantiations:\n  root:\n    arguments:\n      a: {export: e}\n"
+        )?,
         DeError::MissingField(Text::copy_of(alloc, "instance")?)
     );
-    let path = Config::from_text(alloc, "dependencies: {a: {}}")
-        .err()
-        .ok_or("path")?;
-    assert_eq!(rt; path, DeError::MissingField(Text::copy_of(alloc, "path")?));
-    assert_eq!(rt; Config::from_text(alloc, "").is_err(), true);
+    assert_eq!(rt;
+        refusal_of(alloc, "dependencies: {a: {}}")?,
+        DeError::MissingField(Text::copy_of(alloc, "path")?)
+    );
+    Ok(())
+}
+
+#[test]
+fn the_empty_text_is_no_plan(rt: HostRuntime) -> Result<(), Fail> {
+    let refusal = refusal_of(rt.alloc(), "")?;
+    assert_eq!(rt; matches!(&refusal, DeError::UnexpectedEvent(_, _, _)), true);
     Ok(())
 }

@@ -1,5 +1,5 @@
 use Rattle.std.proofs.Common.{◌≡◌, drop, map}
-use Rattle.serde_yaml2.specs.Entries.{seen_entry}
+use Rattle.yaml_read.specs.Entries.{seen_entry}
 use Rattle.compose_config.specs.Plan as plan
 use Rattle.compose_config.specs.View.{instance_of}
 use Rattle.compose_config.proofs.config.instance_named.Given as goal
