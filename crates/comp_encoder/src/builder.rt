@@ -1,6 +1,6 @@
 //! A builder that writes components.
 
-ghost use Rattle.std.specs.Prelude.{◌≡◌, ◌<◌, ◌≤◌, ◌+◌, ◌^◌, ◌++◌, ◌∷◌, ◌⊎◌, [], ℕ, List, length, max, All, Some, OnOk, OnErr, IfOk, IfErr, Err, None, option_map, true, false};
+ghost use Rattle.std.specs.Prelude.{◌≡◌, ◌<◌, ◌≤◌, ◌+◌, ◌^◌, ◌++◌, ◌∷◌, ◌⊎◌, [], ℕ, List, length, All, Some, OnOk, OnErr, IfOk, IfErr, Err, None, option_map, true, false};
 ghost use Rattle.std.specs.List.{AllByRecursion};
 ghost use Rattle.comp_types.specs.declared.types.CoreSort.TheVariants as core_sort;
 ghost use Rattle.comp_types.specs.declared.types.Sort.{Sort as sort_of_item};
@@ -15,7 +15,7 @@ ghost use Rattle.comp_types.specs.Items.{ItemTree, CoreTy, Component, Instance, 
 ghost use Rattle.comp_types.specs.Sections.{Reads};
 ghost use Rattle.comp_types.specs.Fits.{IsComponent};
 ghost use Rattle.comp_types.specs.Forms.{IsDefined, IsFunc, AreDecls, AreModuleDecls};
-ghost use Rattle.comp_types.specs.Spaces.{core_space, space_of};
+ghost use Rattle.comp_types.specs.Spaces.{space_of};
 ghost use Rattle.comp_encoder.specs.Largest.{vector_largest, arg_largest, defined_largest, func_largest, core_largest, definition_largest};
 ghost use Rattle.comp_encoder.specs.Writing.{Single, RawSection, numbered, IsTooLongAmong, IsShort, items_of, described_sort, item_sort, groups_of, component_text, next_index};
 ghost use Rattle.comp_encoder.specs.Builder.{IsBytesOf, IsContent, IsContentOf, item_of, entries_of};

@@ -1,6 +1,6 @@
 //! Core types as bytes.
 
-ghost use Rattle.std.specs.Prelude.{◌≡◌, ◌++◌, ◌∷◌, [], ℕ, length, map, max, OnOk};
+ghost use Rattle.std.specs.Prelude.{◌≡◌, ◌++◌, length, map, max, OnOk};
 ghost use Rattle.comp_types.specs.Numbers.{number_text};
 ghost use Rattle.comp_types.specs.CoreTypes as tree;
 ghost use Rattle.comp_types.specs.CoreTypes.{core_value_code, mutable_code, module_decls, limits_text, core_value_text, core_desc_text, core_text, module_decl_text, module_text};

@@ -1,6 +1,6 @@
 //! Types that components define as bytes.
 
-ghost use Rattle.std.specs.Prelude.{◌≡◌, ◌++◌, ◌∷◌, [], ℕ, length, map, max, OnOk};
+ghost use Rattle.std.specs.Prelude.{◌≡◌, ◌++◌, length, map, max, OnOk};
 ghost use Rattle.comp_types.specs.Numbers.{number_text};
 ghost use Rattle.comp_types.specs.Vectors.{optional_text};
 ghost use Rattle.comp_types.specs.Parts.{alias_text};

@@ -1,6 +1,6 @@
 //! What was added, cut into sections, and the sections as bytes.
 
-ghost use Rattle.std.specs.Prelude.{◌≡◌, ◌<◌, ◌≤◌, ◌^◌, ◌++◌, ◌∷◌, ℕ, List, length, take, drop, OnOk, IfOk, Err, false};
+ghost use Rattle.std.specs.Prelude.{◌≡◌, ◌<◌, ◌≤◌, ◌^◌, ◌++◌, ◌∷◌, ℕ, length, take, drop, OnOk, IfOk, Err, false};
 ghost use Rattle.std.specs.List.{flat_map, AllByRecursion};
 ghost use Rattle.comp_types.specs.Numbers.{number_text};
 ghost use Rattle.comp_encoder.specs.Builder.{IsKept, IsItem, IsRun, EndsRun, kept, kepts_of, kept_bytes, entries_of, first_group, shared_group};

@@ -1,6 +1,6 @@
 //! The parts of items as bytes.
 
-ghost use Rattle.std.specs.Prelude.{◌≡◌, ◌++◌, ◌∷◌, [], List, ℕ, length, max, All, OnOk};
+ghost use Rattle.std.specs.Prelude.{◌≡◌, ◌++◌, List, ℕ, max, All, OnOk};
 ghost use Rattle.std.specs.Str.{IsUtf8};
 ghost use Rattle.comp_types.specs.Numbers.{number_text};
 ghost use Rattle.comp_types.specs.Vectors.{vector_text, optional_text};

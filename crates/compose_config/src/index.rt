@@ -1,6 +1,6 @@
 //! Maps whose values are texts or maps.
 
-ghost use Rattle.std.specs.Prelude.{◌≡◌, ℕ, List, [], Option, Some, map, bytes_eq, IfOk};
+ghost use Rattle.std.specs.Prelude.{◌≡◌, ℕ, List, Option, Some, map, bytes_eq, IfOk};
 ghost use Rattle.indexmap.specs.IndexMap.{insert_entry};
 ghost use Rattle.yaml_small.specs.Trees.{Tree};
 ghost use Rattle.yaml_read.specs.Answers.{source_of, Gives};

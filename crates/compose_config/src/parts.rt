@@ -1,6 +1,6 @@
 //! Dependencies, instantiations and their arguments.
 
-ghost use Rattle.std.specs.Prelude.{◌≡◌, ℕ, List, Option, Some, option_map};
+ghost use Rattle.std.specs.Prelude.{ℕ, List, Option, Some};
 ghost use Rattle.yaml_read.specs.Answers.{source_of, Gives};
 ghost use Rattle.yaml_read.specs.Collections as collections;
 ghost use Rattle.yaml_read.specs.Scalar as scalar;

@@ -1,11 +1,10 @@
 //! Types whose values come back: written and then read, they are themselves.
 
-ghost use Rattle.std.specs.Prelude.{◌≡◌, ◌≤◌, ◌^◌, ◌-◌, Some, refl, true, string_bytes, All, pos, negsuc};
+ghost use Rattle.std.specs.Prelude.{◌≡◌, ◌≤◌, Some, refl, true, string_bytes, All, pos, negsuc};
 ghost use Rattle.std.specs.Char.{is_ascii_alphanumeric};
 ghost use Rattle.std.specs.Str.{IsUtf8};
 ghost use Rattle.yaml_small.specs.View.{view};
 ghost use Rattle.yaml_text.specs.Written.{tree_of, ReadsBack};
-ghost use Rattle.yaml_read.specs.Scalar.{truth};
 ghost use Rattle.yaml_read.specs.Wrapped.{wrapped};
 ghost use Rattle.serde_yaml2.specs.Returns.{IsBetween, EachReturns, OptionReturns, MapReturns};
 ghost use Rattle.serde_yaml2.specs.NodeReturns.{DataReturns};

@@ -1,6 +1,6 @@
 //! The serializer, and its writes of single values.
 
-ghost use Rattle.std.specs.Prelude.{◌≡◌, ◌++◌, ◌+◌, ◌≤◌, ◌∷◌, [], string_bytes, pos, Err, IfOk, IfErr, IsErr};
+ghost use Rattle.std.specs.Prelude.{◌≡◌, ◌++◌, ◌+◌, ◌≤◌, [], string_bytes, pos, Err, IfOk, IfErr, IsErr};
 ghost use Rattle.yaml_small.specs.Trees.{depth};
 ghost use Rattle.yaml_text.specs.Written.{tree_of};
 ghost use Rattle.yaml_text.specs.Written as spec;

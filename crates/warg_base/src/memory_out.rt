@@ -1,8 +1,7 @@
 //! An output in memory.
 
-ghost use Rattle.std.specs.Prelude.{◌≡◌, ◌≤◌, ◌+◌, ◌++◌, ◌∷◌, [], ◌↔◌, Some, IfSome, IsErrOf, OnOk, OnErr, Contains};
+ghost use Rattle.std.specs.Prelude.{◌≡◌, ◌≤◌, ◌+◌, ◌++◌, ◌∷◌, [], ◌↔◌, Some, IsErrOf, OnOk, OnErr, Contains};
 ghost use Rattle.warg_base.specs.Faults.{Rose, one_more};
-ghost use Rattle.warg_base.specs.Out.{PartlyAdded};
 
 use crate::faults::FaultSchedule;
 use crate::memory::Memory;

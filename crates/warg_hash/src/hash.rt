@@ -1,8 +1,8 @@
 //! Hashes, and the ids of logs, records and keys, which are hashes.
 
-ghost use Rattle.std.specs.Prelude.{◌≡◌, ◌++◌, List, ℕ, Some, codes, IfOk, IfErr, Err};
+ghost use Rattle.std.specs.Prelude.{◌≡◌, List, ℕ, Some, IfOk, IfErr, Err};
 ghost use Rattle.sha2.specs.Sha256.{sha256};
-ghost use Rattle.warg_hash.specs.Hash.{IsDigest, IsHashText, hash_text, operator_log_id, package_log_id};
+ghost use Rattle.warg_hash.specs.Hash.{IsHashText, hash_text, operator_log_id, package_log_id};
 ghost use Rattle.warg_hash.specs.declared.name.NameError.TheVariants.{Form};
 
 use crate::name::{NameError, PackageName};

@@ -1,7 +1,6 @@
 //! Judging the entries of a record.
 
-ghost use Rattle.std.specs.Prelude.{◌≡◌, ◌∷◌, [], List, Some, None, IfOk, IfErr, OnOk, OnErr, map, option_copied};
-ghost use Rattle.std.specs.Option.{option_map_or};
+ghost use Rattle.std.specs.Prelude.{◌≡◌, ◌∷◌, [], Some, None, IfOk, IfErr, OnOk, OnErr, map, option_copied};
 ghost use Rattle.warg_log.specs.Rules.{opening_key, signature_prefix};
 ghost use Rattle.warg_log.specs.Faults.{IsFault};
 ghost use Rattle.warg_log.specs.Known.{known_by, known_fault, known_step, known_entries_fault, known_steps, undone, undone_all, CanUndo, CanUndoAll};

@@ -2,7 +2,7 @@
 
 ghost use Rattle.std.specs.Prelude.{◌≡◌, map};
 ghost use Rattle.warg_record.specs.Record.{Package, Operator};
-ghost use Rattle.warg_log.specs.Permissions.{has_permission, no_permissions, only, union, without, set_of, all_of};
+ghost use Rattle.warg_log.specs.Permissions.{has_permission, only, union, without, set_of, all_of};
 
 use warg_record::LogPermission;
 

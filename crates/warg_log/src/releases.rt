@@ -1,6 +1,6 @@
 //! The releases of a log, in order, and the place of each version among them.
 
-ghost use Rattle.std.specs.Prelude.{◌≡◌, ◌++◌, ◌∷◌, [], ◌<◌, OnOk, OnErr, IfSome, Some, None, is_some, map, length, find, option_map, option_copied};
+ghost use Rattle.std.specs.Prelude.{◌≡◌, ◌++◌, ◌∷◌, [], ◌<◌, OnOk, OnErr, Some, None, length, find, option_map, option_copied};
 ghost use Rattle.semver.specs.Identifiers.{parts_of};
 ghost use Rattle.warg_log.specs.History.{same_version};
 ghost use Rattle.warg_log.specs.Places.{place_of, release_view, release_views, versions_of, without_last, with_content, content_at};

@@ -1,7 +1,6 @@
 //! The state of a log.
 
-ghost use Rattle.std.specs.Prelude.{◌≡◌, ◌∷◌, ◌++◌, [], List, Bool, Option, Some, None, IfOk, IfErr, OnOk, OnErr, MatchOption, true, false, map, is_some, not, option_copied, option_map, find};
-ghost use Rattle.std.specs.Option.{option_or};
+ghost use Rattle.std.specs.Prelude.{◌≡◌, ◌∷◌, ◌++◌, [], List, Option, Some, None, IfOk, IfErr, OnOk, OnErr, MatchOption, false, map, is_some, not, option_copied, option_map, find};
 ghost use Rattle.warg_log.specs.Rules.{Signed, Accepts, any_signature, signed_text, head_from, fault_of, head_rules, broken, FirstEntryNotInit, signature_fault, Fault, head_of, entries_of};
 ghost use Rattle.warg_log.specs.Faults.{IsFault};
 ghost use Rattle.warg_log.specs.Lawful.{IsLawful};

@@ -1,6 +1,6 @@
 //! The hashes of a Merkle tree (RFC 6962, section 2.1).
 
-ghost use Rattle.std.specs.Prelude.{◌≡◌, ◌↔◌, ◌<◌, IsTrue};
+ghost use Rattle.std.specs.Prelude.{◌≡◌, ◌<◌};
 ghost use Rattle.warg_proof.specs.Merkle.{leaf_hash as leaf_hash_of, branch_hash as branch_hash_of};
 ghost use Rattle.warg_proof.specs.MapTree.{has_bit as has_bit_at};
 

@@ -1,6 +1,6 @@
 //! Bundles of proofs over a log.
 
-ghost use Rattle.std.specs.Prelude.{◌≡◌, ◌≢◌, ◌↔◌, ◌⊎◌, ◌<◌, ◌≤◌, List, ℕ, length, IfOk, IfErr, IsOk, IsSome, IsSomeAnd, Err, None, MatchResult};
+ghost use Rattle.std.specs.Prelude.{◌≡◌, ◌≢◌, ◌↔◌, ◌⊎◌, ◌<◌, List, ℕ, length, IfOk, IfErr, IsOk, IsSome, IsSomeAnd, Err, None, MatchResult};
 ghost use Rattle.warg_proof.specs.LogProofs.{LogProofs, bundle_of, IsOfOtherLength, IsOfOtherLeaf, log_text, IsLogBundle, numbered as numbered_proof, only_one as only_proof, asked_inclusion, inclusion_path, AsksInclusion, ProvesInclusion, asked_consistency, consistency_hashes, AsksConsistency, ProvesConsistency, IsOtherRoot};
 ghost use Rattle.warg_proof.specs.Reading.{Gives, log_at, log_rest_at};
 ghost use Rattle.warg_proof.specs.Judging.{inclusion_verdict, consistency_verdict};

@@ -1,6 +1,6 @@
 //! Reading the bytes of proof bundles.
 
-ghost use Rattle.std.specs.Prelude.{◌≡◌, List, ℕ, map, Ok, length};
+ghost use Rattle.std.specs.Prelude.{◌≡◌, List, ℕ, map, Ok};
 ghost use Rattle.warg_proof.specs.declared.node.Node.{Node};
 ghost use Rattle.warg_proof.specs.declared.node.Consistency.{Consistency};
 ghost use Rattle.warg_proof.specs.declared.node.Inclusion.{Inclusion};

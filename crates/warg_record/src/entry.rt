@@ -1,6 +1,6 @@
 //! What the entries and the permissions of both kinds of log have in common.
 
-ghost use Rattle.std.specs.Prelude.{◌≡◌, ◌++◌, ℕ, List, true, false, MatchOption, IfOk};
+ghost use Rattle.std.specs.Prelude.{◌≡◌, ℕ, List, true, false, MatchOption, IfOk};
 ghost use Rattle.warg_record.specs.Record.{Kind, PlainEntry, entry_text, is_permission};
 ghost use Rattle.warg_record.specs.Reading.{entry_at};
 ghost use Rattle.warg_record.specs.Answer.{Gives};

@@ -1,6 +1,6 @@
 //! Records, and reading them.
 
-ghost use Rattle.std.specs.Prelude.{◌≡◌, map, length, option_map, option_copied};
+ghost use Rattle.std.specs.Prelude.{map, length, option_map};
 ghost use Rattle.warg_record.specs.Reading as reading;
 ghost use Rattle.warg_record.specs.Answer.{Gives};
 ghost use Rattle.warg_record.specs.View.{record_view};

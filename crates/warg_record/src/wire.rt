@@ -1,6 +1,6 @@
 //! Reading the fields of messages of protocol buffers.
 
-ghost use Rattle.std.specs.Prelude.{◌≡◌, ◌≤◌, ◌<◌, ◌^◌, IfOk, option_copied, option_map};
+ghost use Rattle.std.specs.Prelude.{◌<◌, option_map};
 ghost use Rattle.warg_record.specs.Reading.{varint_at, counted_at, field_at, optional_at, number_at};
 ghost use Rattle.warg_record.specs.Answer.{Gives};
 

@@ -1,6 +1,6 @@
 //! Writing the fields of messages.
 
-ghost use Rattle.std.specs.Prelude.{◌≡◌, ◌++◌, ◌<◌, ◌≤◌, map, OnOk, IfOk};
+ghost use Rattle.std.specs.Prelude.{◌≡◌, ◌++◌, ◌<◌, map, OnOk, IfOk};
 ghost use Rattle.warg_record.specs.Record.{Init, GrantFlat, RevokeFlat, entry_text};
 ghost use Rattle.warg_record.specs.Wire.{varint_in, field, fields, number_field};
 

@@ -1,6 +1,6 @@
 //! Values of any kind, and values that are passed over.
 
-ghost use Rattle.std.specs.Prelude.{◌≡◌, ℕ, [], map};
+ghost use Rattle.std.specs.Prelude.{[], map};
 ghost use Rattle.yaml_small.specs.View.{view};
 ghost use Rattle.yaml_read.specs.Any as any;
 ghost use Rattle.yaml_read.specs.Collections as collections;

@@ -1,12 +1,10 @@
 //! Types of std that are read.
 
-ghost use Rattle.std.specs.Prelude.{ℕ, ◌∷◌, ◌++◌, [], List, Bool, ℤ, pos, negsuc, Option, map, option_map, string_bytes, Result, Ok, bytes_eq};
-ghost use Rattle.indexmap.specs.IndexMap.{insert_entry};
+ghost use Rattle.std.specs.Prelude.{ℕ, List, Bool, ℤ, pos, negsuc, Option, option_map, string_bytes, Result, Ok};
 ghost use Rattle.yaml_read.specs.Scalar as scalar;
 ghost use Rattle.yaml_read.specs.Collections as spec;
 ghost use Rattle.yaml_read.specs.Nodes as nodes;
 ghost use Rattle.yaml_read.specs.Laws as laws;
-ghost use Rattle.yaml_read.specs.CollectionLaws as collections;
 ghost use Rattle.yaml_read.specs.PartLaws as parts;
 
 use crate::deserializer::YamlDeserializer;

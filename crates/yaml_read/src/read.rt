@@ -1,6 +1,6 @@
 //! Types that are read from YAML.
 
-ghost use Rattle.std.specs.Prelude.{◌≡◌, ℕ, List, Option, Result};
+ghost use Rattle.std.specs.Prelude.{ℕ, List, Option, Result};
 ghost use Rattle.yaml_small.specs.Trees.{Tree};
 ghost use Rattle.yaml_read.specs.Source.{Source, Refusal};
 ghost use Rattle.yaml_read.specs.Told.{Reads};

@@ -1,5 +1,5 @@
 -- Choices are read as what is told, and come back.
-use Rattle.std.proofs.Common.{◌≡◌, ℕ, List, Some, option_map, Ok, refl, ap, ℤ, pos, bytes_eq, codes}
+use Rattle.std.proofs.Common.{◌≡◌, ℕ, List, Some, option_map, Ok, refl, ap, bytes_eq, codes}
 use Rattle.yaml_text.specs.Written as spec
 use Rattle.yaml_text.specs.Written.{ReadsBack, tree_of}
 use Rattle.yaml_read.specs.Source.{UnknownField}
@@ -9,7 +9,7 @@ use Rattle.yaml_read.specs.Told.{Reads}
 use Rattle.yaml_read.specs.Laws.{plain_reads, any_reads, unit_reads}
 use Rattle.yaml_read.specs.PartLaws.{enum_reads, pair_reads, mapped_reads, choice_reads as or_reads, refused_reads}
 use Rattle.serde_yaml2.specs.ReturnLaws.{below_u64, unsigned_reads_back, unsigned_comes_back, signed_reads_back, signed_comes_back, pair_comes_back}
-use Rattle.yaml_round_trip.specs.Fields.{Seen, least, most, sample_node, sample_at}
+use Rattle.yaml_round_trip.specs.Fields.{least, most, sample_node, sample_at}
 use Rattle.yaml_round_trip.specs.FieldLaws.{sample_reads, sample_reads_back, sample_comes_back}
 use Rattle.yaml_round_trip.specs.Choices.{Kind, nothing, count, tuple, both, as_nothing, as_tuple, as_both, tuple_node, tuple_at, takes, fills, choice_node, choice_at, written_choice, ChoiceReturns}
 

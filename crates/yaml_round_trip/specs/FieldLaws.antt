@@ -1,5 +1,5 @@
 -- Samples are read as what is told, and come back.
-use Rattle.std.proofs.Common.{◌≡◌, ℕ, List, Option, Some, option_map, option_and_then, refl, ap, ◌∙◌, ℤ, bytes_eq, codes}
+use Rattle.std.proofs.Common.{◌≡◌, ℕ, List, Option, Some, option_map, option_and_then, refl, ap, ℤ, bytes_eq, codes}
 use Rattle.std.specs.Str.{IsUtf8}
 use Rattle.yaml_text.specs.Written as spec
 use Rattle.yaml_text.specs.Written.{ReadsBack, tree_of, pairs_of, member, no_members}

@@ -1,6 +1,6 @@
 //! Lines (YAML 1.2.2, sections 5.4, 6.1 and 6.6).
 
-ghost use Rattle.std.specs.Prelude.{◌≡◌, ◌∷◌, ◌≤◌, ◌<◌, length, option_copied, OnSome, IfSome};
+ghost use Rattle.std.specs.Prelude.{◌≡◌, ◌∷◌, ◌≤◌, ◌<◌, length, option_copied, IfSome};
 ghost use Rattle.yaml_scan.specs.Lines as spec;
 
 use crate::bytes::{is_clean, is_gap, is_white, whites};

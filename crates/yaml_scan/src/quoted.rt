@@ -1,6 +1,6 @@
 //! Quoted scalars of one line (YAML 1.2.2, sections 7.3.1, 7.3.2 and 5.7).
 
-ghost use Rattle.std.specs.Prelude.{◌≡◌, ◌++◌, ◌∷◌, IfOk, OnOk, encode_utf8};
+ghost use Rattle.std.specs.Prelude.{◌≡◌, ◌++◌, IfOk, OnOk, encode_utf8};
 ghost use Rattle.yaml_scan.specs.Quoted as spec;
 ghost use Rattle.yaml_scan.specs.Finds as finds;
 

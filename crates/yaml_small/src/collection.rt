@@ -4,7 +4,7 @@
 ghost use Rattle.std.specs.Prelude.{◌≡◌, ◌≤◌, length};
 ghost use Rattle.yaml_small.specs.Step as spec;
 ghost use Rattle.yaml_small.specs.Answers.{place_at, Gives};
-ghost use Rattle.yaml_small.specs.Words.{FailsAs, word_view};
+ghost use Rattle.yaml_small.specs.Words.{FailsAs};
 ghost use Rattle.yaml_small.specs.Steps.{step_view};
 
 use crate::error::ScanError;

@@ -1,6 +1,6 @@
 //! Flow lists and maps (YAML 1.2.2, section 7.4).
 
-ghost use Rattle.std.specs.Prelude.{◌≡◌, ◌≤◌, true, length, drop, IfErr, IfOk};
+ghost use Rattle.std.specs.Prelude.{◌≡◌, ◌≤◌, true, length, IfErr, IfOk};
 ghost use Rattle.yaml_scan.specs.Plain as plain;
 ghost use Rattle.yaml_small.specs.Grammar as grammar;
 ghost use Rattle.yaml_small.specs.Step as spec;

@@ -1,7 +1,6 @@
 //! The first event of a node (YAML 1.2.2, chapters 7 and 8).
 
 ghost use Rattle.std.specs.Prelude.{◌≡◌, ◌≤◌, length, IfErr, IfOk};
-ghost use Rattle.yaml_small.specs.Scalars as scalars;
 ghost use Rattle.yaml_small.specs.Step as spec;
 ghost use Rattle.yaml_small.specs.Answers.{place_at, Gives};
 ghost use Rattle.yaml_small.specs.Words.{word_view};

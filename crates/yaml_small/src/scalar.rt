@@ -2,10 +2,8 @@
 
 ghost use Rattle.std.specs.Prelude.{◌≡◌, true, option_copied, IfOk, IfErr};
 ghost use Rattle.yaml_scan.specs.Lines.{lines_behind};
-ghost use Rattle.yaml_scan.specs.Finds.{Finds};
-ghost use Rattle.yaml_small.specs.Places as places;
 ghost use Rattle.yaml_small.specs.Scalars as spec;
-ghost use Rattle.yaml_small.specs.Answers.{place_at, Gives, Fails};
+ghost use Rattle.yaml_small.specs.Answers.{place_at, Gives};
 ghost use Rattle.yaml_small.specs.Words.{content_bytes, word_view, FoundIn, FailsAs};
 
 use crate::error::ScanError;

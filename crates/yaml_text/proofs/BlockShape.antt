@@ -6,7 +6,7 @@ use Rattle.std.specs.Str.{chars}
 use Rattle.std.proofs.lemmas.Bool.{cases_Bool, cases_lt, eqb-true, ne_eqb}
 use Rattle.std.proofs.lemmas.List.Folds.{list_any-append}
 use Rattle.std.proofs.lemmas.Str.{encodes-chars, encode_ascii}
-use lib.Utf8.{encode, encodes}
+use lib.Utf8.{encodes}
 use Rattle.yaml_scan.specs.Bytes.{is_white, is_clean}
 use Rattle.yaml_scan.specs.Lines.{lines_of, lengthened}
 use Rattle.yaml_scan.specs.Block.{all_clean}

@@ -5,7 +5,7 @@ use Rattle.std.specs.Str.{chars}
 use Rattle.std.specs.Prelude.{encode_utf8}
 use Rattle.std.proofs.lemmas.Bool.{cases_Bool, cases_lt, eqb-true, ne_eqb}
 use Rattle.std.proofs.lemmas.Str.{encodes-chars, encode_ascii}
-use lib.Utf8.{encode, encodes}
+use lib.Utf8.{encodes}
 use Rattle.yaml_scan.specs.Lines.{lines_of, lengthened}
 use Rattle.yaml_text.specs.Texts.{is_escaped, has_other_escape, block_indent, block_char, block}
 use Rattle.yaml_text.proofs.Characters.{AreQuiet, quiet_char}

@@ -6,7 +6,7 @@ use Rattle.std.specs.Char.{digit_value, is_digit}
 use Rattle.std.proofs.lemmas.Bool.{cases_Bool, cases_lt, cases_eq, eqb-true, ne_eqb, lt-ltb, le-ltb, lt-leb}
 use Rattle.std.proofs.lemmas.Bool.Decides.{nat_tests}
 use Rattle.std.proofs.lemmas.Str.{encode_ascii}
-use lib.Utf8.{scalar, scalars, low_scalar, encode, encodes}
+use lib.Utf8.{scalar, scalars, low_scalar, encodes}
 use Rattle.yaml_scan.specs.Bytes.{is_control, is_control_byte}
 use Rattle.yaml_scan.specs.Quoted.{Found, with_text, single_at, double_quoted_at}
 use Rattle.yaml_text.specs.Texts.{is_escaped, hex_digit, hex_pair, escape, double_char, single_char}

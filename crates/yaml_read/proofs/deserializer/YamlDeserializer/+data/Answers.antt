@@ -1,4 +1,4 @@
-use Rattle.std.proofs.Common.{◌≡◌, ◌<◌, sym, ◌∙◌, map, arith}
+use Rattle.std.proofs.Common.{◌<◌, sym, ◌∙◌, map, arith}
 use Rattle.std.proofs.lemmas.Grind.{common_steps}
 use Rattle.yaml_small.specs.View.{view}
 use Rattle.yaml_read.specs.Any.{data_at}

@@ -1,5 +1,4 @@
-use Rattle.std.proofs.Common.{◌≡◌, ◌+◌, ◌-◌, ◌*◌, [], map, bytes_eq}
-use Rattle.indexmap.specs.IndexMap.{insert_entry}
+use Rattle.std.proofs.Common.{◌≡◌, ◌+◌, ◌-◌, ◌*◌, [], map}
 use Rattle.yaml_small.specs.View.{view}
 use Rattle.yaml_read.specs.Any.{data_at, item_takes, entry_takes}
 use Rattle.yaml_read.specs.Collections.{items_at, entries_at}
