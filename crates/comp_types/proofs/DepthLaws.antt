@@ -7,9 +7,11 @@ use Rattle.std.proofs.lemmas.Bool.{cases_lt}
 use Rattle.warg_base.specs.Reading.{◌>>=◌}
 use Rattle.comp_types.specs.Fault.{Fault, TooDeep}
 use Rattle.comp_types.specs.Vectors.{ReaderOf, many_at, vector_at, byte_at}
-use Rattle.comp_types.specs.CoreTypes.{CoreTree, ModuleDeclTree, module_decl_at, module_at, core_with, core_at}
-use Rattle.comp_types.specs.Definitions.{TypeTree, DeclTree, decl_at, inner_type_at, type_with, definition_at}
+use Rattle.comp_types.specs.CoreTypes.{CoreTree, CoreForm, ModuleDeclTree, module_decl_at, module_at, core_with, core_at}
+use Rattle.comp_types.specs.Definitions.{TypeTree, DeclTree, DefForm, decl_at, inner_type_at, type_with, definition_at}
 use Rattle.comp_types.specs.Sections.{Section, Sections, ComponentForm, whole_at, behind_at, headed_at, frame_at, content_with, sections_at, component_at, header}
+use Rattle.comp_types.proofs.CoreTypeLaws.{core_again, core_scopes}
+use Rattle.comp_types.proofs.DefinitionLaws.{definition_again, type_scopes}
 use Rattle.comp_types.proofs.SectionLaws.{component_again, sections_scopes}
 
 module _ {X : Type 0} where
@@ -36,7 +38,7 @@ then_below : {X Y : Type 0} (r : Result X Fault) (f g : X → Result Y Fault) �
 then_below r f g next = bind_below r r f g (inr refl) next
 
 -- what a reading is followed by is the same
-first_below : {X Y : Type 0} (r s : Result X Fault) (f : X → Result Y Fault) → Below r s → Below (r >>= f) (s >>= f)
+pub first_below : {X Y : Type 0} (r s : Result X Fault) (f : X → Result Y Fault) → Below r s → Below (r >>= f) (s >>= f)
 first_below r s f h = bind_below r s f f h (λ x. inr refl)
 
 -- one reader reads no more than another, and both alike but for depth
@@ -134,18 +136,32 @@ component_below (suc scopes) bytes =
     let after : List ℕ = drop 8 bytes in
     if_below (starts_with nat_eq bytes header) _ _ _ _ (sections_below one more content (length after) after) (inr refl)
 
--- the more scopes may be open, the more is read, and nothing otherwise
-pub component_at_most : (scopes more : ℕ) → scopes ≤ more → AtMost (component_at scopes) (component_at more)
-component_at_most scopes zero le bytes = inr (ap (λ (n : ℕ). component_at n bytes) (omega (arith, le)))
-component_at_most scopes (suc more) le bytes =
-    elim (cases_lt more scopes) [
-      | inl above ↦ inr (ap (λ (n : ℕ). component_at n bytes) (omega (arith, le, above)))
-      | inr within ↦ below_again (component_at scopes bytes) (component_at more bytes) (component_at (suc more) bytes) (component_at_most scopes more within bytes) (component_below more bytes)
-    ]
+module _ {X : Type 0} (read : ℕ → List ℕ → Result X Fault) (below : (scopes : ℕ) → AtMost (read scopes) (read (suc scopes))) where
+  -- the more scopes may be open, the more is read, and nothing otherwise
+  more_scopes : (scopes more : ℕ) → scopes ≤ more → AtMost (read scopes) (read more)
+  more_scopes scopes zero le bytes = inr (ap (λ (n : ℕ). read n bytes) (omega (arith, le)))
+  more_scopes scopes (suc more) le bytes =
+      elim (cases_lt more scopes) [
+        | inl above ↦ inr (ap (λ (n : ℕ). read n bytes) (omega (arith, le, above)))
+        | inr within ↦ below_again (read scopes bytes) (read more bytes) (read (suc more) bytes) (more_scopes scopes more within bytes) (below more bytes)
+      ]
 
--- a component is read, or too deep to be
+  -- what is read where some scopes more may be open is read, or too deep to be
+  read_or_deep : (scopes needed : ℕ) (bytes : List ℕ) (x : X) → read (scopes + needed) bytes ≡ Ok x → Below (read scopes bytes) (Ok x)
+  read_or_deep scopes needed bytes x e = subst (λ (r : Result X Fault). Below (read scopes bytes) r) e (more_scopes scopes (scopes + needed) (omega arith) bytes)
+
+pub component_at_most : (scopes more : ℕ) → scopes ≤ more → AtMost (component_at scopes) (component_at more)
+component_at_most = more_scopes component_at component_below
+
+-- core types, types and components are read, or too deep to be
+pub core_or_deep : (t : CoreTree) (scopes : ℕ) (bytes rest : List ℕ) → CoreForm t bytes rest → Below (core_at scopes bytes) (Ok (t, rest))
+core_or_deep t scopes bytes rest h =
+    read_or_deep core_at core_below scopes (core_scopes t) bytes (t, rest) (core_again t (scopes + core_scopes t) bytes rest (omega arith) h)
+
+pub definition_or_deep : (t : TypeTree) (scopes : ℕ) (bytes rest : List ℕ) → DefForm t bytes rest → Below (definition_at scopes bytes) (Ok (t, rest))
+definition_or_deep t scopes bytes rest h =
+    read_or_deep definition_at definition_below scopes (type_scopes t) bytes (t, rest) (definition_again t (scopes + type_scopes t) bytes rest (omega arith) h)
+
 pub component_within : (ss : Sections) (scopes : ℕ) (bytes : List ℕ) → ComponentForm ss bytes → (component_at scopes bytes ≡ Err TooDeep) ⊎ (component_at scopes bytes ≡ Ok ss)
 component_within ss scopes bytes h =
-    let more : ℕ = scopes + suc (sections_scopes ss) in
-    let read : component_at more bytes ≡ Ok ss = component_again ss more bytes (omega arith) h in
-    subst (λ (r : Result Sections Fault). Below (component_at scopes bytes) r) read (component_at_most scopes more (omega arith) bytes)
+    read_or_deep component_at component_below scopes (suc (sections_scopes ss)) bytes ss (component_again ss (scopes + suc (sections_scopes ss)) bytes (omega arith) h)

@@ -1,5 +1,5 @@
 -- How many scopes are open in a type or section: no more than it has bytes.
-use Rattle.std.proofs.Common.{◌≡◌, ℕ, zero, suc, ◌+◌, ◌<◌, ◌≤◌, Bool, true, false, List, [], ◌∷◌, ◌++◌, length, Option, Some, None, ap, arith, inl, inr}
+use Rattle.std.proofs.Common.{◌≡◌, ℕ, zero, suc, ◌+◌, ◌≤◌, Bool, true, false, List, [], ◌∷◌, length, Option, Some, None, ap, arith, inl, inr}
 use Rattle.std.proofs.lemmas.List.{length-append}
 use Rattle.comp_types.specs.declared.core_types.CoreVal.{CoreVal}
 use Rattle.comp_types.specs.declared.core_types.CoreDesc.{CoreDesc}
@@ -13,12 +13,24 @@ use Rattle.comp_types.specs.declared.types.Sort.{Sort}
 use Rattle.comp_types.specs.declared.types.Sort.TheVariants as sort
 use Rattle.comp_types.specs.declared.types.TypeRef.{TypeRef}
 use Rattle.comp_types.specs.declared.types.TypeRef.TheVariants as description
+use Rattle.comp_types.specs.declared.types.CoreSort.{CoreSort}
+use Rattle.comp_types.specs.declared.types.Arg.{Arg}
+use Rattle.comp_types.specs.declared.types.CoreInstance.{CoreInstance}
+use Rattle.comp_types.specs.declared.types.CoreInstance.TheVariants as core_instance
+use Rattle.comp_types.specs.declared.types.InstanceItem.{InstanceItem}
+use Rattle.comp_types.specs.declared.types.InstanceItem.TheVariants as instance
+use Rattle.comp_types.specs.declared.types.CanonOption.{CanonOption}
+use Rattle.comp_types.specs.declared.types.CanonOption.TheVariants as option
+use Rattle.comp_types.specs.declared.types.Canon.{Canon}
+use Rattle.comp_types.specs.declared.types.Canon.TheVariants as canon
 use Rattle.comp_types.specs.declared.types.Alias.{Alias}
 use Rattle.comp_types.specs.declared.types.Alias.TheVariants as alias
-use Rattle.comp_types.specs.Numbers.{FormOf, Byte, Then, Number, SignedLeb, SignedIndex}
+use Rattle.comp_types.specs.Numbers.{FormOf, Byte, Then, Number, SignedLeb}
 use Rattle.comp_types.specs.Vectors.{Many, Vector, Name, AnyName, Optional}
 use Rattle.comp_types.specs.Types.{ValForm, FieldForm, CaseForm, DefinedForm, ResultForm, FuncForm, label_of}
-use Rattle.comp_types.specs.Parts.{SortForm, DescriptionForm, ExportName, AliasForm}
+use Rattle.comp_types.specs.Parts.{SortForm, DescriptionForm, ArgForm, ExportName, MemberForm, InstanceForm, AliasForm, CoreArgForm, CoreMemberForm, CoreInstanceForm}
+use Rattle.comp_types.specs.Canons.{OptionForm, CanonForm}
+use Rattle.comp_types.specs.Items.{ImportTree, ExportTree, ImportForm, ExportForm}
 use Rattle.comp_types.specs.CoreTypes as core
 use Rattle.comp_types.specs.CoreTypes.{CoreTree, ModuleDeclTree, ModuleDecls, CoreValForm, LimitsOf, CoreDescForm, CoreForm, ModuleDeclForm, ModuleForm}
 use Rattle.comp_types.specs.Definitions as tree
@@ -32,7 +44,7 @@ use Rattle.comp_types.proofs.SectionLaws.{total, section_scopes, sections_scopes
 -- ---- forms use bytes up
 
 -- what stands behind a form is no longer than the bytes
-abbrev UsesUp : (List ℕ → List ℕ → Type 0) → Type 0
+abbrev pub UsesUp : (List ℕ → List ℕ → Type 0) → Type 0
 UsesUp Form = (bytes rest : List ℕ) → Form bytes rest → length rest ≤ length bytes
 
 byte_used : (b : ℕ) → UsesUp (Byte b)
@@ -61,7 +73,7 @@ any_name_used : (name : List ℕ) → UsesUp (AnyName name)
 any_name_used name bytes rest h = omega (arith, number_used (length name) bytes h.after h.count, ap length h.is_there, length-append name rest)
 
 module _ {X : Type 0} (One : FormOf X) (used : (x : X) → UsesUp (One x)) where
-  many_used : (xs : List X) → UsesUp (Many One xs)
+  pub many_used : (xs : List X) → UsesUp (Many One xs)
   many_used [] bytes rest h = omega (arith, ap length h)
   many_used (x ∷ xs) bytes rest h = omega (arith, used x bytes h.0 h.1, many_used xs h.0 rest h.2)
 
@@ -128,7 +140,7 @@ export_name_used : (name : List ℕ) → UsesUp (ExportName name)
 export_name_used name bytes rest (inl h) = omega (arith, ap length h.1, name_used name h.0 rest h.2)
 export_name_used name bytes rest (inr h) = omega (arith, ap length h.1, name_used name h.0 rest h.2)
 
-alias_used : (a : Alias) → UsesUp (AliasForm a)
+pub alias_used : (a : Alias) → UsesUp (AliasForm a)
 alias_used (alias.Export kind from name) bytes rest h =
     omega (arith, sort_used kind bytes h.0 h.1, ap length h.2.1, number_used from h.2.0 h.2.2.0 h.2.2.1, name_used name h.2.2.0 rest h.2.2.2)
 alias_used (alias.CoreExport kind from name) bytes rest h =
@@ -149,6 +161,47 @@ core_desc_used (core_item.Table element limits) bytes rest h =
     omega (arith, ap length h.1.1, core_value_used element h.1.0 h.1.2.0 h.1.2.1, limits_used limits.min limits.max h.1.2.0 rest h.1.2.2)
 core_desc_used (core_item.Memory limits) bytes rest h = omega (arith, ap length h.1, limits_used limits.min limits.max h.0 rest h.2)
 core_desc_used (core_item.Global v is_mutable) bytes rest h = omega (arith, ap length h.1, core_value_used v h.0 h.2.0 h.2.1, byte_used _ h.2.0 rest h.2.2)
+
+arg_used : (arg : Arg) → UsesUp (ArgForm arg)
+arg_used arg bytes rest h = omega (arith, name_used arg.name bytes h.0 h.1, sort_used arg.sort h.0 h.2.0 h.2.1, number_used arg.index h.2.0 rest h.2.2)
+
+member_used : (member : Arg) → UsesUp (MemberForm member)
+member_used member bytes rest h = omega (arith, export_name_used member.name bytes h.0 h.1, sort_used member.sort h.0 h.2.0 h.2.1, number_used member.index h.2.0 rest h.2.2)
+
+pub instance_used : (i : InstanceItem) → UsesUp (InstanceForm i)
+instance_used (instance.Instantiate component args) bytes rest h = omega (arith, ap length h.1, number_used component h.0 h.2.0 h.2.1, vector_used ArgForm arg_used args h.2.0 rest h.2.2)
+instance_used (instance.Exports members) bytes rest h = omega (arith, ap length h.1, vector_used MemberForm member_used members h.0 rest h.2)
+
+core_arg_used : (arg : List ℕ × ℕ) → UsesUp (CoreArgForm arg)
+core_arg_used arg bytes rest h = omega (arith, any_name_used arg.0 bytes h.0 h.1, ap length h.2.1, number_used arg.1 h.2.0 rest h.2.2)
+
+core_member_used : (member : List ℕ × CoreSort × ℕ) → UsesUp (CoreMemberForm member)
+core_member_used member bytes rest h = omega (arith, any_name_used member.0 bytes h.0 h.1, ap length h.2.1, number_used member.2 h.2.0 rest h.2.2)
+
+pub core_instance_used : (i : CoreInstance) → UsesUp (CoreInstanceForm i)
+core_instance_used (core_instance.Instantiate m args) bytes rest h = omega (arith, ap length h.1, number_used m h.0 h.2.0 h.2.1, vector_used CoreArgForm core_arg_used args h.2.0 rest h.2.2)
+core_instance_used (core_instance.Exports members) bytes rest h = omega (arith, ap length h.1, vector_used CoreMemberForm core_member_used members h.0 rest h.2)
+
+option_used : (o : CanonOption) → UsesUp (OptionForm o)
+option_used (option.Encoding code) bytes rest h = byte_used code bytes rest h.1
+option_used (option.Memory i) bytes rest h = marked_used 3 (Number i) (number_used i) bytes rest h
+option_used (option.Realloc i) bytes rest h = marked_used 4 (Number i) (number_used i) bytes rest h
+option_used (option.PostReturn i) bytes rest h = marked_used 5 (Number i) (number_used i) bytes rest h
+
+pub canon_used : (c : Canon) → UsesUp (CanonForm c)
+canon_used (canon.Lift f options ty) bytes rest h =
+    omega (arith, ap length h.1, ap length h.2.1, number_used f h.2.0 h.2.2.0 h.2.2.1, vector_used OptionForm option_used options h.2.2.0 h.2.2.2.0 h.2.2.2.1, number_used ty h.2.2.2.0 rest h.2.2.2.2)
+canon_used (canon.Lower f options) bytes rest h = omega (arith, ap length h.1, ap length h.2.1, number_used f h.2.0 h.2.2.0 h.2.2.1, vector_used OptionForm option_used options h.2.2.0 rest h.2.2.2)
+canon_used (canon.ResourceNew ty) bytes rest h = marked_used 2 (Number ty) (number_used ty) bytes rest h
+canon_used (canon.ResourceDrop ty) bytes rest h = marked_used 3 (Number ty) (number_used ty) bytes rest h
+canon_used (canon.ResourceRep ty) bytes rest h = marked_used 4 (Number ty) (number_used ty) bytes rest h
+
+pub import_used : (i : ImportTree) → UsesUp (ImportForm i)
+import_used i bytes rest h = omega (arith, export_name_used i.name bytes h.0 h.1, description_used i.ty h.0 rest h.2)
+
+pub export_used : (e : ExportTree) → UsesUp (ExportForm e)
+export_used e bytes rest h =
+    omega (arith, export_name_used e.name bytes h.0 h.1, sort_used e.sort h.0 h.2.0 h.2.1, number_used e.index h.2.0 h.2.2.0 h.2.2.1, optional_used DescriptionForm description_used e.ty h.2.2.0 rest h.2.2.2)
 
 -- ---- scopes
 
@@ -188,6 +241,12 @@ mutual
   decls_within : (ds : Decls) (imports : Bool) (bytes rest : List ℕ) → DeclsForm imports ds bytes rest → decls_scopes ds + length rest ≤ length bytes
   decls_within tree.none imports bytes rest h = omega (arith, ap length h)
   decls_within (tree.more d ds) imports bytes rest h = omega (arith, decl_within d imports bytes h.0 h.1, decls_within ds imports h.0 rest h.2)
+
+pub core_used : (t : CoreTree) → UsesUp (CoreForm t)
+core_used t bytes rest h = omega (arith, core_within t bytes rest h)
+
+pub definition_used : (t : TypeTree) → UsesUp (DefForm t)
+definition_used t bytes rest h = omega (arith, definition_within t bytes rest h)
 
 -- the scopes of all of some types
 all_within : {X : Type 0} (One : FormOf X) (scopes : X → ℕ) → ((x : X) (bytes rest : List ℕ) → One x bytes rest → scopes x + length rest ≤ length bytes)

@@ -1,5 +1,5 @@
 -- What has a written form: texts that are names, labels that differ, and numbers and counts below 2 ^ 32.
-use Rattle.std.specs.Prelude.{◌≡◌, ℕ, ◌<◌, ◌≤◌, ◌^◌, Bool, true, false, List, ◌++◌, length, map, All, IfSome, Option, Some, slice_get}
+use Rattle.std.specs.Prelude.{◌≡◌, ℕ, ◌<◌, ◌≤◌, ◌^◌, Bool, true, false, List, ◌++◌, length, map, All, IfSome, Option}
 use Rattle.std.specs.List.{IsDistinct}
 use Rattle.std.specs.Str.{IsUtf8, bytes_eq}
 use Rattle.comp_types.specs.declared.core_types.Limits.{Limits}
@@ -198,7 +198,3 @@ FitsItem (Ty item) = FitsDefinition item
 FitsItem (Canonical item) = FitsCanon item
 FitsItem (Import item) = FitsImport item
 FitsItem (Export item) = FitsExport item
-
--- the name of one of the arguments has this length
-abbrev pub HasNameOf : ℕ → List Arg → Type 0
-HasNameOf n args = (i : ℕ) × (arg : Arg) × (slice_get args i ≡ Some arg) × (length arg.name ≡ n)
