@@ -97,10 +97,10 @@ the_err x = Err x
 err_is : {A : Type 0} (x y : Fault) → the_err {A = A} x ≡ the_err y → x ≡ y
 err_is x y e = cc
 
-deep_is_no_form : {A : Type 0} → the_err {A = A} TooDeep ≡ the_err Form → ⊥
+pub deep_is_no_form : {A : Type 0} → the_err {A = A} TooDeep ≡ the_err Form → ⊥
 deep_is_no_form e = absurd cc
 
-deep_is_carried : {A : Type 0} → the_err {A = A} TooDeep ≡ the_err NotCarried → ⊥
+pub deep_is_carried : {A : Type 0} → the_err {A = A} TooDeep ≡ the_err NotCarried → ⊥
 deep_is_carried e = absurd cc
 
 -- a fault of what goes on is one of what failed, where what goes on can't fail

@@ -1,8 +1,9 @@
 -- Reading values under labels one after the other, as a loop does.
-use Rattle.std.proofs.Common.{◌≡◌, ℕ, suc, ◌-◌, ◌+◌, ◌≤◌, ◌<◌, ◌||◌, Bool, true, false, not, cond, Bor, List, [], ◌∷◌, ◌++◌, map, Result, Ok, Err, refl, sym, ap, ◌∙◌, append_assoc, arith}
+use Rattle.std.proofs.Common.{◌≡◌, ℕ, suc, ◌-◌, ◌+◌, ◌≤◌, ◌<◌, Bool, true, false, not, Bor, List, [], ◌∷◌, ◌++◌, Result, Ok, Err, refl, sym, ap, ◌∙◌, append_assoc, arith}
+use Rattle.std.specs.BTreeSet.{BTreeSet, contains}
 use Rattle.std.specs.List.{list_any}
 use Rattle.std.specs.Str.{bytes_eq}
-use Rattle.std.proofs.lemmas.List.{append-nil, map_push}
+use Rattle.std.proofs.lemmas.List.{append-nil}
 use Rattle.warg_base.specs.Reading.{◌>>=◌}
 use Rattle.comp_types.specs.Fault.{Fault, Form, NotCarried}
 use Rattle.comp_types.specs.Vectors.{ReaderOf, name_at, labelled_at}
@@ -10,41 +11,43 @@ use Rattle.comp_reader.specs.declared.error.ReadError.{ReadError}
 use Rattle.comp_reader.specs.declared.error.ReadError.TheVariants as errors
 use Rattle.comp_reader.specs.Refusal.{Fails}
 use Rattle.comp_reader.proofs.ManyLaws.{with_front}
+use Rattle.comp_reader.proofs.TextSets.{by_text, HasTexts}
 
--- labels as they are borrowed, and their bytes
-any_now : (label : List ℕ) (labels : List (Bor (List ℕ))) → list_any (λ (other : Bor (List ℕ)). bytes_eq label other.now) labels ≡ list_any (bytes_eq label) (map (λ (l : Bor (List ℕ)). l.now) labels)
-any_now label [] = refl
-any_now label (other ∷ labels) = ap (λ (b : Bool). bytes_eq label other.now || b) (any_now label labels)
+-- the set has these labels, as they are borrowed
+abbrev pub HasLabels : List (List ℕ) → BTreeSet (Bor (List ℕ)) → Type 0
+HasLabels = HasTexts (λ (label : Bor (List ℕ)). label.now)
 
 -- a label that was seen, and one that was not
-pub was_seen : (label : List ℕ) (labels : List (Bor (List ℕ))) (added : Bool) → added ≡ not (list_any (λ (other : Bor (List ℕ)). bytes_eq label other.now) labels) → added ≡ false
-    → list_any (bytes_eq label) (map (λ (l : Bor (List ℕ)). l.now) labels) ≡ true
-was_seen label labels added is not_added = sym (any_now label labels) ∙ found _ (sym is ∙ not_added)
+pub was_seen : (label : Bor (List ℕ)) (labels : List (List ℕ)) (set : BTreeSet (Bor (List ℕ))) (added : Bool) → HasLabels labels set → added ≡ not (contains (by_text (λ (l : Bor (List ℕ)). l.now)) set label) → added ≡ false
+    → list_any (bytes_eq label.now) labels ≡ true
+was_seen label labels set added has is not_added = sym (has label) ∙ found _ (sym is ∙ not_added)
   where
     found : (b : Bool) → not b ≡ false → b ≡ true
     found true e = refl
     found false e = absurd cc
 
-pub is_new : (label : List ℕ) (labels : List (Bor (List ℕ))) (added : Bool) → added ≡ not (list_any (λ (other : Bor (List ℕ)). bytes_eq label other.now) labels) → added ≡ true
-    → list_any (bytes_eq label) (map (λ (l : Bor (List ℕ)). l.now) labels) ≡ false
-is_new label labels added is was_added = sym (any_now label labels) ∙ missing _ (sym is ∙ was_added)
+pub is_new : (label : Bor (List ℕ)) (labels : List (List ℕ)) (set : BTreeSet (Bor (List ℕ))) (added : Bool) → HasLabels labels set → added ≡ not (contains (by_text (λ (l : Bor (List ℕ)). l.now)) set label) → added ≡ true
+    → list_any (bytes_eq label.now) labels ≡ false
+is_new label labels set added has is was_added = sym (has label) ∙ missing _ (sym is ∙ was_added)
   where
     missing : (b : Bool) → not b ≡ true → b ≡ false
     missing true e = absurd cc
     missing false e = refl
 
--- the labels with a new one
-pub seen_more : (label : Bor (List ℕ)) (labels new : List (Bor (List ℕ))) → list_any (bytes_eq label.now) (map (λ (l : Bor (List ℕ)). l.now) labels) ≡ false
-    → new ≡ cond (list_any (λ (other : Bor (List ℕ)). bytes_eq label.now other.now) labels) labels (labels ++ label ∷ [])
-    → map (λ (l : Bor (List ℕ)). l.now) new ≡ map (λ (l : Bor (List ℕ)). l.now) labels ++ label.now ∷ []
-seen_more label labels new missing is =
-    let more : new ≡ labels ++ label ∷ [] = is ∙ ap (λ (b : Bool). cond b labels (labels ++ label ∷ [])) (any_now label.now labels ∙ missing) in
-    ap (map (λ (l : Bor (List ℕ)). l.now)) more ∙ map_push (λ (l : Bor (List ℕ)). l.now) labels label
-
 module _ {X : Type 0} (behind : List ℕ → ReaderOf X) where
   regroup : (front : List X) (x : X) (read : Result (List X × List ℕ) Fault) → with_front front (read >>= λ xs. Ok (x ∷ xs.0, xs.1)) ≡ with_front (front ++ x ∷ []) read
   regroup front x (Ok xs) = ap (λ (ys : List X). Ok (ys, xs.1)) (simp append_assoc)
   regroup front x (Err fault) = refl
+
+  whole : (read : Result (List X × List ℕ) Fault) → with_front [] read ≡ read
+  whole (Ok xs) = refl
+  whole (Err fault) = refl
+
+  -- nothing was read yet
+  pub begins : (front : List X) (count : ℕ) (bytes : List ℕ) → front ≡ [] → with_front front (labelled_at behind [] (count - 0) bytes) ≡ labelled_at behind [] count bytes
+  begins front count bytes none =
+      let k : count - 0 ≡ count = omega arith in
+      rw (none, k) (whole (labelled_at behind [] count bytes))
 
   -- a value more was read
   pub goes_on : (front : List X) (seen : List (List ℕ)) (count i : ℕ) (bytes label behind_label : List ℕ) (x : X) (after : List ℕ) (total : Result (List X × List ℕ) Fault) → i < count

@@ -1,7 +1,10 @@
 pub mod Powers
 pub mod ManyLaws
+pub mod TextSets
 pub mod LabelLaws
 pub mod NestedLaws
 pub mod ViewLaws
 pub mod ItemLaws
 pub mod ContentLaws
+pub mod ValueLaws
+pub mod PlaceLaws

@@ -1,3 +1,4 @@
 pub mod Refusal
 pub mod Views
 pub mod Nested
+pub mod Places

@@ -1,9 +1,8 @@
 //! Readers of canonical definitions.
 
-ghost use Rattle.std.specs.Prelude.{◌≡◌, ℕ, List, Result, map, Ok};
+ghost use Rattle.std.specs.Prelude.{Result, Ok};
 ghost use Rattle.comp_types.specs.declared.types.Canon.{Canon as canonical};
 ghost use Rattle.comp_types.specs.declared.types.CanonOption.{CanonOption as canonical_option};
-ghost use Rattle.comp_types.specs.Vectors.{ReaderOf};
 ghost use Rattle.comp_types.specs.Canons.{option_at, lift_at, lower_at, canon_at};
 ghost use Rattle.comp_reader.specs.Refusal.{Gives};
 

@@ -1,8 +1,8 @@
 //! Readers of core types.
 
-ghost use Rattle.std.specs.Prelude.{◌≡◌, ℕ, List, Result, Option, map, Ok, true, false};
+ghost use Rattle.std.specs.Prelude.{◌≡◌, Result, Option, map, Ok, true, false};
 ghost use Rattle.comp_types.specs.declared.core_types.CoreVal.{CoreVal as core_value};
-ghost use Rattle.comp_types.specs.Vectors.{ReaderOf, many_at};
+ghost use Rattle.comp_types.specs.Vectors.{many_at};
 ghost use Rattle.comp_types.specs.CoreTypes.{CoreTree, core_value_of, core_value_at, is_reference, limits_at, table_at, mutable_at, global_at, core_desc_at, module_import_at, module_alias_at, module_export_at, module_decl_at, core_func_at, core_at};
 ghost use Rattle.comp_types.specs.Views.{core_tree, module_decl_tree};
 ghost use Rattle.comp_reader.specs.Nested.{module_decls_at};

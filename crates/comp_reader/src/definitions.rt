@@ -1,10 +1,10 @@
 //! Readers of types that components define.
 
-ghost use Rattle.std.specs.Prelude.{◌≡◌, ℕ, List, Result, Option, map, Ok, true, false};
-ghost use Rattle.comp_types.specs.Vectors.{ReaderOf, optional_at, many_at};
+ghost use Rattle.std.specs.Prelude.{◌≡◌, Result, Option, map, Ok, true, false};
+ghost use Rattle.comp_types.specs.Vectors.{optional_at, many_at};
 ghost use Rattle.comp_types.specs.Numbers.{number_at};
 ghost use Rattle.comp_types.specs.CoreTypes.{core_at};
-ghost use Rattle.comp_types.specs.Definitions.{TypeTree, Import, Export, is_resource, is_exported_sort, is_outer_type, is_declared, described_at, inner_type_at, inner_alias_at, decl_at, resource_at, definition_at};
+ghost use Rattle.comp_types.specs.Definitions.{TypeTree, Import, Export, is_exported_sort, is_outer_type, is_declared, described_at, inner_type_at, inner_alias_at, decl_at, resource_at, definition_at};
 ghost use Rattle.comp_types.specs.Views.{type_tree, decl_tree};
 ghost use Rattle.comp_reader.specs.Nested.{decls_at};
 ghost use Rattle.comp_reader.specs.Refusal.{Gives};

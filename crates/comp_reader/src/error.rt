@@ -24,7 +24,7 @@ pub enum ReadError {
 
 impl ReadError {
     /// The fault of a part that so many bytes stand behind.
-    pub fn before(self, behind: usize) -> Self
+    pub(crate) fn before(self, behind: usize) -> Self
         ensures { SameFault self result }
     {
         match self {
@@ -35,7 +35,7 @@ impl ReadError {
     }
 
     /// The fault with its place in so many bytes, which was the number of bytes that were left there.
-    pub fn placed(self, len: usize) -> Self
+    pub(crate) fn placed(self, len: usize) -> Self
         ensures { SameFault self result }
     {
         match self {

@@ -1,6 +1,6 @@
 //! The items of a component.
 
-ghost use Rattle.std.specs.Prelude.{◌≡◌, ◌≢◌, ◌++◌, ℕ, List, Result, map, length, OnOk, IfOk, IfErr, MatchResult, Ok, Err};
+ghost use Rattle.std.specs.Prelude.{◌≡◌, ◌≢◌, ◌++◌, ℕ, List, Result, map, OnOk, IfOk, IfErr, MatchResult, Ok, Err};
 ghost use Rattle.comp_types.specs.declared.types.Alias.{Alias as alias_item};
 ghost use Rattle.comp_types.specs.declared.types.Canon.{Canon as canonical};
 ghost use Rattle.comp_types.specs.declared.types.CoreInstance.{CoreInstance as core_instance};
@@ -9,7 +9,7 @@ ghost use Rattle.comp_types.specs.Fault.{Form as no_form, NotCarried as not_carr
 ghost use Rattle.comp_types.specs.CoreTypes.{CoreTree};
 ghost use Rattle.comp_types.specs.Definitions.{TypeTree};
 ghost use Rattle.comp_types.specs.Items.{ImportTree, ExportTree, ItemTree, CoreMade, CoreTy, Instance, Aliased, Ty, Canonical, Import, Export, item_tree};
-ghost use Rattle.comp_types.specs.Sections.{Reads, section_items, items_in, frame_at, content_at, sections_at, component_at};
+ghost use Rattle.comp_types.specs.Sections.{Reads, frame_at, content_at, component_at};
 ghost use Rattle.comp_types.specs.Views.{core_tree, type_tree};
 ghost use Rattle.comp_reader.specs.Nested.{sections_items, component_items};
 ghost use Rattle.comp_reader.specs.Refusal.{Gives, Adds};
@@ -22,7 +22,7 @@ use comp_types::{Alias, Canon, CoreInstance, CoreType, DefType, InstanceItem, It
 use std::alloc::Global;
 
 /// The magic bytes, the version and the layer of a component.
-const HEADER: [u8; 8] = [0x00, 0x61, 0x73, 0x6d, 0x0d, 0x00, 0x01, 0x00];
+pub const HEADER: [u8; 8] = [0x00, 0x61, 0x73, 0x6d, 0x0d, 0x00, 0x01, 0x00];
 
 /// The magic bytes and the version of a core module.
 const CORE_HEADER: [u8; 8] = [0x00, 0x61, 0x73, 0x6d, 0x01, 0x00, 0x00, 0x00];
@@ -220,6 +220,15 @@ fn push_section<'a>(
     Ok(())
 }
 
+/// The refusal of bytes that do not begin with the header of a component.
+pub fn no_header(bytes: &[u8]) -> ReadError
+    ensures { (left : ℕ) × (result ≡ ReadError.Form left) }
+{
+    let magic = bytes.starts_with(&HEADER[..4]);
+    let left = bytes.len();
+    ReadError::Form(if magic { left.saturating_sub(4) } else { left })
+}
+
 /// The items of a component in which at most so many scopes are open at one place, itself among them.
 #[cycle(reading_items)]
 #[tactic(auto, using(crate::proofs::ItemLaws::component_is), unfolding(comp_types::specs::Sections::headed_at, comp_types::specs::Sections::behind_at))]
@@ -230,9 +239,7 @@ fn items_of(alloc: Global, scopes: u8, bytes: &[u8]) -> Result<Vec<Item<'_>>, Re
         return Err(ReadError::Memory);
     }
     if !bytes.starts_with(&HEADER) {
-        let magic = bytes.starts_with(&HEADER[..4]);
-        let left = bytes.len();
-        return Err(ReadError::Form(if magic { left.saturating_sub(4) } else { left }));
+        return Err(no_header(bytes));
     }
     sections_of(alloc, scopes - 1, &bytes[8..])
 }

@@ -6,7 +6,7 @@ ghost use Rattle.comp_types.specs.declared.types.InstanceItem.{InstanceItem as i
 ghost use Rattle.comp_types.specs.declared.types.CoreInstance.{CoreInstance as core_instance};
 ghost use Rattle.comp_types.specs.declared.types.CoreSort.{CoreSort as core_sort};
 ghost use Rattle.comp_types.specs.declared.types.Alias.{Alias as alias_item};
-ghost use Rattle.comp_types.specs.Vectors.{ReaderOf, optional_at};
+ghost use Rattle.comp_types.specs.Vectors.{optional_at};
 ghost use Rattle.comp_types.specs.Parts.{core_sort_of, core_sort_at, sort_at, type_at, description_at, export_name_at, arg_at, member_at, instantiate_at, instance_at, is_outer, alias_export_at, core_export_at, outer_at, of_core, target_at, alias_at, core_arg_at, core_member_at, core_instantiate_at, core_instance_at};
 ghost use Rattle.comp_types.specs.Items.{ImportTree, ExportTree, import_at, export_at};
 ghost use Rattle.comp_reader.specs.Refusal.{Gives};

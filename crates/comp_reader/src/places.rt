@@ -1,12 +1,14 @@
 //! The sections of a component, before they are read, and the places of items, for those who refuse one. Places are
 //! looked up anew, so that items need not keep them.
 
-ghost use Rattle.std.specs.Prelude.{◌≡◌, ◌≤◌, length};
-ghost use Rattle.comp_types.specs.Sections.{frame_at};
+ghost use Rattle.std.specs.Prelude.{◌≡◌, ◌≤◌, ◌<◌, ℕ, List, Result, length, Ok, IfOk, IfErr, MatchResult, MatchOption};
+ghost use Rattle.comp_types.specs.Items.{ItemTree};
+ghost use Rattle.comp_types.specs.Sections.{Section, Sections, Framed, ContentForm, SectionsForm, Reads, section_id, section_items, items_in, frame_at};
 ghost use Rattle.comp_reader.specs.Refusal.{Gives};
+ghost use Rattle.comp_reader.specs.Places.{SectionForm, InSection, ItemFirst, StandsAt, is_one_item, count_at, behind_many_at, behind_items_at, items_from_at};
 
 use crate::error::ReadError;
-use crate::items::{SCOPES, frame_of};
+use crate::items::{HEADER, SCOPES, frame_of, no_header};
 use crate::parts::{ReadExport, ReadImport};
 use crate::read::{Field, number_of};
 use comp_types::{Alias, Canon, CoreInstance, CoreType, DefType, InstanceItem};
@@ -44,86 +46,132 @@ pub struct ItemPlace {
     pub item: usize,
 }
 
-/// The bytes behind the item at the front, in a section of this id that is a vector of items.
-fn behind_item(alloc: Global, id: u8, bytes: &[u8]) -> Option<&[u8]> {
-    match id {
-        2 => CoreInstance::read(alloc, SCOPES, bytes)
-            .ok()
-            .map(|(_, rest)| rest),
-        3 => CoreType::read(alloc, SCOPES, bytes)
-            .ok()
-            .map(|(_, rest)| rest),
-        5 => InstanceItem::read(alloc, SCOPES, bytes)
-            .ok()
-            .map(|(_, rest)| rest),
-        6 => Alias::read(alloc, SCOPES, bytes).ok().map(|(_, rest)| rest),
-        7 => DefType::read(alloc, SCOPES, bytes)
-            .ok()
-            .map(|(_, rest)| rest),
-        8 => Canon::read(alloc, SCOPES, bytes).ok().map(|(_, rest)| rest),
-        10 => ReadImport::read(alloc, SCOPES, bytes)
-            .ok()
-            .map(|(_, rest)| rest),
-        11 => ReadExport::read(alloc, SCOPES, bytes)
-            .ok()
-            .map(|(_, rest)| rest),
-        _ => None,
-    }
+/// Whether the section of an id is one item, and no vector of items.
+fn is_one_item(id: u8) -> bool
+    ensures { result ≡ is_one_item id }
+{
+    id == 0 || id == 1 || id == 4
 }
 
-/// How many bytes are left from the item of this number on, in a vector of items.
-fn left_from(alloc: Global, id: u8, items: &[u8], number: usize) -> usize {
-    let mut rest = items;
-    for _ in 0..number {
-        match behind_item(alloc, id, rest) {
-            Some(behind) => rest = behind,
-            None => break,
+/// How many items a section has.
+#[tactic(auto, unfolding(crate::specs::Places::count_at))]
+fn count_of(id: u8, content: &[u8]) -> Result<usize, ReadError>
+    ensures { Gives (λ count. count) result (count_at id content.now) }
+{
+    if is_one_item(id) {
+        return Ok(1);
+    }
+    let (count, _) = number_of(content)?;
+    Ok(count as usize)
+}
+
+/// The section that has the item of this number among the items of sections: the item's number in it, and the bytes from
+/// its id on.
+fn section_of(sections: &[u8], number: usize) -> Result<Option<(usize, &[u8])>, ReadError>
+    ensures found { (this : Section) (within : ℕ) (section behind : List ℕ) → InSection number sections.now this within section → SectionForm this section behind → MatchResult result (λ found. MatchOption found ⊥ (λ x. (x.0 ≡ within) × (x.1.now ≡ section))) (λ e. e ≡ ReadError.Memory) }
+    ensures behind { (ss : Sections) → SectionsForm ss sections.now → length (items_in ss) ≤ number → MatchResult result (λ found. MatchOption found (Unit {0}) (λ x. ⊥)) (λ e. e ≡ ReadError.Memory) }
+{
+    let mut rest = sections;
+    let mut left = number;
+    while !rest.is_empty() {
+        let ((id, content), after) = frame_of(rest)?;
+        let count = match count_of(id, content) {
+            Ok(count) => count,
+            Err(error) => return Err(error.before(after.len())),
+        };
+        if left < count {
+            return Ok(Some((left, rest)));
         }
+        left -= count;
+        rest = after;
     }
-    rest.len()
+    Ok(None)
 }
 
-/// How many items a section has, and the bytes of these where it is a vector of them.
-fn items_of(section: RawSection<'_>) -> (usize, Option<&[u8]>) {
-    match section.id {
-        0 | 1 | 4 => (1, None),
-        _ => match number_of(section.content) {
-            Ok((count, items)) => (count as usize, Some(items)),
-            Err(_) => (0, None),
-        },
+/// The bytes behind so many values.
+fn behind_many<T: Field>(alloc: Global, count: usize, bytes: &[u8]) -> Result<&[u8], ReadError>
+    ensures { Gives (λ rest. rest.now) result (behind_many_at (T.tree_at 200) count bytes.now) }
+{
+    let mut rest = bytes;
+    for _ in 0..count {
+        let (_, after) = T::read(alloc, SCOPES, rest)?;
+        rest = after;
+    }
+    Ok(rest)
+}
+
+/// The bytes behind so many items of the kind that sections of an id hold.
+#[tactic(auto, unfolding(crate::specs::Places::behind_items_at))]
+fn behind_items(alloc: Global, id: u8, count: usize, bytes: &[u8]) -> Result<&[u8], ReadError>
+    ensures { Gives (λ rest. rest.now) result (behind_items_at 200 id count bytes.now) }
+{
+    match id {
+        2 => behind_many::<CoreInstance>(alloc, count, bytes),
+        3 => behind_many::<CoreType>(alloc, count, bytes),
+        5 => behind_many::<InstanceItem>(alloc, count, bytes),
+        6 => behind_many::<Alias>(alloc, count, bytes),
+        7 => behind_many::<DefType>(alloc, count, bytes),
+        8 => behind_many::<Canon>(alloc, count, bytes),
+        10 => behind_many::<ReadImport>(alloc, count, bytes),
+        11 => behind_many::<ReadExport>(alloc, count, bytes),
+        _ => Err(ReadError::Form(bytes.len())),
+    }
+}
+
+/// The bytes from an item on, in the content of a section that is a vector of items.
+#[tactic(auto, unfolding(crate::specs::Places::items_from_at))]
+fn items_from(alloc: Global, id: u8, number: usize, content: &[u8]) -> Result<&[u8], ReadError>
+    ensures { Gives (λ items. items.now) result (items_from_at 200 id number content.now) }
+{
+    let (_, items) = number_of(content)?;
+    behind_items(alloc, id, number, items)
+}
+
+/// How many bytes are left from an item on, in the section at the front.
+fn left_from(alloc: Global, number: usize, section: &[u8]) -> Result<usize, ReadError>
+    ensures { (s : Section) (content behind item : List ℕ) → number < length (section_items s) → Framed (section_id s) content section.now behind → ItemFirst s number section.now content behind item → MatchResult result (λ left. left ≡ length item) (λ e. e ≡ ReadError.Memory) }
+{
+    let ((id, content), behind) = frame_of(section)?;
+    if is_one_item(id) {
+        return Ok(section.len());
+    }
+    match items_from(alloc, id, number, content) {
+        Ok(items) => Ok(items.len().saturating_add(behind.len())),
+        Err(error) => Err(error.before(behind.len())),
+    }
+}
+
+/// How many bytes are left from the section of an item on, and from the item on. Behind the last item it is none.
+fn left_at(alloc: Global, sections: &[u8], number: usize) -> Result<(usize, usize), ReadError>
+    ensures found { (this : Section) (within : ℕ) (section content behind item : List ℕ) → InSection number sections.now this within section → Framed (section_id this) content section behind → ContentForm this content → ItemFirst this within section content behind item → MatchResult result (λ left. (left.0 ≡ length section) × (left.1 ≡ length item)) (λ e. e ≡ ReadError.Memory) }
+    ensures behind { (ss : Sections) → SectionsForm ss sections.now → length (items_in ss) ≤ number → MatchResult result (λ left. (left.0 ≡ 0) × (left.1 ≡ 0)) (λ e. e ≡ ReadError.Memory) }
+{
+    match section_of(sections, number)? {
+        Some((within, section)) => Ok((section.len(), left_from(alloc, within, section)?)),
+        None => Ok((0, 0)),
     }
 }
 
 /// The place of the item of this number, counted from 0, in a component. Behind its last item it is the end.
-pub fn item_place(alloc: Global, bytes: &[u8], number: usize) -> ItemPlace
-    ensures section { result.section ≤ length bytes.now }
-    ensures item { result.item ≤ length bytes.now }
+///
+/// A component is refused for want of memory alone, which is answered too where more than 200 scopes are open at one
+/// place, as by [`read_items`](crate::read_items).
+pub fn item_place(alloc: Global, bytes: &[u8], number: usize) -> Result<ItemPlace, ReadError>
+    ensures found { (items : List ItemTree) → Reads bytes.now items → number < length items → IfOk result (StandsAt number bytes.now) }
+    ensures once { (place : ItemPlace) → StandsAt number bytes.now place → IfOk result (λ p. p ≡ place) }
+    ensures behind { (items : List ItemTree) → Reads bytes.now items → length items ≤ number → IfOk result (λ p. (p.section ≡ length bytes.now) × (p.item ≡ length bytes.now)) }
+    ensures only { (items : List ItemTree) → Reads bytes.now items → IfErr result (λ e. e ≡ ReadError.Memory) }
+    ensures section { IfOk result (λ p. p.section ≤ length bytes.now) }
+    ensures item { IfOk result (λ p. p.item ≤ length bytes.now) }
 {
-    let mut rest = bytes.get(8..).unwrap_or(&[]);
-    let mut number = number;
-    for _ in 0..bytes.len() {
-        let Ok(section) = read_section(rest) else {
-            break;
-        };
-        let (count, items) = items_of(section);
-        if number < count {
-            let at = bytes.len().saturating_sub(rest.len());
-            return ItemPlace {
-                section: at,
-                item: match items {
-                    Some(items) => bytes
-                        .len()
-                        .saturating_sub(section.behind.len())
-                        .saturating_sub(left_from(alloc, section.id, items, number)),
-                    None => at,
-                },
-            };
-        }
-        number -= count;
-        rest = section.behind;
-    }
-    ItemPlace {
-        section: bytes.len(),
-        item: bytes.len(),
+    let Some(sections) = bytes.strip_prefix(&HEADER) else {
+        return Err(no_header(bytes).placed(bytes.len()));
+    };
+    match left_at(alloc, sections, number) {
+        Ok((section, item)) => Ok(ItemPlace {
+            section: bytes.len().saturating_sub(section),
+            item: bytes.len().saturating_sub(item),
+        }),
+        Err(error) => Err(error.placed(bytes.len())),
     }
 }

@@ -1,17 +1,16 @@
 //! Readers of what the forms are made of. Each gives what it read and the bytes behind it, and refuses with the number
 //! of bytes that were left where the fault stands.
 
-ghost use Rattle.std.specs.Prelude.{◌≡◌, ◌≤◌, ◌<◌, ◌^◌, ◌+◌, ◌*◌, [], ℕ, List, Result, length, map, Ok, IfOk, true, false, MatchOption};
+ghost use Rattle.std.specs.Prelude.{◌≡◌, ◌≤◌, ◌<◌, ◌^◌, ◌+◌, ◌*◌, [], ℕ, List, Result, map, Ok, IfOk, true, false, MatchOption};
 ghost use Rattle.std.specs.Str.{is_utf8};
-ghost use Rattle.comp_types.specs.Fault.{Fault};
 ghost use Rattle.comp_types.specs.Numbers.{leb_at, signed_leb_at, number_at, signed_index_at};
 ghost use Rattle.comp_types.specs.Vectors.{ReaderOf, front_at, name_at, any_name_at, byte_at, mark_at, carried_at, many_at, vector_at, labelled_at, labelled_vector_at};
 ghost use Rattle.comp_types.specs.Sections.{whole_at};
 ghost use Rattle.comp_reader.specs.Refusal.{Gives};
 
 use crate::error::ReadError;
-use indexmap::IndexSet;
 use std::alloc::Global;
+use std::collections::BTreeSet;
 use warg_base::Text;
 
 /// LEB128 in at most so many bytes. `at` bytes are left where the number begins.
@@ -254,12 +253,12 @@ fn labelled_many_of<T: Labelled>(
 ) -> Result<(Vec<T>, &[u8]), ReadError>
     ensures { Gives (λ x. (x.0.items, x.1.now)) result (labelled_at T.behind_at [] count bytes.now) }
 {
-    let mut seen: IndexSet<&str> = IndexSet::new(alloc);
+    let mut seen: BTreeSet<&str> = BTreeSet::new(alloc);
     let mut values = Vec::new(alloc);
     let mut rest = bytes;
     for _ in 0..count {
         let (label, behind) = str_of(rest)?;
-        let (_, added) = seen.insert_full(label)?;
+        let added = seen.insert(label)?;
         if !added {
             return Err(ReadError::Form(rest.len()));
         }

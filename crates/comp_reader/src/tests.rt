@@ -1,7 +1,7 @@
 //! Bytes behind the header of a component, and the items that they read as: each form in its shortest spelling and in a
 //! padded one. The rows were written from the tables of the Component Model's `Binary.md`, apart from the readers.
 
-use crate::{ReadError, read_items};
+use crate::{ItemPlace, ReadError, item_place, read_items};
 use std::alloc::Global;
 use std::test::Fail;
 
@@ -551,5 +551,30 @@ fn refuses_damaged_bytes_by_their_cause(rt: HostRuntime) -> Result<(), Fail> {
         let text = refusal(rt.alloc(), sections)?;
         assert!(rt; text.as_str().starts_with(want), "{text}");
     }
+    Ok(())
+}
+
+/// Two types, a section without items, a custom section and an export. The length of the first section is padded.
+const PLACED: [u8; 30] = [
+    0x00, 0x61, 0x73, 0x6d, 0x0d, 0x00, 0x01, 0x00, 0x07, 0x83, 0x00, 0x02, 0x7f, 0x73, 0x07, 0x01,
+    0x00, 0x00, 0x02, 0x01, 0x61, 0x0b, 0x07, 0x01, 0x00, 0x01, 0x61, 0x03, 0x00, 0x00,
+];
+
+#[test]
+fn finds_where_items_stand(rt: HostRuntime) -> Result<(), Fail> {
+    let rows: [(usize, usize, usize); 6] = [
+        (0, 8, 12),
+        (1, 8, 13),
+        (2, 17, 17),
+        (3, 21, 24),
+        (4, 30, 30),
+        (9, 30, 30),
+    ];
+    for (number, section, item) in rows {
+        let place = item_place(rt.alloc(), &PLACED, number);
+        assert_eq!(rt; place, Ok(ItemPlace { section, item }));
+    }
+    let cut = item_place(rt.alloc(), &PLACED[..29], 3);
+    assert_eq!(rt; cut, Err(ReadError::Form(23)));
     Ok(())
 }

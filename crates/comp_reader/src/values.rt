@@ -1,8 +1,8 @@
 //! Readers of value types, types of values and types of functions.
 
-ghost use Rattle.std.specs.Prelude.{◌≡◌, ℕ, List, Result, Option, map, Ok};
+ghost use Rattle.std.specs.Prelude.{◌≡◌, Result, Option, Ok};
 ghost use Rattle.comp_types.specs.declared.types.ValType.{ValType as value_type};
-ghost use Rattle.comp_types.specs.Vectors.{ReaderOf, optional_at, label_alone};
+ghost use Rattle.comp_types.specs.Vectors.{optional_at, label_alone};
 ghost use Rattle.comp_types.specs.Types.{primitive_of, value_at, field_at, case_at, record_at, variant_at, tuple_at, flags_at, enum_at, result_at, defined_of, result_type_at, func_at};
 ghost use Rattle.comp_reader.specs.Refusal.{Gives};
 

@@ -1,14 +1,16 @@
 -- The first form, by the ids of sections and by items.
-use Rattle.std.proofs.Common.{◌≡◌, ℕ, ◌&&◌, Bool, true, false, List, [], length, drop, ◌≤◌, ◌<◌, Ok, arith, length-append, refl, sym, ap, subst, ◌∙◌, true≢false}
+use Rattle.std.proofs.Common.{◌≡◌, ℕ, ◌+◌, ◌&&◌, Bool, true, false, List, [], ◌∷◌, length, map, get_or, take, drop, ◌≤◌, ◌<◌, Ok, arith, length-append, refl, sym, ap, subst, ◌∙◌, true≢false}
 use Rattle.std.specs.List.{list_all}
+use Rattle.std.proofs.lemmas.List.{length-map, take-map, take_more, take-append-drop}
 use Rattle.std.proofs.lemmas.List.Folds.{list_all-append, list_all-map}
 use Rattle.warg_base.proofs.ReadingLaws.{ok_is}
-use Rattle.comp_types.specs.Items.{ItemTree, Ty, Export}
+use Rattle.comp_types.specs.declared.types.Item.{Item}
+use Rattle.comp_types.specs.Items.{ItemTree, Ty, Export, item_tree}
 use Rattle.comp_types.specs.Sections.{Section, Named, CoreModules, CoreInstances, CoreTypes, Nested, Instances, Aliases, Types, Canons, Imports, Exports, Sections, none, more, SectionsForm, ComponentForm, Reads, header, section_id, section_items, items_in, frame_at}
 use Rattle.comp_types.proofs.SectionLaws.{reads_once, frame_form, frame_again, framed_shorter}
-use Rattle.comp_shape.specs.FirstForm.{is_plain_item, is_plain_id, have_plain_ids, is_first_form, are_first_form, InFirstForm}
+use Rattle.comp_shape.specs.FirstForm.{is_plain_item, is_plain_id, have_plain_ids, is_first_form, are_first_form, InFirstForm, IsFirstOther}
 
-section_is : (s : Section) → is_first_form s ≡ (is_plain_id (section_id s) && list_all is_plain_item (section_items s))
+pub section_is : (s : Section) → is_first_form s ≡ (is_plain_id (section_id s) && list_all is_plain_item (section_items s))
 section_is (Named name bytes) = refl
 section_is (CoreModules bytes) = refl
 section_is (CoreInstances items) = refl
@@ -104,3 +106,18 @@ module _ (bytes : List ℕ) (items : List ItemTree) (reads : Reads bytes items) 
   other_items odd others h =
       let same : items ≡ items_in h.sections = reads_once bytes items (items_in h.sections) reads (h.sections, refl, h.form) in
       never (list_all is_plain_item (items_in h.sections)) (ap (list_all is_plain_item) (sym same) ∙ odd) (both _ _ (sym (sections_are h.sections) ∙ h.first)).1
+
+-- the first item that is of no section of the first form
+pub first_other : (items : List Item) (i : ℕ) (d : Item) → i < length items → list_all (λ x. is_plain_item (item_tree x)) (take i items) ≡ true → is_plain_item (item_tree (get_or items i d)) ≡ false → IsFirstOther (map item_tree items) i
+first_other items i d lt front odd =
+    let plain : Item → Bool = λ x. is_plain_item (item_tree x) in
+    let up_to : (n : ℕ) → list_all is_plain_item (take n (map item_tree items)) ≡ list_all plain (take n items) = λ n. ap (list_all is_plain_item) (take-map item_tree n items) ∙ list_all-map is_plain_item item_tree (take n items) in
+    record {
+      is_there = omega (arith, lt, length-map items item_tree);
+      in_front = up_to i ∙ front;
+      with_it = up_to (i + 1) ∙ ap (list_all plain) (take_more items i d lt) ∙ list_all-append plain (take i items) (get_or items i d ∷ []) ∙ rw (front, odd) refl;
+    }
+
+-- what not all items in front are, not all items are
+pub not_all : {X : Type 0} (p : X → Bool) (xs : List X) (n : ℕ) → list_all p (take n xs) ≡ false → list_all p xs ≡ false
+not_all p xs n odd = sym (ap (list_all p) (take-append-drop n xs)) ∙ list_all-append p (take n xs) (drop n xs) ∙ ap (λ (b : Bool). b && list_all p (drop n xs)) odd

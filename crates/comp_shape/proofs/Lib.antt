@@ -1,4 +1,5 @@
 pub mod FirstLaws
+pub mod OtherLaws
 pub mod PartLaws
 pub mod ShapeLaws
 pub mod NameLaws

@@ -3,8 +3,12 @@ use Rattle.std.proofs.Common.{◌≡◌, ◌<◌, ◌+◌, ℕ, suc, length, get
 use Rattle.std.specs.Prelude.{bytes_eq, slice_get, option_map, option_and_then}
 use Rattle.std.specs.Prelude.{All}
 use Rattle.std.specs.List.{AllByRecursion, list_all, list_any}
+use Rattle.std.specs.BTreeSet.{BTreeSet, Updates}
+use Rattle.std.specs.Cmp.Lexicographic.{slice_cmp}
+use Rattle.std.specs.Ordering.{nat_cmp}
 use Rattle.std.specs.Str.{str_to_ascii_lowercase}
-use Rattle.std.proofs.lemmas.List.{map_push, map-append, take_more, take-append-drop}
+use Rattle.std.proofs.lemmas.Option.{slice_get-map, slice_get-get_or}
+use Rattle.std.proofs.lemmas.List.{map_push, map-append, take_more, take-map, take-append-drop}
 use Rattle.std.proofs.lemmas.List.Elements.{All-from_recursion}
 use Rattle.comp_types.specs.declared.types.Item.{Item}
 use Rattle.comp_types.specs.declared.types.DefType.{DefType}
@@ -14,10 +18,11 @@ use Rattle.comp_types.specs.declared.types.ValType.TheVariants as value
 use Rattle.comp_types.specs.Definitions as definition
 use Rattle.comp_types.specs.Items.{ExportTree, ItemTree, Ty, Export, item_tree}
 use Rattle.comp_types.specs.Views as types
+use Rattle.comp_reader.proofs.TextSets.{no_texts, more_texts}
 use Rattle.comp_shape.specs.FirstForm.{InFirstForm, is_primitive, is_plain_type, is_plain_item}
 use Rattle.comp_shape.specs.declared.shape.Entity.{Entity}
-use Rattle.comp_shape.specs.Shape.{ValueTree, Primitive, Value, EntityTree, IsType, Known, part_trees, definition_tree, is_taken, with_export, after, after_all, nothing_known}
-use Rattle.comp_shape.specs.Views.{entries, tree_in, plain_tree, IsPlain}
+use Rattle.comp_shape.specs.Shape.{ValueTree, Primitive, Value, EntityTree, IsType, Known, part_trees, definition_tree, is_taken, with_export, after, after_all, nothing_known, BreaksFirst}
+use Rattle.comp_shape.specs.Views.{entries, has_name, tree_in, plain_tree, AreNamesOf, IsPlain}
 use Rattle.comp_shape.proofs.FirstLaws.{both, plain_items}
 
 some_is : {X : Type 0} (x y : X) → Some x ≡ Some y → x ≡ y
@@ -39,9 +44,19 @@ unfolding after
 after_own k e t here own = rw here refl
 
 -- whether a name is taken, by the names that are kept in lower case
-pub taken_from : (exports : List (List ℕ × Entity)) (name lower : List ℕ) (keys : List (List ℕ)) (b : Bool) → lower ≡ str_to_ascii_lowercase name → keys ≡ map (λ e. str_to_ascii_lowercase e.0) exports → b ≡ list_any (bytes_eq lower) keys
-    → b ≡ is_taken name (entries exports)
-taken_from exports name lower keys b l k e = e ∙ ap (λ (x : List ℕ). list_any (bytes_eq x) keys) l ∙ ap (list_any (bytes_eq (str_to_ascii_lowercase name))) k ∙ taken_is exports name
+pub taken_from : (exports : List (List ℕ × Entity)) (names : BTreeSet (List ℕ)) (name lower : List ℕ) (b : Bool) → lower ≡ str_to_ascii_lowercase name → AreNamesOf exports names → b ≡ has_name names lower → b ≡ is_taken name (entries exports)
+taken_from exports names name lower b l kept e = e ∙ ap (has_name names) l ∙ kept (str_to_ascii_lowercase name) ∙ taken_is exports name
+
+-- no names, and one more
+pub none_named : (names : BTreeSet (List ℕ)) → names.keys ≡ [] → AreNamesOf [] names
+none_named = no_texts (λ (name : List ℕ). name)
+
+pub one_named : (exports : List (List ℕ × Entity)) (e : List ℕ × Entity) (names new : BTreeSet (List ℕ)) (lower : List ℕ) → lower ≡ str_to_ascii_lowercase e.0 → AreNamesOf exports names → Updates (slice_cmp nat_cmp) names new lower true
+    → AreNamesOf (exports ++ e ∷ []) new
+one_named exports e names new lower l kept updates = λ name.
+    let lowers = map (λ (x : List ℕ × Entity). str_to_ascii_lowercase x.0) exports in
+    more_texts (λ (n : List ℕ). n) lowers names new lower kept updates name
+    ∙ ap (list_any (bytes_eq name)) (ap (λ (t : List ℕ). lowers ++ t ∷ []) l ∙ sym (map_push (λ (x : List ℕ × Entity). str_to_ascii_lowercase x.0) exports e))
 
 -- what is known after an export with a name of its own
 pub exported : (types new_types : List ValueTree) (exports new_exports : List (List ℕ × EntityTree)) (e : ExportTree) (t : ValueTree) → is_taken e.name exports ≡ false
@@ -76,6 +91,15 @@ loop_stops items i d k lt e here =
     let cut : items ≡ take i items ++ get_or items i d ∷ drop (suc i) items = sym (take-append-drop i items) ∙ ap (λ (l : List Item). take i items ++ l) (drop-cons items i d lt) in
     ap (λ (l : List Item). after_all nothing_known (map item_tree l)) cut ∙ ap (after_all nothing_known) (map-append item_tree (take i items) (get_or items i d ∷ drop (suc i) items))
     ∙ after_stop nothing_known k (map item_tree (take i items)) (map item_tree (drop (suc i) items)) (item_tree (get_or items i d)) e here
+
+pub loop_breaks : (items : List Item) (i : ℕ) (d : Item) (k : Known) → i < length items → after_all nothing_known (map item_tree (take i items)) ≡ Some k → after k (item_tree (get_or items i d)) ≡ None → BreaksFirst (map item_tree items) i
+loop_breaks items i d k lt e here = record {
+  item = item_tree (get_or items i d);
+  so_far = k;
+  in_front = ap (after_all nothing_known) (take-map item_tree i items) ∙ e;
+  is_item = slice_get-map item_tree items i ∙ ap (option_map item_tree) (slice_get-get_or items i d lt);
+  breaks = here;
+}
 
 -- an item that keeps them
 pub loop_adds : (items : List Item) (i : ℕ) (d : Item) (k n : Known) → i < length items → after_all nothing_known (map item_tree (take i items)) ≡ Some k → after k (item_tree (get_or items i d)) ≡ Some n → after_all nothing_known (map item_tree (take (i + 1) items)) ≡ Some n

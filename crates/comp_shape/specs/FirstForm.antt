@@ -1,6 +1,6 @@
 -- Components of the first form: sections of primitive types and tuples of these, and of exports of types without a
 -- description.
-use Rattle.std.specs.Prelude.{◌≡◌, ℕ, Bool, true, false, ◌&&◌, ◌||◌, List, is_none, ◌==◌}
+use Rattle.std.specs.Prelude.{◌≡◌, ℕ, ◌+◌, ◌<◌, Bool, true, false, ◌&&◌, ◌||◌, List, ◌++◌, length, take, is_none, ◌==◌}
 use Rattle.std.specs.List.{list_all}
 use Rattle.comp_types.specs.declared.types.ValType.{ValType}
 use Rattle.comp_types.specs.declared.types.ValType.TheVariants as value
@@ -10,7 +10,9 @@ use Rattle.comp_types.specs.declared.types.Sort.{Sort}
 use Rattle.comp_types.specs.declared.types.Sort.TheVariants as sort
 use Rattle.comp_types.specs.Definitions.{TypeTree, Defined}
 use Rattle.comp_types.specs.Items.{ExportTree, ItemTree, Ty, Export}
-use Rattle.comp_types.specs.Sections.{Section, Types, Exports, Sections, none, more, ComponentForm, items_in, section_id}
+use Rattle.comp_types.specs.Sections.{Section, Types, Exports, Sections, none, more, ComponentForm, header, section_items, items_in, section_id}
+use Rattle.comp_types.specs.Vectors.{Many}
+use Rattle.comp_reader.specs.Places.{SectionForm}
 
 abbrev pub is_primitive : ValType → Bool
 is_primitive (value.Primitive p) = true
@@ -63,3 +65,31 @@ abbrev pub is_plain_item : ItemTree → Bool
 is_plain_item (Ty item) = is_plain_type item
 is_plain_item (Export item) = is_plain_export item
 is_plain_item _ = false
+
+-- the item of this number is the first of no section of the first form
+pub record IsFirstOther (items : List ItemTree) (number : ℕ) : Type 0 where
+  pub is_there : number < length items
+  pub in_front : list_all is_plain_item (take number items) ≡ true
+  pub with_it : list_all is_plain_item (take (number + 1) items) ≡ false
+
+-- the first of some sections that fails a test begins where so many bytes are left
+pub record FirstNot (test : Section → Bool) (sections : List ℕ) (left : ℕ) : Type 0 where
+  pub before : List Section
+  pub this : Section
+  pub section : List ℕ
+  pub behind : List ℕ
+  pub in_front : Many SectionForm before sections section
+  pub form : SectionForm this section behind
+  pub before_are : list_all test before ≡ true
+  pub this_is_not : test this ≡ false
+  pub left_is : left ≡ length section
+
+abbrev pub has_plain_id : Section → Bool
+has_plain_id s = is_plain_id (section_id s)
+
+abbrev pub has_plain_items : Section → Bool
+has_plain_items s = list_all is_plain_item (section_items s)
+
+-- the first section that is not of the first form stands there, in the bytes of a component
+abbrev pub StandsFirstOther : List ℕ → ℕ → Type 0
+StandsFirstOther bytes at = (sections : List ℕ) × (left : ℕ) × (bytes ≡ header ++ sections) × FirstNot is_first_form sections left × (at + left ≡ length bytes)

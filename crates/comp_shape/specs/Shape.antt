@@ -1,6 +1,6 @@
 -- The shape of a component: its imports and exports, as types with all indices followed (Component Model, Explainer.md,
 -- "Index Spaces").
-use Rattle.std.specs.Prelude.{ℕ, Bool, List, [], ◌∷◌, ◌++◌, Option, Some, None, slice_get, option_map, option_and_then, if◌then◌else◌}
+use Rattle.std.specs.Prelude.{◌≡◌, ℕ, Bool, List, [], ◌∷◌, ◌++◌, take, Option, Some, None, slice_get, option_map, option_and_then, if◌then◌else◌}
 use Rattle.std.specs.List.{list_any}
 use Rattle.std.specs.Str.{str_eq_ignore_ascii_case}
 use Rattle.comp_types.specs.declared.types.Primitive.{Primitive as PrimitiveType}
@@ -10,6 +10,8 @@ use Rattle.comp_types.specs.declared.types.DefinedType.{DefinedType}
 use Rattle.comp_types.specs.declared.types.DefinedType.TheVariants as defined
 use Rattle.comp_types.specs.Definitions as definition
 use Rattle.comp_types.specs.Items.{ExportTree, ItemTree, Ty, Export}
+use Rattle.comp_reader.specs.declared.places.ItemPlace.{ItemPlace}
+use Rattle.comp_reader.specs.Places.{StandsAt}
 
 -- a value type as a tree
 mutual
@@ -82,3 +84,15 @@ nothing_known = record { types = []; exports = [] }
 -- the shape that the items of a component have, where they keep the rules
 abbrev pub shape : List ItemTree → Option ShapeTree
 shape items = option_map (λ k. record { imports = []; exports = k.exports }) (after_all nothing_known items)
+
+-- The item of this number is the first that breaks a rule: of what is known after those in front of it, nothing follows.
+pub record BreaksFirst (items : List ItemTree) (number : ℕ) : Type 0 where
+  pub item : ItemTree
+  pub so_far : Known
+  pub in_front : after_all nothing_known (take number items) ≡ Some so_far
+  pub is_item : slice_get items number ≡ Some item
+  pub breaks : after so_far item ≡ None
+
+-- the first item that breaks a rule stands there, in the bytes of a component
+abbrev pub BreaksAt : List ℕ → List ItemTree → ℕ → Type 0
+BreaksAt bytes items at = (number : ℕ) × (place : ItemPlace) × BreaksFirst items number × StandsAt number bytes place × (at ≡ place.item)

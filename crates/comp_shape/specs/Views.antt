@@ -1,6 +1,10 @@
 -- Shapes as trees, wherever they lie in memory.
-use Rattle.std.specs.Prelude.{◌≡◌, ℕ, List, map, All, Option, Some, None, true}
-use Rattle.std.specs.Str.{str_to_ascii_lowercase}
+use Rattle.std.specs.Prelude.{◌≡◌, ℕ, Bool, List, map, All, Option, Some, None, true}
+use Rattle.std.specs.BTreeSet.{BTreeSet, contains}
+use Rattle.std.specs.Cmp.Lexicographic.{slice_cmp}
+use Rattle.std.specs.List.{list_any}
+use Rattle.std.specs.Ordering.{nat_cmp}
+use Rattle.std.specs.Str.{bytes_eq, str_to_ascii_lowercase}
 use Rattle.comp_types.specs.declared.types.DefType.{DefType}
 use Rattle.comp_types.specs.Views as types
 use Rattle.comp_shape.specs.FirstForm.{is_plain_type}
@@ -46,9 +50,16 @@ plain_tree t = tree_in (definition_tree (types.type_tree t))
 abbrev pub known : Space → Known
 known s = record { types = map (λ t. plain_tree t.now) s.types.items; exports = entries s.exports.items }
 
--- the names of a space are those of its exports, in lower case
+-- whether a set of names has this one
+abbrev pub has_name : BTreeSet (List ℕ) → List ℕ → Bool
+has_name = contains (slice_cmp nat_cmp)
+
+-- the names are those of exports, in lower case
+abbrev pub AreNamesOf : List (List ℕ × Entity) → BTreeSet (List ℕ) → Type 0
+AreNamesOf exports names = (name : List ℕ) → has_name names name ≡ list_any (bytes_eq name) (map (λ e. str_to_ascii_lowercase e.0) exports)
+
 abbrev pub IsNamed : Space → Type 0
-IsNamed s = s.names.keys ≡ map (λ e. str_to_ascii_lowercase e.0) s.exports.items
+IsNamed s = AreNamesOf s.exports.items s.names
 
 -- the types of a space are of the first form
 abbrev pub IsPlain : DefType → Type 0

@@ -1,15 +1,16 @@
 //! Whether a component is of the first form.
 
-ghost use Rattle.std.specs.Prelude.{◌≡◌, ◌≢◌, ℕ, List, true, false, map, drop, OnOk, IfErr, Ok, Err, Some, None, MatchOption};
+ghost use Rattle.std.specs.Prelude.{◌≡◌, ℕ, List, true, false, map, OnOk, IfOk, IfErr, Ok, Err, Some, None, MatchOption};
 ghost use Rattle.std.specs.List.{list_all};
 ghost use Rattle.comp_types.specs.Items.{ItemTree, item_tree};
 ghost use Rattle.comp_types.specs.Sections.{Sections, SectionsForm, Reads};
 ghost use Rattle.comp_types.specs.Views.{type_tree};
-ghost use Rattle.comp_shape.specs.FirstForm.{InFirstForm, have_plain_ids, is_plain_id, is_plain_item, is_plain_type, is_primitive};
+ghost use Rattle.comp_shape.specs.FirstForm.{InFirstForm, IsFirstOther, FirstNot, StandsFirstOther, has_plain_id, have_plain_ids, is_plain_id, is_plain_item, is_plain_type, is_primitive};
+ghost use Rattle.comp_reader.specs.Places.{StandsAt};
 ghost use Rattle.comp_shape.specs.Refusal.{IsNotBuiltOrMemory};
 
 use crate::error::ShapeError;
-use comp_reader::{item_place, read_section};
+use comp_reader::{ItemPlace, item_place, read_section};
 use comp_types::{DefType, DefinedType, Item, Sort, ValType};
 use std::alloc::Global;
 
@@ -60,7 +61,7 @@ fn is_plain_item(item: &Item<'_>) -> bool
 
 /// The number of the first item that is of no section of the first form.
 fn other_item(items: &[Item<'_>]) -> Option<usize>
-    ensures { MatchOption result (list_all is_plain_item (map item_tree items.now) ≡ true) (λ number. list_all is_plain_item (map item_tree items.now) ≡ false) }
+    ensures { MatchOption result (list_all is_plain_item (map item_tree items.now) ≡ true) (IsFirstOther (map item_tree items.now)) }
 {
     for (number, item) in items.iter().enumerate() {
         if !is_plain_item(item) {
@@ -68,6 +69,26 @@ fn other_item(items: &[Item<'_>]) -> Option<usize>
         }
     }
     None
+}
+
+/// Where the first item stands that is of no section of the first form.
+fn other_place(
+    alloc: Global,
+    bytes: &[u8],
+    items: &[Item<'_>],
+) -> Result<Option<ItemPlace>, ShapeError>
+    requires { Reads bytes.now (map item_tree items.now) }
+    ensures found { IfOk result (λ found. MatchOption found (list_all is_plain_item (map item_tree items.now) ≡ true) (λ place. (number : ℕ) × IsFirstOther (map item_tree items.now) number × StandsAt number bytes.now place)) }
+    ensures only { IfErr result (λ e. e ≡ ShapeError.Memory) }
+{
+    match other_item(items) {
+        Some(number) => match item_place(alloc, bytes, number) {
+            Ok(place) => Ok(Some(place)),
+            // The items were read before, so that only memory can be short.
+            Err(_) => Err(ShapeError::Memory),
+        },
+        None => Ok(None),
+    }
 }
 
 /// Whether sections of the first form have this id.
@@ -81,6 +102,7 @@ fn is_plain_id(id: u8) -> bool
 fn other_id(sections: &[u8]) -> Result<Option<usize>, ShapeError>
     ensures plain { result ≡ Ok None → (ss : Sections) → SectionsForm ss sections.now → have_plain_ids ss ≡ true }
     ensures other { (left : ℕ) → result ≡ Ok (Some left) → (ss : Sections) → SectionsForm ss sections.now → have_plain_ids ss ≡ false }
+    ensures first { (left : ℕ) → result ≡ Ok (Some left) → (ss : Sections) → SectionsForm ss sections.now → FirstNot has_plain_id sections.now left }
     ensures only { IfErr result (λ e. e ≡ ShapeError.Memory) }
 {
     let mut rest = sections;
@@ -103,6 +125,7 @@ pub fn check_first_form(alloc: Global, bytes: &[u8], items: &[Item<'_>]) -> Resu
     requires { Reads bytes.now (map item_tree items.now) }
     ensures first { OnOk result (InFirstForm bytes.now (map item_tree items.now)) }
     ensures not_built { (at : ℕ) → result ≡ Err (ShapeError.NotBuilt at) → (others : List ItemTree) → InFirstForm bytes.now others → ⊥ }
+    ensures place { (at : ℕ) → result ≡ Err (ShapeError.NotBuilt at) → StandsFirstOther bytes.now at }
     ensures only { IfErr result IsNotBuiltOrMemory }
 {
     let (_, sections) = bytes.split_at(HEADER);
@@ -110,14 +133,17 @@ pub fn check_first_form(alloc: Global, bytes: &[u8], items: &[Item<'_>]) -> Resu
         Ok(left) => left,
         Err(error) => return Err(error),
     };
-    match (left, other_item(items)) {
+    let place = match other_place(alloc, bytes, items) {
+        Ok(place) => place,
+        Err(error) => return Err(error),
+    };
+    match (left, place) {
         (None, None) => Ok(()),
         (Some(left), None) => Err(ShapeError::NotBuilt(bytes.len().saturating_sub(left))),
-        (None, Some(number)) => Err(ShapeError::NotBuilt(item_place(alloc, bytes, number).section)),
-        (Some(left), Some(number)) => {
+        (None, Some(place)) => Err(ShapeError::NotBuilt(place.section)),
+        (Some(left), Some(place)) => {
             let of_id = bytes.len().saturating_sub(left);
-            let of_item = item_place(alloc, bytes, number).section;
-            Err(ShapeError::NotBuilt(of_id.min(of_item)))
+            Err(ShapeError::NotBuilt(of_id.min(place.section)))
         }
     }
 }

@@ -16,4 +16,4 @@ mod walk;
 pub use error::ShapeError;
 pub use items::read_items;
 pub use shape::{Entity, Shape, TypeShape, ValueShape};
-pub use walk::read_shape;
+pub use walk::{read_component, read_shape};

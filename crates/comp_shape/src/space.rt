@@ -2,13 +2,13 @@
 
 use crate::shape::Entity;
 use comp_types::DefType;
-use indexmap::IndexSet;
+use std::collections::BTreeSet;
 use warg_base::Text;
 
 /// The types so far, the names of exports so far in lower case, and the exports.
 #[derive(Drop)]
 pub struct Space<'a> {
     pub types: Vec<&'a DefType>,
-    pub names: IndexSet<Text>,
+    pub names: BTreeSet<Text>,
     pub exports: Vec<(Text, Entity)>,
 }

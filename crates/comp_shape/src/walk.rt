@@ -1,15 +1,14 @@
 //! Shapes from items, item by item.
 
-ghost use Rattle.std.specs.Prelude.{◌≡◌, ◌<◌, ◌++◌, ◌∷◌, ℕ, length, All, List, Some, None, true, map, OnOk, OnErr, IfOk, IfErr, IfSome, IfNone, Err, slice_get, bytes_eq};
-ghost use Rattle.std.specs.List.{list_any};
+ghost use Rattle.std.specs.Prelude.{◌≡◌, ◌<◌, ℕ, length, All, List, Some, None, true, map, OnOk, IfOk, IfErr, IfSome, IfNone, Err, slice_get};
 ghost use Rattle.comp_types.specs.declared.types.Sort.TheVariants as sort;
 ghost use Rattle.comp_types.specs.Fault.{Form as no_form, NotCarried as not_carried};
 ghost use Rattle.comp_types.specs.Items.{ItemTree, Export, item_tree};
 ghost use Rattle.comp_types.specs.Sections.{Reads, component_at};
-ghost use Rattle.comp_shape.specs.Shape.{after, after_all, nothing_known, shape};
-ghost use Rattle.comp_shape.specs.FirstForm.{InFirstForm, is_plain_item};
+ghost use Rattle.comp_shape.specs.Shape.{BreaksAt, BreaksFirst, after, after_all, nothing_known, shape};
+ghost use Rattle.comp_shape.specs.FirstForm.{InFirstForm, StandsFirstOther, is_plain_item};
 ghost use Rattle.comp_shape.specs.Refusal.{IsIndexOrMemory, IsOfItems};
-ghost use Rattle.comp_shape.specs.Views.{known, plain_tree, shape_tree, IsNamed, IsPlain, ArePlain};
+ghost use Rattle.comp_shape.specs.Views.{known, has_name, plain_tree, shape_tree, IsNamed, IsPlain, ArePlain};
 
 use crate::error::ShapeError;
 use crate::first_form::check_first_form;
@@ -19,8 +18,8 @@ use crate::space::Space;
 use crate::values::value_of;
 use comp_reader::item_place;
 use comp_types::{DefType, Item};
-use indexmap::IndexSet;
 use std::alloc::Global;
+use std::collections::BTreeSet;
 use warg_base::Text;
 
 /// The type of an index.
@@ -39,8 +38,8 @@ fn type_at<'a>(types: &[&'a DefType], index: u32) -> Option<&'a DefType>
 }
 
 /// Whether a name in lower case is taken.
-fn is_taken(names: &IndexSet<Text>, lower: &Text) -> bool
-    ensures { result ≡ list_any (bytes_eq lower.now) names.now.keys }
+fn is_taken(names: &BTreeSet<Text>, lower: &Text) -> bool
+    ensures { result ≡ has_name names.now lower.now }
 {
     names.contains(lower)
 }
@@ -60,6 +59,7 @@ fn add_export(
     ensures plain { OnOk result (ArePlain space.new) }
     ensures added { OnOk result (after (known space.old) (Export (record { name = name.now; sort = sort.Ty; index = index; ty = None })) ≡ Some (known space.new)) }
     ensures index { (at : ℕ) → result ≡ Err (ShapeError.Index at) → after (known space.old) (Export (record { name = name.now; sort = sort.Ty; index = index; ty = None })) ≡ None }
+    ensures numbered { (at : ℕ) → result ≡ Err (ShapeError.Index at) → at ≡ number }
     ensures only { IfErr result IsIndexOrMemory }
 {
     let Some(ty) = type_at(&space.types, index) else {
@@ -95,6 +95,7 @@ fn add_item<'a>(
     ensures plain { OnOk result (ArePlain space.new) }
     ensures added { OnOk result (after (known space.old) (item_tree item.now) ≡ Some (known space.new)) }
     ensures index { (at : ℕ) → result ≡ Err (ShapeError.Index at) → after (known space.old) (item_tree item.now) ≡ None }
+    ensures numbered { (at : ℕ) → result ≡ Err (ShapeError.Index at) → at ≡ number }
     ensures only { IfErr result IsIndexOrMemory }
 {
     match item {
@@ -112,11 +113,12 @@ fn space_of<'a>(alloc: Global, items: &'a [Item<'a>]) -> Result<Space<'a>, Shape
     requires { All (λ item. is_plain_item (item_tree item) ≡ true) items.now }
     ensures known { IfOk result (λ space. after_all nothing_known (map item_tree items.now) ≡ Some (known space)) }
     ensures index { (at : ℕ) → result ≡ Err (ShapeError.Index at) → after_all nothing_known (map item_tree items.now) ≡ None }
+    ensures first { (number : ℕ) → result ≡ Err (ShapeError.Index number) → BreaksFirst (map item_tree items.now) number }
     ensures only { IfErr result IsIndexOrMemory }
 {
     let mut space = Space {
         types: Vec::new(alloc),
-        names: IndexSet::new(alloc),
+        names: BTreeSet::new(alloc),
         exports: Vec::new(alloc),
     };
     let mut number = 0;
@@ -134,6 +136,8 @@ fn shape_of<'a>(alloc: Global, bytes: &[u8], items: &'a [Item<'a>]) -> Result<Sh
     ensures named { IfOk result (λ s. All (λ e. 0 < length e.0) s.exports.items) }
     ensures not_built { (at : ℕ) → result ≡ Err (ShapeError.NotBuilt at) → (others : List ItemTree) → InFirstForm bytes.now others → ⊥ }
     ensures index { (at : ℕ) → result ≡ Err (ShapeError.Index at) → InFirstForm bytes.now (map item_tree items.now) × (shape (map item_tree items.now) ≡ None) }
+    ensures not_built_place { (at : ℕ) → result ≡ Err (ShapeError.NotBuilt at) → StandsFirstOther bytes.now at }
+    ensures index_place { (at : ℕ) → result ≡ Err (ShapeError.Index at) → BreaksAt bytes.now (map item_tree items.now) at }
     ensures only { IfErr result IsOfItems }
 {
     match check_first_form(alloc, bytes, items) {
@@ -148,10 +152,34 @@ fn shape_of<'a>(alloc: Global, bytes: &[u8], items: &'a [Item<'a>]) -> Result<Sh
                 exports,
             })
         }
-        Err(ShapeError::Index(number)) => Err(ShapeError::Index(
-            item_place(alloc, bytes, number).item,
-        )),
+        Err(ShapeError::Index(number)) => match item_place(alloc, bytes, number) {
+            Ok(place) => Err(ShapeError::Index(place.item)),
+            // The items were read before, so that only memory can be short.
+            Err(_) => Err(ShapeError::Memory),
+        },
         Err(_) => Err(ShapeError::Memory),
+    }
+}
+
+/// The items of a component of the first form and its shape, by one reading of its bytes.
+///
+/// The items are those of [`read_items`], and the errors those of [`read_shape`].
+pub fn read_component(alloc: Global, bytes: &[u8]) -> Result<(Vec<Item<'_>>, Shape), ShapeError>
+    ensures found { IfOk result (λ read. InFirstForm bytes.now (map item_tree read.0.items) × (shape (map item_tree read.0.items) ≡ Some (shape_tree read.1))) }
+    ensures named { IfOk result (λ read. All (λ e. 0 < length e.0) read.1.exports.items) }
+    ensures form { (at : ℕ) → result ≡ Err (ShapeError.Form at) → component_at 200 bytes.now ≡ Err no_form }
+    ensures not_carried { (at : ℕ) → result ≡ Err (ShapeError.NotCarried at) → component_at 200 bytes.now ≡ Err not_carried }
+    ensures not_built { (at : ℕ) → result ≡ Err (ShapeError.NotBuilt at) → (items : List ItemTree) × Reads bytes.now items × ((others : List ItemTree) → InFirstForm bytes.now others → ⊥) }
+    ensures index { (at : ℕ) → result ≡ Err (ShapeError.Index at) → (items : List ItemTree) × InFirstForm bytes.now items × (shape items ≡ None) }
+    ensures not_built_place { (at : ℕ) → result ≡ Err (ShapeError.NotBuilt at) → StandsFirstOther bytes.now at }
+    ensures index_place { (at : ℕ) → result ≡ Err (ShapeError.Index at) → (items : List ItemTree) × Reads bytes.now items × BreaksAt bytes.now items at }
+{
+    match read_items(alloc, bytes) {
+        Ok(items) => match shape_of(alloc, bytes, &items) {
+            Ok(shape) => Ok((items, shape)),
+            Err(error) => Err(error),
+        },
+        Err(error) => Err(error),
     }
 }
 
@@ -169,9 +197,11 @@ pub fn read_shape(alloc: Global, bytes: &[u8]) -> Result<Shape, ShapeError>
     ensures not_carried { (at : ℕ) → result ≡ Err (ShapeError.NotCarried at) → component_at 200 bytes.now ≡ Err not_carried }
     ensures not_built { (at : ℕ) → result ≡ Err (ShapeError.NotBuilt at) → (items : List ItemTree) × Reads bytes.now items × ((others : List ItemTree) → InFirstForm bytes.now others → ⊥) }
     ensures index { (at : ℕ) → result ≡ Err (ShapeError.Index at) → (items : List ItemTree) × InFirstForm bytes.now items × (shape items ≡ None) }
+    ensures not_built_place { (at : ℕ) → result ≡ Err (ShapeError.NotBuilt at) → StandsFirstOther bytes.now at }
+    ensures index_place { (at : ℕ) → result ≡ Err (ShapeError.Index at) → (items : List ItemTree) × Reads bytes.now items × BreaksAt bytes.now items at }
 {
-    match read_items(alloc, bytes) {
-        Ok(items) => shape_of(alloc, bytes, &items),
+    match read_component(alloc, bytes) {
+        Ok((_, shape)) => Ok(shape),
         Err(error) => Err(error),
     }
 }

@@ -1,28 +1,14 @@
 -- What components show.
-use Rattle.std.proofs.Common.{◌≡◌, ◌∙◌, ◌&&◌, sym, ap, arith, ℕ, Bool, List, [], ◌∷◌, Some, Result, Ok, Err, is_ok, true, false, true≢false, refl}
-use Rattle.std.specs.List.{flat_map, list_all}
+use Rattle.std.proofs.Common.{◌≡◌, ◌&&◌, sym, ap, arith, ℕ, Bool, List, [], ◌∷◌, Result, Ok, Err, is_ok, true, false, true≢false, refl}
+use Rattle.std.specs.List.{list_all}
 use Rattle.comp_types.specs.Items.{ItemTree}
 use Rattle.comp_types.specs.Fits.{IsComponent}
 use Rattle.comp_types.specs.Fault.{Fault}
 use Rattle.comp_types.specs.Definitions.{TypeTree, Defined}
-use Rattle.comp_types.specs.Sections.{Section, Types, Exports, Sections, none, more, Reads, component_at, items_in}
+use Rattle.comp_types.specs.Sections.{Section, Types, Exports, Sections, none, more, component_at, items_in}
 use Rattle.comp_types.proofs.DefinitionLaws.{type_scopes}
-use Rattle.comp_types.proofs.SectionLaws.{total, section_scopes, sections_scopes, component_again, component_form, reads_once}
+use Rattle.comp_types.proofs.SectionLaws.{total, section_scopes, sections_scopes, component_again, component_form}
 use Rattle.comp_shape.specs.FirstForm.{InFirstForm, is_plain_type, is_first_form, are_first_form}
-use Rattle.comp_shape.specs.Shape.{shape}
-use Rattle.comp_shape.specs.Views.{shape_tree}
-use Rattle.comp_shape.specs.declared.shape.Shape.{Shape}
-use Rattle.wasm_compose.specs.declared.export.ComponentExport.{ComponentExport}
-use Rattle.wasm_compose.specs.Component.{IsReadAs, export_in}
-
--- the shape is that of the items that were read
-pub read_as : (bytes : List ℕ) (s : Shape) (exports : List ComponentExport) (items : List ItemTree) → (found : List ItemTree) × InFirstForm bytes found × (shape found ≡ Some (shape_tree s)) → Reads bytes items → exports ≡ flat_map export_in items → IsReadAs bytes s exports
-read_as bytes s exports items h reads e = record {
-  items = h.0;
-  form = h.1;
-  shape_is = h.2;
-  exports_are = e ∙ ap (flat_map export_in) (reads_once bytes items h.0 reads (h.1.sections, h.1.items_are, h.1.form));
-}
 
 -- no section of the first form opens a scope
 both : (a b : Bool) → a && b ≡ true → (a ≡ true) × (b ≡ true)

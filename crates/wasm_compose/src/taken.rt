@@ -1,16 +1,14 @@
 //! Components from bytes and from files.
 
-ghost use Rattle.std.specs.Prelude.{◌≡◌, ◌≤◌, ◌↔◌, ◌++◌, ◌<◌, [], ℕ, List, Some, None, All, length, map, IfOk, IfErr, IfSome, OnOk, Err};
+ghost use Rattle.std.specs.Prelude.{◌≡◌, ◌≤◌, ◌↔◌, ◌<◌, [], Some, None, All, length, map, IfOk, IfErr, IfSome, Err};
 ghost use Rattle.std.specs.List.{flat_map};
 ghost use Rattle.warg_base.specs.Faults.{Rose};
 ghost use Rattle.warg_base.specs.Files.{file_at};
 ghost use Rattle.warg_base.specs.declared.files.FileError.{FileError as file_error};
 ghost use Rattle.warg_base.specs.declared.files.FileError.TheVariants as file;
-ghost use Rattle.comp_types.specs.Items.{ItemTree, item_tree};
+ghost use Rattle.comp_types.specs.Items.{item_tree};
 ghost use Rattle.comp_shape.specs.declared.error.ShapeError.{ShapeError as shape_error};
-ghost use Rattle.comp_shape.specs.FirstForm.{InFirstForm};
 ghost use Rattle.comp_shape.specs.Shape.{shape};
-ghost use Rattle.comp_shape.specs.Views.{shape_tree};
 ghost use Rattle.wasm_compose.specs.Component.{IsRead, IsRefused, IsReadAs, IsOfBytes, RefusedAt, name_of, path_of, bytes_of, export_in};
 ghost use Rattle.wasm_compose.specs.Content.{content_bytes};
 ghost use Rattle.wasm_compose.specs.declared.error.ComponentError.TheVariants.{BadName as bad_name, BadComponent as bad_component, File as bad_file};
@@ -19,7 +17,7 @@ use crate::component::Component;
 use crate::content::Content;
 use crate::error::ComponentError;
 use crate::export::ComponentExport;
-use comp_shape::{Shape, ShapeError, read_items, read_shape};
+use comp_shape::{Shape, ShapeError, read_component};
 use comp_types::Item;
 use std::alloc::Global;
 use warg_base::{FileError, Files, Memory, Text};
@@ -50,14 +48,10 @@ fn shown(alloc: Global, bytes: &[u8]) -> Result<(Shape, Vec<ComponentExport>), C
     ensures bad_component { (e : shape_error) → result ≡ Err (bad_component e) → IsRefused e bytes.now }
     ensures only { IfErr result IsOfBytes }
 {
-    let shape = match read_shape(alloc, bytes) {
-        Ok(shape) => shape,
+    let (items, shape) = match read_component(alloc, bytes) {
+        Ok(read) => read,
         Err(ShapeError::Memory) => return Err(ComponentError::Memory),
         Err(error) => return Err(ComponentError::BadComponent(error)),
-    };
-    let items = match read_items(alloc, bytes) {
-        Ok(items) => items,
-        Err(_) => return Err(ComponentError::Memory),
     };
     let exports = exports_of(alloc, items)?;
     Ok((shape, exports))
@@ -90,7 +84,7 @@ fn named<'a>(
 impl<'a> Component<'a> {
     /// The component of these bytes, under a name.
     ///
-    /// `BadName` is answered exactly for the empty name, and `BadComponent` exactly where [`read_shape`] refuses the
+    /// `BadName` is answered exactly for the empty name, and `BadComponent` exactly where [`read_component`] refuses the
     /// bytes.
     pub fn from_bytes(
         alloc: Global,
@@ -114,7 +108,7 @@ impl<'a> Component<'a> {
     /// The component of the file at `path`, under a name.
     ///
     /// `BadName` is answered exactly for the empty name, and then no file is read. `File` tells that the file is missing
-    /// or could not be read, and `BadComponent` is answered exactly where [`read_shape`] refuses its bytes.
+    /// or could not be read, and `BadComponent` is answered exactly where [`read_component`] refuses its bytes.
     pub fn from_file<F: Files>(
         alloc: Global,
         files: &mut F,
