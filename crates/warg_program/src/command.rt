@@ -1,6 +1,6 @@
 //! What the words ask for.
 
-ghost use Rattle.std.specs.Prelude.{◌≡◌, ℕ, List, map, MatchOption, string_bytes};
+ghost use Rattle.std.specs.Prelude.{ℕ, List, map, MatchOption, string_bytes};
 ghost use Rattle.warg_program.specs.Run.{IsLink};
 
 /// The two paths of a link: that of the component, and that of the result.

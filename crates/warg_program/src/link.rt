@@ -1,6 +1,6 @@
 //! Linking the component of a file.
 
-ghost use Rattle.std.specs.Prelude.{◌≡◌, ◌≤◌, ℕ, IfOk, IfErr, string_bytes};
+ghost use Rattle.std.specs.Prelude.{◌≡◌, ◌≤◌, IfOk, IfErr, string_bytes};
 ghost use Rattle.warg_program.specs.Lines.{done_line};
 ghost use Rattle.warg_program.specs.Run.{IsLinkOf, IsCause};
 
@@ -10,8 +10,8 @@ use std::alloc::{AllocError, Global};
 use warg_base::{FileError, Files};
 use wasm_compose::{Component, ComponentError, ComposeError, link_root};
 
-#[tactic(auto, using(crate::proofs::RunLaws::refused))]
 /// The bytes that link the component at a path, and the line of these.
+#[tactic(auto, using(crate::proofs::RunLaws::refused))]
 pub fn linked<F: Files>(alloc: Global, files: &mut F, root: &str) -> Result<(Vec<u8>, String), Stop>
     ensures never_falls { F.faults files.old ≤ F.faults files.new }
     ensures kept { F.told files.new ≡ F.told files.old }

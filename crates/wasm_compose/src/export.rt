@@ -1,6 +1,6 @@
 //! The exports of a component.
 
-ghost use Rattle.std.specs.Prelude.{◌≡◌};
+ghost use Rattle.std.specs.Prelude.{◌≡◌, Some, decimal};
 
 use comp_types::Sort;
 use std::fmt;
@@ -19,6 +19,8 @@ impl From<usize> for ExportIndex {
 }
 
 impl fmt::Display for ExportIndex {
+    ghost output = { λ index. Some (decimal index.0) };
+
     fn fmt<W: fmt::Write>(&self, f: &mut fmt::Formatter<W>) -> fmt::Result {
         fmt::Display::fmt(&self.0, f)
     }

@@ -1,12 +1,10 @@
 //! The component that makes one instance of another, and exports what it exports.
 
-ghost use Rattle.std.specs.Prelude.{◌≡◌, ◌≤◌, ◌<◌, ◌+◌, ◌*◌, ◌++◌, ◌^◌, ℕ, List, [], ◌∷◌, All, length, map, IfOk, OnOk, Err, None};
+ghost use Rattle.std.specs.Prelude.{◌≡◌, ◌≤◌, ◌<◌, ◌+◌, ◌++◌, ◌^◌, ℕ, [], ◌∷◌, All, length, map, IfOk, OnOk, Err, None};
 ghost use Rattle.comp_types.specs.declared.types.Sort.TheVariants as sort;
 ghost use Rattle.comp_types.specs.declared.error.EncodeError.TheVariants as encode_error;
-ghost use Rattle.comp_types.specs.declared.types.Alias.TheVariants as alias;
-ghost use Rattle.comp_types.specs.Items.{Aliased, Export};
 ghost use Rattle.comp_encoder.specs.Builder.{entries_of};
-ghost use Rattle.comp_encoder.specs.Writing.{Single, component_text, next_index};
+ghost use Rattle.comp_encoder.specs.Writing.{component_text, next_index};
 ghost use Rattle.wasm_compose.specs.Component.{bytes_of, export_names};
 ghost use Rattle.wasm_compose.specs.Link.{IsLinked, LinkFits, NamesFit, link_exports, link_items, singles};
 ghost use Rattle.wasm_compose.specs.declared.error.ComposeError.TheVariants.{TooLarge as too_large};

@@ -1,6 +1,6 @@
 //! What a component shows.
 
-ghost use Rattle.std.specs.Prelude.{◌≡◌, length, slice_get, option_map};
+ghost use Rattle.std.specs.Prelude.{◌≡◌, slice_get, option_map};
 ghost use Rattle.std.specs.Slice.Iter.{iter_rest};
 ghost use Rattle.comp_shape.specs.Views.{shape_tree};
 ghost use Rattle.wasm_compose.specs.Component.{name_of, path_of, bytes_of, shape_of, exports_of};
