@@ -67,8 +67,13 @@ impl Config {
         ensures only { (settings : plan.Settings) → Holds plan.settings_node text.now settings → Gives settings_of result (Ok settings) }
         // Which error it is.
         ensures exact { Gives settings_of result (whole_at plan.settings_at text.now) }
+        // The folder stays empty, whatever the text holds.
+        ensures dir { IfOk result (λ config. config.dir ≡ []) }
     {
-        from_str::<Config>(alloc, text)
+        let mut config = from_str::<Config>(alloc, text)?;
+        // The clauses of a read say nothing of the folder, since no settings hold it.
+        config.dir = Text::new(String::new(alloc));
+        Ok(config)
     }
 
     /// The name of the dependency that an instance is made of: what its instantiation says, or the instance's own
