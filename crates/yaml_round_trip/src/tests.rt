@@ -2,10 +2,11 @@
 
 use crate::{Choice, Sample};
 use indexmap::IndexMap;
-use serde_yaml2::{RoundTrip, from_str, to_string};
+use serde_yaml2::{Errors, RoundTrip, YamlNodeWrapper, from_str, to_string};
 use std::alloc::Global;
 use std::test::Fail;
 use warg_base::Text;
+use yaml_small::{Yaml, YamlList};
 
 /// The text of a value, and what is read from it.
 fn returned<T: RoundTrip>(alloc: Global, value: &T) -> Result<(Text, T), Fail> {
@@ -82,5 +83,27 @@ fn maps_of_maps_come_back(rt: HostRuntime) -> Result<(), Fail> {
     let inner = read.get(&Text::copy_of(alloc, "a")?).ok_or("a")?;
     let numbers = inner.get(&Text::copy_of(alloc, "b")?).ok_or("b")?;
     assert_eq!(rt; numbers.as_slice(), [1, 2].as_slice());
+    Ok(())
+}
+
+/// A list of a list of a list, and so on, so many lists in all.
+fn nested(alloc: Global, lists: usize) -> Result<YamlNodeWrapper, Fail> {
+    let mut value = Yaml::Array(YamlList::new(Vec::new(alloc)));
+    for _ in 1..lists {
+        let items = vec![in alloc; value]?;
+        value = Yaml::Array(YamlList::new(items));
+    }
+    Ok(YamlNodeWrapper::new(value))
+}
+
+#[test]
+fn lists_come_back_64_deep_and_are_refused_65_deep(rt: HostRuntime) -> Result<(), Fail> {
+    let alloc = rt.alloc();
+    let (_, read) = returned(alloc, &nested(alloc, 64)?)?;
+    assert_eq!(rt; read, nested(alloc, 64)?);
+    assert_eq!(rt;
+        to_string(alloc, &nested(alloc, 65)?).err(),
+        Some(Errors::FormArgsError)
+    );
     Ok(())
 }
