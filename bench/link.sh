@@ -7,25 +7,9 @@
 set -eu
 
 here=$(CDPATH='' cd -- "$(dirname "$0")" && pwd -P)
+. "$here/measure.sh"
 [ $# -gt 0 ] || set -- 12500 25000 50000 100000 200000 400000
-runs=5
-
-work=$(mktemp -d)
-trap 'rm -rf "$work"' EXIT
-trap 'exit 130' INT TERM
-
-# The launcher proves and builds the program where that is due, so that no run below does.
-"$here/../warg" link "$here/../examples/empty.wasm" "$work/empty.wasm" >"$work/empty.line"
-program=$here/../crates/warg_program/out/warg_program
-
-# Nanoseconds, where the clock tells them, else whole seconds.
-now() {
-    time_now=$(date +%s%N)
-    case $time_now in
-        *N) time_now=$(date +%s)000000000 ;;
-    esac
-    printf '%s\n' "$time_now"
-}
+build_warg
 
 link_root() {
     "$program" link "$work/root.wasm" "$work/out.wasm" >"$work/line"
@@ -34,35 +18,6 @@ link_root() {
 hash_and_copy() {
     sha256sum "$work/root.wasm" >"$work/sum"
     cp "$work/root.wasm" "$work/copy.wasm"
-}
-
-# The least time of some runs of a command, in nanoseconds.
-least_of() {
-    least=
-    run=0
-    while [ "$run" -lt "$runs" ]; do
-        begin=$(now)
-        "$1"
-        took=$(($(now) - begin))
-        if [ -z "$least" ] || [ "$took" -lt "$least" ]; then
-            least=$took
-        fi
-        run=$((run + 1))
-    done
-    printf '%s\n' "$least"
-}
-
-# The most memory that a run held, in KiB, where GNU time is there, else 0.
-peak() {
-    if [ -x /usr/bin/time ] && /usr/bin/time -f %M -o "$work/peak" "$program" link "$work/root.wasm" "$work/out.wasm" >"$work/line" 2>/dev/null; then
-        tail -n 1 "$work/peak"
-    else
-        printf '0\n'
-    fi
-}
-
-size_of() {
-    wc -c <"$1" | tr -d ' '
 }
 
 check_line() {
@@ -81,11 +36,9 @@ for count in "$@"; do
     linked=$(least_of link_root)
     check_line
     base=$(least_of hash_and_copy)
+    peak=$(peak_of "$program" link "$work/root.wasm" "$work/out.wasm")
     awk -v count="$count" -v root="$(size_of "$work/root.wasm")" -v out="$(size_of "$work/out.wasm")" \
-        -v linked="$linked" -v before="$before" -v base="$base" -v peak="$(peak)" '
-        function ratio(a, b) {
-            return b > 0 ? sprintf("%.2f", a / b) : "-"
-        }
+        -v linked="$linked" -v before="$before" -v base="$base" -v peak="$peak" "$ratio"'
         BEGIN {
             held = peak > 0 ? peak : "-"
             share = peak > 0 ? ratio(peak * 1024, root) : "-"

@@ -9,25 +9,9 @@
 set -eu
 
 here=$(CDPATH='' cd -- "$(dirname "$0")" && pwd -P)
+. "$here/measure.sh"
 [ $# -gt 0 ] || set -- 16 32 64
-runs=5
-
-work=$(mktemp -d)
-trap 'rm -rf "$work"' EXIT
-trap 'exit 130' INT TERM
-
-# The launcher proves and builds the program where that is due, so that no run below does.
-"$here/../warg" link "$here/../examples/empty.wasm" "$work/empty.wasm" >"$work/empty.line"
-program=$here/../crates/warg_program/out/warg_program
-
-# Nanoseconds, where the clock tells them, else whole seconds.
-now() {
-    time_now=$(date +%s%N)
-    case $time_now in
-        *N) time_now=$(date +%s)000000000 ;;
-    esac
-    printf '%s\n' "$time_now"
-}
+build_warg
 
 read_root() {
     status=0
@@ -37,32 +21,6 @@ read_root() {
 
 hash_root() {
     sha256sum "$work/root.wasm" >"$work/sum"
-}
-
-# The least time of some runs of a command, in nanoseconds.
-least_of() {
-    least=
-    run=0
-    while [ "$run" -lt "$runs" ]; do
-        begin=$(now)
-        "$1"
-        took=$(($(now) - begin))
-        if [ -z "$least" ] || [ "$took" -lt "$least" ]; then
-            least=$took
-        fi
-        run=$((run + 1))
-    done
-    printf '%s\n' "$least"
-}
-
-# The most memory that a run held, in KiB, where GNU time is there, else 0.
-peak() {
-    if [ -x /usr/bin/time ]; then
-        /usr/bin/time -q -f %M -o "$work/peak" "$program" link "$work/root.wasm" "$work/out.wasm" >"$work/line" || true
-        tail -n 1 "$work/peak"
-    else
-        printf '0\n'
-    fi
 }
 
 check_refusal() {
@@ -80,10 +38,8 @@ for count in "$@"; do
     taken=$(least_of read_root)
     check_refusal
     base=$(least_of hash_root)
-    awk -v root="$(wc -c <"$work/root.wasm" | tr -d ' ')" -v taken="$taken" -v before="$before" -v base="$base" -v peak="$(peak)" '
-        function ratio(a, b) {
-            return b > 0 ? sprintf("%.2f", a / b) : "-"
-        }
+    peak=$(peak_of "$program" link "$work/root.wasm" "$work/out.wasm")
+    awk -v root="$(size_of "$work/root.wasm")" -v taken="$taken" -v before="$before" -v base="$base" -v peak="$peak" "$ratio"'
         BEGIN {
             held = peak > 0 ? peak : "-"
             share = peak > 0 ? ratio(peak * 1024, root) : "-"

@@ -8,17 +8,12 @@
 # Each release stands in a record of its own. A signature is listed for each record, so the verifier's list is as long as
 # the log. Each time is the least of three runs.
 set -eu
-top=$(cd "$(dirname "$0")/.." && pwd)
+
+here=$(CDPATH='' cd -- "$(dirname "$0")" && pwd -P)
+. "$here/measure.sh"
 [ $# -gt 0 ] || set -- 5000 10000 20000 40000
-work=$(mktemp -d)
-trap 'rm -rf "$work"' EXIT
-trap 'exit 130' INT TERM
-mkdir -p "$work/crates/follow_log/src"
-for crate in warg_base warg_hash warg_record warg_log; do cp -r "$top/crates/$crate" "$work/crates/"; done
-cp "$top/HANDLES" "$work/"
-grep -E '^(warg_base|warg_hash|warg_record|warg_log):' "$top/crates.txt" > "$work/crates.txt"
-echo 'follow_log: warg_log warg_hash warg_record warg_base semver anyhow' >> "$work/crates.txt"
-cat > "$work/crates/follow_log/src/main.rt" <<'RT'
+
+build_over follow_log 'warg_base warg_hash warg_record warg_log' 'warg_log warg_hash warg_record warg_base semver anyhow' <<'RT'
 //! Makes a log of as many releases as the standard input says, validates it, replays it, and chooses a release. Prints how
 //! long each took, in nanoseconds.
 #![tactic(auto)]
@@ -148,9 +143,6 @@ fn main(rt: HostRuntime) -> Result<()> {
     Ok(())
 }
 RT
-(cd "$work" && git init -q . && cd crates/follow_log && printf '2' | rt run > "$work/build" 2>&1) || true
-program=$work/crates/follow_log/out/follow_log
-[ -x "$program" ] || { cat "$work/build" >&2; echo "the program was not built" >&2; exit 1; }
 
 # The least of three runs, by column: the releases, and the nanoseconds of validating, replaying and choosing.
 measure() {
@@ -169,10 +161,7 @@ printf '|---|---|---|---|---|---|\n'
 before='0 0 0 0'
 for releases in "$@"; do
     line=$(measure "$releases")
-    printf '%s %s\n' "$line" "$before" | awk '
-        function ratio(a, b) {
-            return b > 0 ? sprintf("%.2f", a / b) : "-"
-        }
+    printf '%s %s\n' "$line" "$before" | awk "$ratio"'
         {
             printf "| %d | %.1f | %s | %.1f | %s | %.2f |\n", $1, $2 / 1e6, ratio($2, $6), $3 / 1e6, ratio($3, $7), $4 / 1e6
         }'

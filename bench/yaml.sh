@@ -3,15 +3,11 @@
 # grow linearly with the text. It builds a program over the crates in a folder of its own, and leaves the
 # repository as it was. It wants `rt`, and `python3` with `yaml` for the comparison.
 set -eu
-top=$(cd "$(dirname "$0")/.." && pwd)
-work=$(mktemp -d)
-trap 'rm -rf "$work"' EXIT
-mkdir -p "$work/crates/count_events/src"
-for crate in warg_base yaml_scan yaml_small; do cp -r "$top/crates/$crate" "$work/crates/"; done
-cp "$top/HANDLES" "$work/"
-grep -E '^(warg_base|yaml_scan|yaml_small):' "$top/crates.txt" > "$work/crates.txt"
-echo 'count_events: yaml_small anyhow' >> "$work/crates.txt"
-cat > "$work/crates/count_events/src/main.rt" <<'RT'
+
+here=$(CDPATH='' cd -- "$(dirname "$0")" && pwd -P)
+. "$here/measure.sh"
+
+build_over count_events 'warg_base yaml_scan yaml_small' 'yaml_small anyhow' <<'RT'
 //! Counts the events of the text on the standard input, and prints how long that took.
 #![tactic(auto)]
 
@@ -39,9 +35,7 @@ fn main(rt: HostRuntime) -> Result<()> {
     Ok(())
 }
 RT
-(cd "$work" && git init -q . && cd crates/count_events && printf '' | rt run > /dev/null 2>&1) || true
-program=$work/crates/count_events/out/count_events
-[ -x "$program" ] || { echo "the program was not built" >&2; exit 1; }
+
 python3 - "$program" <<'PY'
 import resource
 import subprocess
