@@ -1,5 +1,5 @@
 -- A place leads to a later one over the same text as another place does.
-use Rattle.std.proofs.Common.{◌≡◌, ℕ, suc, ◌+◌, List, [], ◌∷◌, ◌++◌, drop, length, Bool, true, false, not, cond, ◌&&◌, ◌||◌, eqb, refl, sym, ap, ◌∙◌, inl, inr, append_assoc, one-add}
+use Rattle.std.proofs.Common.{◌≡◌, ℕ, suc, ◌+◌, List, [], ◌∷◌, ◌++◌, drop, length, Bool, true, false, not, cond, ◌&&◌, ◌||◌, eqb, refl, sym, ap, ◌∙◌, inl, inr, append_assoc, append-nil, one-add}
 use Rattle.std.specs.List.{prefix_len}
 use Rattle.std.proofs.lemmas.Bool.{cases_Bool}
 use Rattle.yaml_scan.specs.Bytes.{is_space, is_white, is_clean}
@@ -13,6 +13,10 @@ if_true b x y e = rw e refl
 
 pub if_false : {A : Type 0} (b : Bool) (x y : A) → b ≡ false → cond b x y ≡ y
 if_false b x y e = rw e refl
+
+pub not_true : (b : Bool) → not b ≡ true → b ≡ false
+not_true true e = absurd cc
+not_true false e = refl
 
 -- lines, and the front of a line, before a place
 abbrev pub joined : List (List ℕ) → List ℕ → At → List (List ℕ)
@@ -151,6 +155,12 @@ not_ended [] (c ∷ cs) all solid = from (is_white c) (and_parts (not (is_white 
     from false e = refl
 not_ended (c ∷ v) r all solid =
     ap (λ (b : Bool). is_white c && b) (passes (c ∷ v) r all (solid_white r solid) ∙ solid_over r solid) ∙ and_false (is_white c)
+
+-- a line of white space has nothing more
+pub white_ends : (v : List ℕ) → all_of is_white v ≡ true → ends v ≡ true
+white_ends [] all = refl
+white_ends (c ∷ v) all =
+    ap (λ (b : Bool). b && is_passed (c ∷ v)) (and_parts (is_white c) (all_of is_white v) all).0 ∙ ap is_passed (sym (append-nil (c ∷ v))) ∙ passes (c ∷ v) [] all refl
 
 pub gone_over : (col : ℕ) (v r : List ℕ) (later : List (List ℕ)) → all_of is_white v ≡ true → stops is_white r ≡ true
     → over (record { col = col; line = v ++ r; later = later }) ≡ record { col = col + length v; line = r; later = later }

@@ -1,5 +1,5 @@
 -- A run to a place is the same run where something else stands at that place.
-use Rattle.std.proofs.Common.{◌≡◌, ℕ, List, [], ◌∷◌, ◌++◌, length, Bool, true, false, not, cond, eqb, Option, Some, None, Result, Ok, Err, refl, sym, ap, ◌∙◌, subst, inl, inr}
+use Rattle.std.proofs.Common.{◌≡◌, ℕ, List, [], ◌∷◌, ◌++◌, length, Bool, true, false, cond, eqb, Option, Some, None, Result, Ok, Err, refl, sym, ap, ◌∙◌, subst, inl, inr}
 use Rattle.yaml_small.specs.declared.event.Event.{Event}
 use Rattle.yaml_small.specs.declared.event.Event.TheVariants.{StreamStart, StreamEnd}
 use Rattle.yaml_small.specs.declared.state.Mode.{Mode}
@@ -10,22 +10,19 @@ use Rattle.yaml_small.specs.Places.{At, flow_next, begins, is_end, at_dots, at_d
 use Rattle.yaml_small.specs.Scalars.{Fault, Form}
 use Rattle.yaml_small.specs.Grammar.{closes_value, is_flow_colon}
 use Rattle.yaml_small.specs.Step.{Go, go, missing_go, open_at, paired_at, list_done, map_done, seq_done, pairs_done, root_done, done_at, step_at}
-use Rattle.yaml_small.specs.Stream.{State, top_of, behind, Runs}
+use Rattle.yaml_small.specs.Stream.{State, top_of, changed, behind, Runs}
 use Rattle.yaml_small.proofs.Grows.{the_end, SameMode}
-use Rattle.yaml_small.proofs.Runs.{runs_of, from_of, top_pushed, state}
-use Rattle.yaml_laws.proofs.Along.{Along, stays, further}
+use Rattle.yaml_small.proofs.Runs.{runs_of, from_of, step_of, top_pushed, state}
+use Rattle.yaml_laws.proofs.Along.{not_true, Along, stays, further}
 use Rattle.yaml_laws.proofs.Contents.{Ready}
+use Rattle.yaml_laws.proofs.Scans.{begins_low}
 use Rattle.yaml_laws.proofs.Blocks.{Alike, Next}
-use Rattle.yaml_laws.proofs.Frames.{is_flow, is_pairs, sits, nested, in_flow, in_pairs, flow_push, pairs_push, nested_pop, agreed, innermost}
-use Rattle.yaml_laws.proofs.Moves.{Starts, Flowing, Fits, Fine, Moves, moves_err, moves_map, moves_ok}
+use Rattle.yaml_laws.proofs.Frames.{is_flow, sits, nested, in_flow, flow_push, nested_pop, agreed, innermost, pairs_flow}
+use Rattle.yaml_laws.proofs.Moves.{Starts, Flowing, Fits, Fine, is_tied, tied, other, last, Lasts, Moves, moves_err, moves_map, moves_ok}
 use Rattle.yaml_laws.proofs.Leaves.{same_mode}
 use Rattle.yaml_laws.proofs.BlockMoves.{moves_node, moves_item, moves_value, moves_explicit, moves_keyed, moves_list_done, moves_map_done}
 use Rattle.yaml_laws.proofs.DocumentMoves.{moves_root_done, moves_document, moves_last}
 use Rattle.yaml_laws.proofs.FlowMoves.{moves_seq_next, moves_pairs_next, moves_seq_done, moves_pairs_done, moves_paired}
-
-pub not_true : (b : Bool) → not b ≡ true → b ≡ false
-not_true true e = absurd cc
-not_true false e = refl
 
 -- behind an innermost list or map
 pub fits_out : (flow g : Bool) (a c : At) → flow ≡ false → Next a c → Fits flow (Done g) a c
@@ -64,31 +61,15 @@ open_moves j (InMap col) a nest sit flow = absurd cc
 open_moves j (InSeq inner) a nest sit flow = moves_seq_next j (length (j ++ (InSeq inner ∷ []))) inner a (agreed inner (in_flow false j) sit) nest
 open_moves j (InPairs inner) a nest sit flow = moves_pairs_next j inner a (agreed inner (in_flow false j) sit) nest
 
-pub pairs_flow : (k : List Frame) → in_pairs false k ≡ true → in_flow false k ≡ true
-pairs_flow k e =
-    elim ((innermost k).either) [
-      | inl none ↦ absurd (off (sym (ap (in_pairs false) none) ∙ e))
-      | inr (j, (f, is)) ↦ ap (in_flow false) is ∙ flow_push false j f ∙ flows f (sym (pairs_push false j f) ∙ sym (ap (in_pairs false) is) ∙ e)
-    ]
-  where
-    off : false ≡ true → ⊥
-    off e = absurd cc
-
-    flows : (f : Frame) → is_pairs f ≡ true → is_flow f ≡ true
-    flows (InList col) e = absurd cc
-    flows (InMap col) e = absurd cc
-    flows (InSeq inner) e = absurd cc
-    flows (InPairs inner) e = refl
-
 start_moves : (k : List Frame) (depth : ℕ) (f : Option Frame) (a : At) → nested false k ≡ true → in_flow false k ≡ false → Moves k (Ready a) (step_at Begin f depth) a
 unfolding step_at
 start_moves k depth f a nest flow = moves_ok k (Ready a) (λ c. go StreamStart c Document (missing_go c).change) a
-    (λ d fits. record { at = d; like = fits; along = stays a d; mode = Document; same = same_mode Document; is = refl }) (record { nest = nest; suits = flow })
+    (λ d fits. record { at = d; like = fits; along = stays a d; mode = Document; same = same_mode Document; is = refl }) (λ rest tie. absurd cc) (record { nest = nest; suits = flow })
 
 end_moves : (k : List Frame) (depth : ℕ) (f : Option Frame) (a : At) → nested false k ≡ true → Moves k (λ c. c ≡ the_end) (step_at Ended f depth) a
 unfolding step_at
 end_moves k depth f a nest = moves_ok k (λ c. c ≡ the_end) (λ c. go StreamEnd c Ended (missing_go c).change) a
-    (λ d fits. record { at = d; like = fits; along = stays a d; mode = Ended; same = same_mode Ended; is = refl }) (record { nest = nest; suits = tt })
+    (λ d fits. record { at = d; like = fits; along = stays a d; mode = Ended; same = same_mode Ended; is = refl }) (λ rest tie. absurd cc) (record { nest = nest; suits = tt })
 
 root_moves : (k : List Frame) (depth : ℕ) (f : Option Frame) (a : At) → nested false k ≡ true → in_flow false k ≡ false → Moves k (Starts a) (step_at (Root false) f depth) a
 unfolding step_at
@@ -163,25 +144,50 @@ flagless m n f d a x same e =
       | inr (inr (q, (g, (h, (old, new))))) ↦ ap (λ (m : Mode). step_at m f d a) new ∙ paired_flag d q a g h x (sym (ap (λ (m : Mode). step_at m f d a) old) ∙ e)
     ]
 
--- the run to the place where something else stands
-pub record Returns (s : State) (es : List Event) (z : State) (d : At) : Type 0 where
-  pub at : At
-  pub fits : Fits (in_flow false s.frames) s.mode s.at at
-  pub along : Along s.at z.at at d
-  pub runs : (n : Mode) → SameMode s.mode n → (m : Mode) × (SameMode z.mode m × Runs (state n s.frames at) es (state m z.frames d))
-
 abbrev pub FitsAt : State → At → Type 0
 FitsAt s d = Fits (in_flow false s.frames) s.mode s.at d
 
-stopped : (s z : State) (d : At) → s ≡ z → FitsAt z d → Returns s [] z d
-stopped s z d e fits =
-    subst (λ (x : State). Returns s [] x d) e
+-- a run to a place where this stands instead, and to a state of which P holds
+pub record Returns (s : State) (es : List Event) (z : State) (P : At → State → Type 0) : Type 0 where
+  pub at : At
+  pub fits : FitsAt s at
+  pub there : At
+  pub along : Along s.at z.at at there
+  pub runs : (n : Mode) → SameMode s.mode n → (q : State) × (P there q × Runs (state n s.frames at) es q)
+
+stopped : (s z : State) (d : At) (P : At → State → Type 0) → s ≡ z → FitsAt z d → ((m : Mode) → SameMode z.mode m → P d (state m z.frames d)) → Returns s [] z P
+stopped s z d P e fits holds =
+    subst (λ (x : State). Returns s [] x P) e
     (record {
       at = d;
       fits = subst (λ (x : State). FitsAt x d) (sym e) fits;
+      there = d;
       along = stays s.at d;
-      runs = λ n same. (n, (same, refl));
+      runs = λ n same. (state n s.frames d, (subst (λ (x : State). (m : Mode) → SameMode x.mode m → P d (state m x.frames d)) (sym e) holds n same, refl));
     })
+
+-- behind a step
+led : (s : State) (e : Event) (es : List Event) (z : State) (P : At → State → Type 0) (g : Go) → step_of s ≡ Ok g → e ≡ g.event → Fine s.mode s.frames s.at → Returns (behind s.frames g) es z P → Returns s (e ∷ es) z P
+unfolding going
+led s e es z P g is event fine r =
+    let n = (step_moves s.mode s.frames s.at fine).move g is (other r.at r.fits) in
+    let a = n.arrives in
+    let step : step_at s.mode (top_of s.frames) (length s.frames) n.at ≡ Ok (go g.event r.at a.mode g.change) = n.is ∙ ap (λ (x : At). going (go g.event x a.mode g.change)) a.comes.1 in
+    record {
+      at = n.at;
+      fits = n.like;
+      there = r.there;
+      along = further s.at g.at n.at r.at z.at r.there (subst (λ (x : At). Along s.at g.at n.at x) a.comes.0 n.along) r.along;
+      runs = λ m same.
+          let q = r.runs a.mode a.comes.2 in (
+            q.0,
+            (
+              q.1.0,
+              runs_of (state m s.frames n.at) (e ∷ es) q.0
+                  (go g.event r.at a.mode g.change, flagless s.mode m (top_of s.frames) (length s.frames) n.at (go g.event r.at a.mode g.change) same step, event, q.1.1),
+            ),
+          );
+    }
 
 pub fine_run : (s : State) (es : List Event) (z : State) → Runs s es z → Fine s.mode s.frames s.at → Fine z.mode z.frames z.at
 fine_run s [] z runs fine = subst (λ (x : State). Fine x.mode x.frames x.at) runs fine
@@ -189,24 +195,40 @@ fine_run s (e ∷ es) z runs fine =
     let h = from_of s e es z runs in
     fine_run (behind s.frames h.0) es z h.3 ((step_moves s.mode s.frames s.at fine).fine h.0 h.1)
 
-pub returns : (s : State) (es : List Event) (z : State) (d : At) → Runs s es z → Fine s.mode s.frames s.at → FitsAt z d → Returns s es z d
-returns s [] z d runs fine fits = stopped s z d runs fits
-returns s (e ∷ es) z d runs fine fits =
+-- to another place that fits
+pub returns : (s : State) (es : List Event) (z : State) (d : At) (P : At → State → Type 0) → Runs s es z → Fine s.mode s.frames s.at → FitsAt z d → ((m : Mode) → SameMode z.mode m → P d (state m z.frames d)) → Returns s es z P
+returns s [] z d P runs fine fits holds = stopped s z d P runs fits holds
+returns s (e ∷ es) z d P runs fine fits holds =
     let h = from_of s e es z runs in
-    let moves = step_moves s.mode s.frames s.at fine in
-    let r = returns (behind s.frames h.0) es z d h.3 (moves.fine h.0 h.1) fits in
-    let n = moves.move h.0 h.1 r.at r.fits in
+    led s e es z P h.0 h.1 h.2 fine (returns (behind s.frames h.0) es z d P h.3 ((step_moves s.mode s.frames s.at fine).fine h.0 h.1) fits holds)
+
+-- to an end that the last step chooses
+lasted : (s : State) (e : Event) (P : At → State → Type 0) (g : Go) (rest : List ℕ) → step_of s ≡ Ok g → e ≡ g.event → Fine s.mode s.frames s.at → tied s.frames g ≡ true
+    → ((there to : At) (n : Mode) → Lasts (in_flow false (changed g.change s.frames)) g.mode rest there to n → P there (state n (changed g.change s.frames) to)) → Returns s (e ∷ []) (behind s.frames g) P
+lasted s e P g rest is event fine tie holds =
+    let n = (step_moves s.mode s.frames s.at fine).move g is (last rest tie) in
+    let a = n.arrives in
+    let end = go g.event a.to a.mode g.change in
     record {
       at = n.at;
       fits = n.like;
-      along = further s.at h.0.at n.at r.at z.at d n.along r.along;
-      runs = λ m same.
-          let q = r.runs n.mode n.same in (
-            q.0,
-            (
-              q.1.0,
-              runs_of (state m s.frames n.at) (e ∷ es) (state q.0 z.frames d)
-                  (go h.0.event r.at n.mode h.0.change, flagless s.mode m (top_of s.frames) (length s.frames) n.at (go h.0.event r.at n.mode h.0.change) same n.is, h.2, q.1.1),
-            ),
-          );
+      there = a.there;
+      along = n.along;
+      runs = λ m same. (
+        behind s.frames end,
+        (
+          holds a.there a.to a.mode a.comes,
+          runs_of (state m s.frames n.at) (e ∷ []) (behind s.frames end) (end, flagless s.mode m (top_of s.frames) (length s.frames) n.at end same n.is, event, refl),
+        ),
+      );
     }
+
+pub lasts : (s : State) (e : Event) (es : List Event) (z : State) (P : At → State → Type 0) (rest : List ℕ) → Runs s (e ∷ es) z → Fine s.mode s.frames s.at → is_tied z.mode (in_flow false z.frames) (begins_low z.at.line) ≡ true
+    → ((there to : At) (n : Mode) → Lasts (in_flow false z.frames) z.mode rest there to n → P there (state n z.frames to)) → Returns s (e ∷ es) z P
+lasts s e [] z P rest runs fine tie holds =
+    let h = from_of s e [] z runs in
+    subst (λ (x : State). is_tied x.mode (in_flow false x.frames) (begins_low x.at.line) ≡ true → ((there to : At) (n : Mode) → Lasts (in_flow false x.frames) x.mode rest there to n → P there (state n x.frames to)) → Returns s (e ∷ []) x P) h.3
+    (lasted s e P h.0 rest h.1 h.2 fine) tie holds
+lasts s e (f ∷ es) z P rest runs fine tie holds =
+    let h = from_of s e (f ∷ es) z runs in
+    led s e (f ∷ es) z P h.0 h.1 h.2 fine (lasts (behind s.frames h.0) f es z P rest h.3 ((step_moves s.mode s.frames s.at fine).fine h.0 h.1) tie holds)

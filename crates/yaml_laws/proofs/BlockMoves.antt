@@ -1,5 +1,5 @@
 -- Steps outside flows, to a place where something else stands.
-use Rattle.std.proofs.Common.{◌≡◌, ℕ, ◌+◌, List, [], ◌∷◌, ◌++◌, Bool, true, false, ◌||◌, eqb, ltb, Option, Some, None, Result, Ok, Err, refl, sym, ap, ◌∙◌, inl, inr, arith}
+use Rattle.std.proofs.Common.{◌≡◌, ℕ, ◌+◌, List, [], ◌∷◌, ◌++◌, Bool, true, false, ◌||◌, eqb, ltb, Option, Some, None, Result, Ok, refl, sym, ap, ◌∙◌, inl, inr, arith}
 use Rattle.std.proofs.lemmas.Bool.{eqb-true, le-leb}
 use Rattle.yaml_scan.specs.Bytes.{is_gap, spaces, whites}
 use Rattle.yaml_scan.specs.Lines.{ends}
@@ -10,19 +10,20 @@ use Rattle.yaml_small.specs.declared.state.Mode.TheVariants.{Item, Open, Done}
 use Rattle.yaml_small.specs.declared.state.Frame.{Frame}
 use Rattle.yaml_small.specs.declared.state.Frame.TheVariants.{InList, InMap, InSeq, InPairs}
 use Rattle.yaml_small.specs.Places.{At, past, over, next_at, begins, is_end, is_within, is_dash, at_dash, list_ends, map_ends}
-use Rattle.yaml_small.specs.Scalars.{Fault, NotCarried, Word, key_at, is_word, is_key, begins_block}
+use Rattle.yaml_small.specs.Scalars.{Fault, NotCarried, is_word, is_key, begins_block}
 use Rattle.yaml_small.specs.Step.{Go, list_start, map_start, inline_at, node_at, below, tabbed, item_at, under, value_at, explicit_at, key_step, line_fault, block_end, list_done, map_done}
 use Rattle.yaml_small.specs.Stream.{changed}
 use Rattle.yaml_small.proofs.Grows.{the_end}
 use Rattle.yaml_small.proofs.Runs.{popped}
-use Rattle.yaml_small.proofs.Marks.{and_parts, and_false, or_true, or_parts, not_so, both, no_key, opener_no_dash, seq_opens, map_opens}
+use Rattle.yaml_small.proofs.Marks.{and_parts, and_false, or_true, or_parts, no_key, opener_no_dash, seq_opens, map_opens}
 use Rattle.yaml_laws.proofs.Along.{stays, ahead, further, is_solid, not_ended, solid_white}
 use Rattle.yaml_laws.proofs.Contents.{place}
-use Rattle.yaml_laws.proofs.Words.{word_place, key_place, key_reads, key_gap}
+use Rattle.yaml_laws.proofs.Words.{word_place, key_place, key_ok, same_key}
+use Rattle.yaml_laws.proofs.Scans.{begins_low, same_begins}
 use Rattle.yaml_laws.proofs.Blocks.{Alike, Next, ready}
 use Rattle.yaml_laws.proofs.Frames.{in_flow, nested, flow_push, nested_push}
 use Rattle.yaml_laws.proofs.Moves.{Gap, Keyed, Moves, moves_err, moves_if, moves_map, moves_ok}
-use Rattle.yaml_laws.proofs.Leaves.{head_byte, same_mode, done_out, moves_word, moves_block, moves_missing, moves_opens, moves_map_opens, moves_key}
+use Rattle.yaml_laws.proofs.Leaves.{head_byte, same_mode, done_out, untied, moves_word, moves_block, moves_missing, moves_opens, moves_map_opens, moves_key}
 use Rattle.yaml_laws.proofs.Wraps.{moves_next, moves_over, gap_over, same_white, alike_seq, alike_map, alike_dash, dash_gap, alike_words, alike_line}
 
 -- what stands at a block scalar's head
@@ -37,45 +38,28 @@ head_solid (c ∷ cs) e = from (eqb c 124) refl e
 -- a node on one line, or a block scalar
 pub inline_block : (k : List Frame) (depth : ℕ) (parent : Option ℕ) (P : At → Type 0) (a : At) → in_flow false k ≡ false → nested false k ≡ true
     → ((c : At) → begins 91 a.line ≡ true → begins 91 c.line ≡ true → c.col ≡ a.col → P c) → ((c : At) → begins 123 a.line ≡ true → begins 123 c.line ≡ true → c.col ≡ a.col → P c)
-    → ((c : At) → is_solid a.line ≡ true → c.line ≡ a.line → c.col ≡ a.col → P c) → Moves k P (inline_at false depth parent) a
+    → ((c : At) → Alike a c → (is_key a ≡ false → is_key c ≡ false) → P c) → Moves k P (inline_at false depth parent) a
 unfolding inline_at
 inline_block k depth parent P a flow nest seq map line =
     moves_if k P (λ c. begins 91 c.line) _ _ a
     (λ is.
-    moves_opens depth 91 SequenceStart (λ n. Open) (λ n. InSeq false) k (λ c. P c × (begins 91 c.line ≡ true)) a is nest (rw flow refl) (flow_push false k (InSeq false))
+    moves_opens depth 91 SequenceStart (λ n. Open) (λ n. InSeq false) k (λ c. P c × (begins 91 c.line ≡ true)) a is nest (rw flow refl) (flow_push false k (InSeq false)) (λ flow low. refl)
     (λ d fits. (fits, (seq (place a.col (91 ∷ d.line) d.later) is refl refl, refl))))
     (λ no_seq.
     moves_if k (λ c. P c × (begins 91 c.line ≡ false)) (λ c. begins 123 c.line) _ _ a
     (λ is.
-    moves_opens depth 123 MappingStart (λ n. Open) (λ n. InPairs false) k (λ c. (P c × (begins 91 c.line ≡ false)) × (begins 123 c.line ≡ true)) a is nest (rw flow refl) (flow_push false k (InPairs false))
+    moves_opens depth 123 MappingStart (λ n. Open) (λ n. InPairs false) k (λ c. (P c × (begins 91 c.line ≡ false)) × (begins 123 c.line ≡ true)) a is nest (rw flow refl) (flow_push false k (InPairs false)) (λ flow low. refl)
     (λ d fits. (fits, ((map (place a.col (123 ∷ d.line) d.later) is refl refl, refl), refl))))
     (λ no_map.
     moves_if k (λ c. (P c × (begins 91 c.line ≡ false)) × (begins 123 c.line ≡ false)) (λ c. begins_block c.line) _ _ a
     (λ is.
     moves_block k parent (λ c. ((P c × (begins 91 c.line ≡ false)) × (begins 123 c.line ≡ false)) × (begins_block c.line ≡ true)) a flow nest
-    (λ c same col. (((line c (head_solid a.line is) same col, ap (begins 91) same ∙ no_seq), ap (begins 123) same ∙ no_map), ap begins_block same ∙ is)))
+    (λ c same col. (((line c (alike_line a c (head_solid a.line is) same col) (same_key a c same col), ap (begins 91) same ∙ no_seq), ap (begins 123) same ∙ no_map), ap begins_block same ∙ is)))
     (λ no_block.
     moves_word false k (λ c. ((P c × (begins 91 c.line ≡ false)) × (begins 123 c.line ≡ false)) × (begins_block c.line ≡ false)) a flow nest
     (λ w v c is too col first same.
-    let same = same refl in
-    (((line c (word_place false a w is).solid same col, ap (begins 91) same ∙ no_seq), ap (begins 123) same ∙ no_map), ap begins_block same ∙ no_block)))))
-
--- a key stands on a line whatever lines follow
-key_ok : (a : At) → is_key a ≡ true → (w : Word) × (key_at a ≡ Ok w)
-key_ok a e = from (key_at a) refl e
-  where
-    from : (r : Result Word Fault) → key_at a ≡ r → is_word r ≡ true → (w : Word) × (key_at a ≡ Ok w)
-    from (Ok w) is e = (w, is)
-    from (Err f) is e = absurd cc
-
-same_key : (a c : At) → c.line ≡ a.line → c.col ≡ a.col → is_key a ≡ false → is_key c ≡ false
-same_key a c line col none =
-    not_so (is_key c) (λ is.
-    let k = key_ok c is in
-    let r = key_reads c k.0 (place k.0.end.col k.0.end.line a.later) k.1 refl (key_gap c k.0 k.1) in
-    let at : r.at ≡ a =
-    ap (λ (n : ℕ). place n r.at.line r.at.later) (r.col ∙ col) ∙ ap (λ (l : List ℕ). place a.col l r.at.later) (r.whole refl ∙ line) ∙ ap (λ (ls : List (List ℕ)). place a.col a.line ls) r.later in
-    both (is_key a) (ap is_key (sym at) ∙ ap is_word r.is) none)
+    let alike = alike_words a c (word_place false a w is) (word_place false c v too) col in
+    (((line c alike (same refl), same_begins 91 c.line a.line first ∙ no_seq), same_begins 123 c.line a.line first ∙ no_map), rw (same_begins 124 c.line a.line first, same_begins 62 c.line a.line first) no_block)))))
 
 dash_begins : (line : List ℕ) → is_dash line ≡ true → begins 45 line ≡ true
 dash_begins [] e = absurd cc
@@ -85,7 +69,7 @@ pub moves_list : (k : List Frame) (depth : ℕ) (P : At → Type 0) (a : At) →
     → ((c : At) → Alike a c → is_dash c.line ≡ true → P c) → Moves k P (list_start depth) a
 unfolding list_start
 moves_list k depth P a flow nest dash like =
-    moves_opens depth 45 SequenceStart (λ n. Item n) (λ n. InList n) k P a (dash_begins a.line dash) nest (rw flow refl) (flow_push false k (InList a.col))
+    moves_opens depth 45 SequenceStart (λ n. Item n) (λ n. InList n) k P a (dash_begins a.line dash) nest (rw flow refl) (flow_push false k (InList a.col)) (λ flow low. refl)
     (λ d fits.
     let gap = fits.gap (dash_gap a.line dash) in
     (fits.col, like (place a.col (45 ∷ d.line) d.later) (alike_dash a d.line d.later dash gap) gap))
@@ -108,7 +92,7 @@ moves_node k depth parent a flow nest =
     inline_block k depth parent (λ c. (Alike a c × (is_dash c.line ≡ false)) × (is_key c ≡ false)) a flow nest
     (λ c p q col. ((alike_seq a c p q col, opener_no_dash 91 c.line seq_opens q), no_key 91 c seq_opens q))
     (λ c p q col. ((alike_map a c p q col, opener_no_dash 123 c.line map_opens q), no_key 123 c map_opens q))
-    (λ c solid line col. ((alike_line a c solid line col, ap is_dash line ∙ no_dash), same_key a c line col none))))
+    (λ c alike same. ((alike, alike.dash ∙ no_dash), same none))))
 
 pub solid_end : (c : At) → is_solid c.line ≡ true → is_end c ≡ false
 solid_end c e = from c.line refl e
@@ -150,7 +134,7 @@ moves_under k depth col a flow nest =
 
 -- a node on a mark's line
 moves_inline : (k : List Frame) (depth : ℕ) (parent : Option ℕ) (a : At) → in_flow false k ≡ false → nested false k ≡ true → Moves k (Alike a) (inline_at false depth parent) a
-moves_inline k depth parent a flow nest = inline_block k depth parent (Alike a) a flow nest (alike_seq a) (alike_map a) (alike_line a)
+moves_inline k depth parent a flow nest = inline_block k depth parent (Alike a) a flow nest (alike_seq a) (alike_map a) (λ c alike same. alike)
 
 moves_alike_inline : (k : List Frame) (depth : ℕ) (parent : Option ℕ) (a : At) → in_flow false k ≡ false → nested false k ≡ true → is_dash a.line || is_key a ≡ false → Moves k (λ c. Alike a c × (is_dash c.line || is_key c ≡ false)) (inline_at false depth parent) a
 moves_alike_inline k depth parent a flow nest good =
@@ -158,7 +142,7 @@ moves_alike_inline k depth parent a flow nest good =
     inline_block k depth parent (λ c. Alike a c × (is_dash c.line || is_key c ≡ false)) a flow nest
     (λ c p q col. (alike_seq a c p q col, rw (opener_no_dash 91 c.line seq_opens q) (no_key 91 c seq_opens q)))
     (λ c p q col. (alike_map a c p q col, rw (opener_no_dash 123 c.line map_opens q) (no_key 123 c map_opens q)))
-    (λ c solid line col. (alike_line a c solid line col, rw (ap is_dash line ∙ o.0) (same_key a c line col o.1)))
+    (λ c alike same. (alike, rw (alike.dash ∙ o.0) (same o.1)))
 
 -- behind a mark, with a node on its line or below
 behind_line : (a c : At) → c.line ≡ a.line → c.col ≡ a.col → Gap a c
@@ -215,16 +199,15 @@ moves_keyed k a flow nest = moves_key k (Keyed a) a flow nest (λ w v c is too c
 -- behind a dash or a bracket
 pub moves_past : (x : ℕ) (k : List Frame) (P Q : At → Type 0) (r : At → Result Go Fault) (a : At) → begins x a.line ≡ true → Moves k P r (past 1 a) → ((c : At) → P c → (c.col ≡ a.col + 1) × Q (place a.col (x ∷ c.line) c.later)) → Moves k Q (λ c. r (past 1 c)) a
 moves_past x k P Q r a here m like = record {
-  move = λ g e d fits.
-      let n = m.move g e d fits in
+  move = λ g e want.
+      let n = m.move g e want in
       let h = like n.at n.like in
       let c = place a.col (x ∷ n.at.line) n.at.later in
       record {
         at = c;
         like = h.1;
-        along = further a (past 1 a) c n.at g.at d (ahead (x ∷ []) a (past 1 a) c n.at (head_byte x a.line here) refl refl refl) n.along;
-        mode = n.mode;
-        same = n.same;
+        along = further a (past 1 a) c n.at g.at n.arrives.there (ahead (x ∷ []) a (past 1 a) c n.at (head_byte x a.line here) refl refl refl) n.along;
+        arrives = n.arrives;
         is = ap (λ (m : ℕ). r (place m n.at.line n.at.later)) (sym h.0) ∙ n.is;
       };
   fine = m.fine;
@@ -241,7 +224,7 @@ moves_block_ends e k f P a nest flow like = moves_ok (k ++ (f ∷ [])) P (λ c. 
       same = same_mode (Done false);
       is = refl;
     })
-    (record { nest = ap (nested false) (popped k f) ∙ nest; suits = tt })
+    (λ rest tie. untied (in_flow false (changed (block_end e a).change (k ++ (f ∷ [])))) (begins_low a.line) (ap (in_flow false) (popped k f) ∙ flow) tie) (record { nest = ap (nested false) (popped k f) ∙ nest; suits = tt })
 
 list_ends_same : (col : ℕ) (a c : At) → Alike a c → list_ends col c ≡ list_ends col a
 list_ends_same col a c alike = rw (alike.instead.col, alike.dash) refl

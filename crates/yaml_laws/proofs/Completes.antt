@@ -1,31 +1,27 @@
 -- What was told so far can be completed.
-use Rattle.std.proofs.Common.{◌≡◌, ℕ, ◌⊎◌, List, [], ◌∷◌, ◌++◌, drop, Bool, true, false, not, ◌&&◌, ◌||◌, eqb, nat_eq, Result, Ok, Err, refl, sym, ap, ◌∙◌, subst, inl, inr}
+use Rattle.std.proofs.Common.{◌≡◌, ℕ, List, [], ◌∷◌, ◌++◌, drop, Bool, true, false, not, ◌&&◌, ◌||◌, eqb, nat_eq, refl, sym, ap, ◌∙◌, subst, inl, inr}
 use Rattle.std.specs.List.{starts_with}
 use Rattle.std.proofs.lemmas.Bool.{cases_Bool}
 use Rattle.yaml_scan.specs.Lines.{lines_of}
 use Rattle.yaml_small.specs.declared.event.Event.{Event}
-use Rattle.yaml_small.specs.declared.state.Mode.{Mode}
-use Rattle.yaml_small.specs.declared.state.Mode.TheVariants.{Begin, Document, Root, Item, Key, Value, Open, Paired, Done, Stray, Last, Ended}
-use Rattle.yaml_small.specs.declared.state.Frame.{Frame}
-use Rattle.yaml_small.specs.declared.state.Frame.TheVariants.{InList, InMap, InSeq, InPairs}
+use Rattle.yaml_small.specs.declared.state.Mode.TheVariants.{Begin}
 use Rattle.yaml_small.specs.Places.{At, next_at}
-use Rattle.yaml_small.specs.Scalars.{Fault, Form, NotCarried, TooDeep, Cut, open_fault}
+use Rattle.yaml_small.specs.Scalars.{NotCarried, open_fault}
 use Rattle.yaml_small.specs.Grammar.{without_mark, first_at}
-use Rattle.yaml_small.specs.Step.{Go}
-use Rattle.yaml_small.specs.Stream.{State, start, next, moved, Runs, IsFirm}
+use Rattle.yaml_small.specs.Stream.{State, start, Runs}
 use Rattle.yaml_small.proofs.Scans.{lines_of-open}
-use Rattle.yaml_small.proofs.Marks.{and_parts, and_false, both}
-use Rattle.yaml_small.proofs.Runs.{step_of, state}
+use Rattle.yaml_small.proofs.Marks.{and_false}
+use Rattle.yaml_small.proofs.Runs.{state}
 use Rattle.yaml_small.proofs.FoundText.{found}
-use Rattle.yaml_laws.specs.Completion.{Completed, is_block, all_blocks, begins_low}
+use Rattle.yaml_laws.specs.Completion.{Completed}
 use Rattle.yaml_laws.proofs.Along.{if_true, if_false, joined, Along, onward}
 use Rattle.yaml_laws.proofs.Contents.{Ready, next_reads}
-use Rattle.yaml_laws.proofs.Scans.{is_low, low, three}
-use Rattle.yaml_laws.proofs.Moves.{Fine}
-use Rattle.yaml_laws.proofs.Frames.{is_flow, in_flow}
-use Rattle.yaml_laws.proofs.Backward.{pairs_flow, fine_run, Returns, returns}
-use Rattle.yaml_laws.proofs.Endings.{Ending}
-use Rattle.yaml_laws.proofs.Completions.{is_mild, is_free, Goes, EndingAt, ending}
+use Rattle.yaml_laws.proofs.Scans.{begins_low, is_low, low, three}
+use Rattle.yaml_laws.proofs.Moves.{Fine, is_tied}
+use Rattle.yaml_laws.proofs.Frames.{in_flow}
+use Rattle.yaml_laws.proofs.Backward.{fine_run, Returns, returns, lasts}
+use Rattle.yaml_laws.proofs.Endings.{Ending, closers}
+use Rattle.yaml_laws.proofs.Completions.{ending, Finish, finish, last_finish}
 use Rattle.yaml_laws.proofs.Texts.{no_feeds, text_of, text_start, lines_again, lines_feedless, tidy_place}
 use Rattle.yaml_laws.proofs.Cuts.{divided}
 
@@ -91,12 +87,12 @@ low_text (c ∷ line) [] is = is
 low_text (c ∷ line) (m ∷ lines) is = is
 
 -- a document that begins so, which is told to the stream's end
-document_of : (text : List ℕ) (es : List Event) (s : State) (head rest other front : List ℕ) (at d : At) (m : Mode) → text ≡ front ++ rest → lines_of rest ≡ s.at.line ∷ s.at.later → first_at (front ++ other) ≡ at
-    → Runs (state Begin [] at) es (state m s.frames d) → Ending (state m s.frames d) → Completed text es s.at
-document_of text es s head rest other front at d m text_is rest_is first runs end =
+document_of : (text : List ℕ) (es : List Event) (s : State) (rest other front : List ℕ) (at : At) (q : State) → text ≡ front ++ rest → lines_of rest ≡ s.at.line ∷ s.at.later → first_at (front ++ other) ≡ at
+    → Runs (state Begin [] at) es q → Ending q → Completed text es s.at
+document_of text es s rest other front at q text_is rest_is first runs end =
     let document = front ++ other in
     let begins : state Begin [] at ≡ start document = ap (λ (x : At). state Begin [] x) (sym first) in
-    let told = runs_on (start document) es (state m s.frames d) end.events end.last (subst (λ (x : State). Runs x es (state m s.frames d)) begins runs) end.runs in
+    let told = runs_on (start document) es q end.events end.last (subst (λ (x : State). Runs x es q) begins runs) end.runs in
     let f = found document (es ++ end.events) (end.last, told, end.ended) in
     record {
       front = front;
@@ -111,80 +107,48 @@ document_of text es s head rest other front at d m text_is rest_is first runs en
       told = sym f.is;
     }
 
-completed_lines : (text : List ℕ) (es : List Event) (s : State) (l : List ℕ) (ls : List (List ℕ)) → lines_of (without_mark text) ≡ l ∷ ls → (e : EndingAt s.mode s.frames s.at) → Returns (start text) es s e.at → Completed text es s.at
-completed_lines text es s l ls some e r =
-    let n = next_reads l ls r.at (subst (λ (x : List (List ℕ)). Ready (next_at x) r.at) some r.fits) in
-    let b = onward (l ∷ ls) n.reads.others (next_at (l ∷ ls)) s.at r.at e.at n.reads.same (subst (λ (x : List (List ℕ)). Along (next_at x) s.at r.at e.at) some r.along) in
-    let clean : no_feeds (joined b.before b.front s.at) ≡ true = sym (ap no_feeds (some ∙ b.lines_are)) ∙ lines_feedless (without_mark text) in
-    let tidy = e.tidy (tidy_place b.before b.front s.at clean) in
-    let k = divided (without_mark text) b.before b.front s.at.line s.at.later (some ∙ b.lines_are) in
-    let other = text_of (e.at.line ∷ e.at.later) in
-    let lines : lines_of (k.head ++ other) ≡ n.reads.others =
-    k.other other e.at.line e.at.later (text_start e.at.line e.at.later tidy) (lines_again e.at.line e.at.later tidy) ∙ sym b.others_are in
-    let f = fronted text k.head k.rest other k.text_is (low_text e.at.line e.at.later e.lows) in
+completed_lines : (text : List ℕ) (es : List Event) (s : State) (l : List ℕ) (ls : List (List ℕ)) → lines_of (without_mark text) ≡ l ∷ ls → Returns (start text) es s (Finish s.at) → Completed text es s.at
+completed_lines text es s l ls some r =
     let q = r.runs Begin (inl refl) in
-    document_of text es s k.head k.rest other f.front r.at e.at q.0 f.text_is k.rest_is (ap (λ (x : List ℕ). next_at (lines_of x)) f.other_is ∙ ap next_at lines ∙ n.reads.to) q.1.1 (e.run q.0 q.1.0)
+    let end = q.1.0 in
+    let d = r.there in
+    let n = next_reads l ls r.at (subst (λ (x : List (List ℕ)). Ready (next_at x) r.at) some r.fits) in
+    let b = onward (l ∷ ls) n.reads.others (next_at (l ∷ ls)) s.at r.at d n.reads.same (subst (λ (x : List (List ℕ)). Along (next_at x) s.at r.at d) some r.along) in
+    let clean : no_feeds (joined b.before b.front s.at) ≡ true = sym (ap no_feeds (some ∙ b.lines_are)) ∙ lines_feedless (without_mark text) in
+    let tidy = end.tidy (tidy_place b.before b.front s.at clean) in
+    let k = divided (without_mark text) b.before b.front s.at.line s.at.later (some ∙ b.lines_are) in
+    let other = text_of (d.line ∷ d.later) in
+    let lines : lines_of (k.head ++ other) ≡ n.reads.others = k.other other d.line d.later (text_start d.line d.later tidy) (lines_again d.line d.later tidy) ∙ sym b.others_are in
+    let f = fronted text k.head k.rest other k.text_is (low_text d.line d.later end.lows) in
+    document_of text es s k.rest other f.front r.at q.0 f.text_is k.rest_is (ap (λ (x : List ℕ). next_at (lines_of x)) f.other_is ∙ ap next_at lines ∙ n.reads.to) q.1.1 end.ending
 
-pub completed : (text : List ℕ) (es : List Event) (s : State) → Runs (start text) es s → Goes s.mode s.frames s.at → Completed text es s.at
-completed text es s runs goes = from (lines_of (without_mark text)) refl (lines_of-open (without_mark text))
+completed_by : (text : List ℕ) (es : List Event) (s : State) → Returns (start text) es s (Finish s.at) → Completed text es s.at
+completed_by text es s r = from (lines_of (without_mark text)) refl (lines_of-open (without_mark text))
   where
     from : (lines : List (List ℕ)) → lines_of (without_mark text) ≡ lines → open_fault lines ≡ NotCarried → Completed text es s.at
     from [] is some = absurd cc
-    from (l ∷ ls) is some =
-        let whole : Fine Begin [] (first_at text) = record { nest = refl; suits = refl } in
-        let e = ending s.mode s.frames s.at goes (fine_run (start text) es s runs whole) in
-        completed_lines text es s l ls is e (returns (start text) es s e.at runs whole e.fits)
+    from (l ∷ ls) is some = completed_lines text es s l ls is r
 
-pub mild_completed : (text : List ℕ) (es : List Event) (s : State) → Runs (start text) es s → is_mild (step_of s) ≡ true → Completed text es s.at
-mild_completed text es s runs mild = completed text es s runs (record { either = inl mild })
+fine_start : (text : List ℕ) → Fine Begin [] (first_at text)
+fine_start text = record { nest = refl; suits = refl }
 
--- outside flows
-block_flow : (k : List Frame) → all_blocks k ≡ true → in_flow false k ≡ false
-block_flow [] e = refl
-block_flow (f ∷ k) e =
-    let p = and_parts (is_block f) (all_blocks k) e in
-    ap (λ (b : Bool). in_flow b k) (blocks f p.0) ∙ block_flow k p.1
+-- where what may stand there does not hang on what was read before
+free_completed : (text : List ℕ) (es : List Event) (s : State) → Runs (start text) es s → is_tied s.mode (in_flow false s.frames) (begins_low s.at.line) ≡ false → Completed text es s.at
+free_completed text es s runs free =
+    let e = ending s.mode s.frames s.at free (fine_run (start text) es s runs (fine_start text)) in
+    completed_by text es s (returns (start text) es s e.at (Finish s.at) runs (fine_start text) e.fits (λ m same. finish s.mode m s.frames s.at e same))
+
+-- and where it does
+tied_completed : (text : List ℕ) (es : List Event) (s : State) → Runs (start text) es s → is_tied s.mode (in_flow false s.frames) (begins_low s.at.line) ≡ true → Completed text es s.at
+tied_completed text [] s runs tie = absurd (no_start (subst (λ (x : State). is_tied x.mode (in_flow false x.frames) (begins_low x.at.line) ≡ true) (sym runs) tie))
   where
-    blocks : (f : Frame) → is_block f ≡ true → is_flow f ≡ false
-    blocks (InList col) e = refl
-    blocks (InMap col) e = refl
-    blocks (InSeq inner) e = absurd cc
-    blocks (InPairs inner) e = absurd cc
+    no_start : false ≡ true → ⊥
+    no_start e = absurd cc
+tied_completed text (e ∷ es) s runs tie =
+    let fine = fine_run (start text) (e ∷ es) s runs (fine_start text) in
+    completed_by text (e ∷ es) s
+    (lasts (start text) e es s (Finish s.at) (closers s.frames) runs (fine_start text) tie (λ there to n comes. last_finish s.mode n s.frames s.at there to (in_flow false s.frames) refl tie fine comes))
 
-free_outside : (m : Mode) (k : List Frame) (a : At) → in_flow false k ≡ false → Fine m k a → (m ≡ Stray → ⊥) → is_free m (in_flow false k) ≡ true
-free_outside Begin k a out fine other = refl
-free_outside Document k a out fine other = refl
-free_outside (Root b) k a out fine other = refl
-free_outside (Item col) k a out fine other = refl
-free_outside Key k a out fine other = refl
-free_outside (Value col) k a out fine other = refl
-free_outside Open k a out fine other = refl
-free_outside (Paired q g) k a out fine other = absurd (both (in_flow false k) (pairs_flow k fine.suits) out)
-free_outside (Done g) k a out fine other = ap not out
-free_outside Stray k a out fine other = absurd (other refl)
-free_outside Last k a out fine other = refl
-free_outside Ended k a out fine other = refl
-
-pub outside_completed : (text : List ℕ) (es : List Event) (s : State) → Runs (start text) es s → all_blocks s.frames ≡ true → (s.mode ≡ Stray → ⊥) → Completed text es s.at
-outside_completed text es s runs blocks other =
-    let fine = fine_run (start text) es s runs (record { nest = refl; suits = refl }) in
-    completed text es s runs (record { either = inr (inl (free_outside s.mode s.frames s.at (block_flow s.frames blocks) fine other)) })
-
--- a step is a refusal for good, or none
-pub mild_or_firm : (s : State) → (is_mild (step_of s) ≡ true) ⊎ ((f : Fault) × ((next s ≡ Err f) × IsFirm f))
-unfolding next
-mild_or_firm s = from (step_of s) refl
-  where
-    firm : (f : Fault) → step_of s ≡ Err f → IsFirm f → (is_mild (step_of s) ≡ true) ⊎ ((f : Fault) × ((moved s.frames (step_of s) ≡ Err f) × IsFirm f))
-    firm f is for_good = inr (f, (ap (moved s.frames) is, for_good))
-
-    from : (r : Result Go Fault) → step_of s ≡ r → (is_mild (step_of s) ≡ true) ⊎ ((f : Fault) × ((moved s.frames (step_of s) ≡ Err f) × IsFirm f))
-    from (Ok g) is = inl (ap is_mild is)
-    from (Err Form) is = firm Form is tt
-    from (Err NotCarried) is = firm NotCarried is tt
-    from (Err TooDeep) is = firm TooDeep is tt
-    from (Err Cut) is = inl (ap is_mild is)
-
--- where no high byte stands
-pub low_completed : (text : List ℕ) (es : List Event) (s : State) → Runs (start text) es s → (s.mode ≡ Stray → ⊥) → begins_low s.at.line ≡ true → Completed text es s.at
-low_completed text es s runs other small = completed text es s runs (record { either = inr (inr (other, small)) })
+pub completed : (text : List ℕ) (es : List Event) (s : State) → Runs (start text) es s → Completed text es s.at
+completed text es s runs =
+    elim (cases_Bool (is_tied s.mode (in_flow false s.frames) (begins_low s.at.line))) [ inl tie ↦ tied_completed text es s runs tie | inr free ↦ free_completed text es s runs free ]

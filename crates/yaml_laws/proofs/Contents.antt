@@ -1,11 +1,11 @@
 -- The first content of lines, and the next token of a flow, when other content stands there.
-use Rattle.std.proofs.Common.{◌≡◌, ℕ, ◌⊎◌, List, [], ◌∷◌, ◌++◌, drop, length, Bool, true, false, cond, refl, sym, ap, ◌∙◌, subst, inl, inr, append-nil}
+use Rattle.std.proofs.Common.{◌≡◌, ℕ, ◌+◌, ◌⊎◌, List, [], ◌∷◌, ◌++◌, drop, length, Bool, true, false, cond, refl, sym, ap, ◌∙◌, subst, inl, inr, append-nil}
 use Rattle.std.proofs.lemmas.Bool.{cases_Bool}
 use Rattle.yaml_scan.specs.Bytes.{is_space, is_white, spaces}
 use Rattle.yaml_scan.specs.Lines.{is_passed}
-use Rattle.yaml_small.specs.Places.{At, next_at, is_end}
+use Rattle.yaml_small.specs.Places.{At, over, next_at, is_end}
 use Rattle.yaml_small.proofs.Grows.{the_end}
-use Rattle.yaml_laws.proofs.Along.{joined, Along, Before, all_of, stops, parted, counted, dropped, is_solid, solid_white, white_space, space_white, solid_over, passes}
+use Rattle.yaml_laws.proofs.Along.{joined, Along, Before, all_of, stops, parted, counted, dropped, gone_over, is_solid, solid_white, white_space, space_white, solid_over, passes}
 
 -- other content at the same column
 pub record Instead (a d : At) : Type 0 where
@@ -62,6 +62,41 @@ next_stands l e ms = ap (λ (b : Bool). cond b (next_at ms) (record { col = spac
 -- a place of these parts
 abbrev pub place : ℕ → List ℕ → List (List ℕ) → At
 place col line later = record { col = col; line = line; later = later }
+
+-- white space, and what stands behind it
+pub record Spaced (a : At) : Type 0 where
+  pub front : List ℕ
+  pub all : all_of is_white front ≡ true
+  pub line : a.line ≡ front ++ (over a).line
+  pub stop : stops is_white (over a).line ≡ true
+  pub col : (over a).col ≡ a.col + length front
+  pub later : (over a).later ≡ a.later
+
+pub spaced_at : (a : At) → Spaced a
+spaced_at a =
+    let p = parted is_white a.line in
+    let here : over a ≡ place (a.col + length p.front) p.rest a.later = ap (λ (l : List ℕ). over (place a.col l a.later)) p.is ∙ gone_over a.col p.front p.rest a.later p.all p.stop in
+    record {
+      front = p.front;
+      all = p.all;
+      line = p.is ∙ ap (λ (x : At). p.front ++ x.line) (sym here);
+      stop = ap (λ (x : At). stops is_white x.line) here ∙ p.stop;
+      col = ap (λ (x : At). x.col) here;
+      later = ap (λ (x : At). x.later) here;
+    }
+
+-- a tab or nothing, and the text's end behind it
+abbrev pub tab_if : Bool → List ℕ
+tab_if true = 9 ∷ []
+tab_if false = []
+
+abbrev pub end_behind : Bool → At
+end_behind tab = place 0 (tab_if tab) []
+
+-- a comma behind a tab or a line end, and what stands behind it
+abbrev pub comma_behind : Bool → ℕ → List ℕ → At
+comma_behind true col rest = place col (9 ∷ 44 ∷ rest) []
+comma_behind false col rest = place col [] ((44 ∷ rest) ∷ [])
 
 pub spaced : (v r : List ℕ) (ms : List (List ℕ)) → all_of is_space v ≡ true → stops is_space r ≡ true → place (spaces (v ++ r)) (drop (spaces (v ++ r)) (v ++ r)) ms ≡ place (length v) r ms
 spaced v r ms all stop = ap (λ (n : ℕ). place n (drop n (v ++ r)) ms) (counted is_space v r all stop) ∙ ap (λ (x : List ℕ). place (length v) x ms) (dropped v r)

@@ -34,14 +34,14 @@ dashes_gap line e = (and_parts (starts_with nat_eq line (45 ∷ 45 ∷ 45 ∷ []
 
 at_end : (a : At) → Moves [] (λ c. c ≡ the_end) (λ c. Ok (go DocumentEnd c Last (missing_go c).change)) a
 at_end a = moves_ok [] (λ c. c ≡ the_end) (λ c. go DocumentEnd c Last (missing_go c).change) a
-    (λ d fits. record { at = d; like = fits; along = stays a d; mode = Last; same = same_mode Last; is = refl }) (record { nest = refl; suits = tt })
+    (λ d fits. record { at = d; like = fits; along = stays a d; mode = Last; same = same_mode Last; is = refl }) (λ rest tie. absurd cc) (record { nest = refl; suits = tt })
 
 pub moves_root_done : (g : Bool) (a : At) → Moves [] (Next a) (root_done g) a
 unfolding root_done dots_end
 moves_root_done g a =
     moves_if [] (Next a) is_end _ _ a
     (λ is. moves_ok [] (λ c. Next a c × (is_end c ≡ true)) (λ c. go DocumentEnd c Last (missing_go c).change) a
-    (λ d fits. record { at = d; like = (record { either = inl fits }, ap is_end fits); along = stays a d; mode = Last; same = same_mode Last; is = refl }) (record { nest = refl; suits = tt }))
+    (λ d fits. record { at = d; like = (record { either = inl fits }, ap is_end fits); along = stays a d; mode = Last; same = same_mode Last; is = refl }) (λ rest tie. absurd cc) (record { nest = refl; suits = tt }))
     (λ some. moves_if [] (λ c. Next a c × (is_end c ≡ false)) at_dots _ _ a
     (λ dots.
     let here = (and_parts (eqb a.col 0) (is_dots a.line) dots).1 in
@@ -62,7 +62,7 @@ unfolding document_at
 moves_document k a flow nest =
     moves_if k (Ready a) is_end _ _ a
     (λ is. moves_ok k (λ c. Ready a c × (is_end c ≡ true)) (λ c. go StreamEnd c Ended (missing_go c).change) a
-    (λ d fits. record { at = d; like = (record { either = inl fits }, ap is_end fits); along = stays a d; mode = Ended; same = same_mode Ended; is = refl }) (record { nest = nest; suits = tt }))
+    (λ d fits. record { at = d; like = (record { either = inl fits }, ap is_end fits); along = stays a d; mode = Ended; same = same_mode Ended; is = refl }) (λ rest tie. absurd cc) (record { nest = nest; suits = tt }))
     (λ some. moves_if k (λ c. Ready a c × (is_end c ≡ false)) at_dashes _ _ a
     (λ dashes.
     let p = and_parts (eqb a.col 0) (is_dashes a.line) dashes in
@@ -78,7 +78,7 @@ moves_document k a flow nest =
       same = same_mode (Root true);
       is = rw (← fits.col) refl;
     })
-    (record { nest = nest; suits = flow }))
+    (λ rest tie. absurd cc) (record { nest = nest; suits = flow }))
     (λ none. moves_if k (λ c. (Ready a c × (is_end c ≡ false)) × (at_dashes c ≡ false)) (λ c. begins 37 c.line) _ _ a
     (λ bad. moves_err k _ (λ c. NotCarried) a)
     (λ good. moves_ok k (λ c. ((Ready a c × (is_end c ≡ false)) × (at_dashes c ≡ false)) × (begins 37 c.line ≡ false)) (λ c. go DocumentStart c (Root false) (missing_go c).change) a
@@ -90,12 +90,12 @@ moves_document k a flow nest =
       same = same_mode (Root false);
       is = refl;
     })
-    (record { nest = nest; suits = (flow, some) }))))
+    (λ rest tie. absurd cc) (record { nest = nest; suits = (flow, some) }))))
 
 pub moves_last : (k : List Frame) (a : At) → nested false k ≡ true → Moves k (λ c. c ≡ the_end) last_at a
 unfolding last_at
 moves_last k a nest =
     moves_if k (λ c. c ≡ the_end) is_end _ _ a
     (λ is. moves_ok k (λ c. (c ≡ the_end) × (is_end c ≡ true)) (λ c. go StreamEnd c Ended (missing_go c).change) a
-    (λ d fits. record { at = d; like = (fits, ap is_end fits); along = stays a d; mode = Ended; same = same_mode Ended; is = refl }) (record { nest = nest; suits = tt }))
+    (λ d fits. record { at = d; like = (fits, ap is_end fits); along = stays a d; mode = Ended; same = same_mode Ended; is = refl }) (λ rest tie. absurd cc) (record { nest = nest; suits = tt }))
     (λ more. moves_err k _ (λ c. cond (at_dots c) Form NotCarried) a)

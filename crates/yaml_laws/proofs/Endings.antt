@@ -13,11 +13,10 @@ use Rattle.yaml_small.specs.Stream.{State, top_of, behind, Runs}
 use Rattle.yaml_small.proofs.Grows.{the_end}
 use Rattle.yaml_small.proofs.Marks.{and_parts, or_true}
 use Rattle.yaml_small.proofs.Runs.{runs_of, top_pushed, length_pushed, popped, state, done, landed, settled_lands}
-use Rattle.yaml_laws.proofs.Along.{if_true, if_false, is_solid, not_ended, solid_white, gone_over}
+use Rattle.yaml_laws.proofs.Along.{not_true, if_true, if_false, is_solid, not_ended, solid_white, gone_over}
 use Rattle.yaml_laws.proofs.Contents.{place, next_end}
 use Rattle.yaml_laws.proofs.Frames.{is_flow, sits, nested, in_flow, flow_push, nested_pop, agreed, innermost}
 use Rattle.yaml_laws.proofs.BlockMoves.{list_ends_end}
-use Rattle.yaml_laws.proofs.Backward.{not_true}
 
 -- a run to the stream's end
 pub record Ending (s : State) : Type 0 where

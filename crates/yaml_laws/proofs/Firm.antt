@@ -1,4 +1,4 @@
--- Endings in a flow where the text is refused for good.
+-- Endings in a flow: a comma and the closing brackets.
 use Rattle.std.proofs.Common.{◌≡◌, ℕ, ◌+◌, List, [], ◌∷◌, Bool, true, false, ◌&&◌, ◌||◌, eqb, refl, sym, ap, ◌∙◌, subst, inl, inr}
 use Rattle.std.proofs.lemmas.Bool.{cases_Bool, eqb-true}
 use Rattle.yaml_scan.specs.Bytes.{is_space, is_white, is_flow_mark}
@@ -6,16 +6,15 @@ use Rattle.yaml_scan.specs.Lines.{ends}
 use Rattle.yaml_scan.specs.Plain.{parts, plain_len}
 use Rattle.yaml_small.specs.Places.{At, over, next_at, flow_next, begins, is_end}
 use Rattle.yaml_small.proofs.Marks.{or_parts, not_so, both}
-use Rattle.yaml_laws.specs.Completion.{begins_low}
 use Rattle.yaml_laws.proofs.Along.{if_false, not_ended, gone_over}
-use Rattle.yaml_laws.proofs.Contents.{place}
-use Rattle.yaml_laws.proofs.Scans.{low, white_low, Near, near_of, looks_same}
+use Rattle.yaml_laws.proofs.Contents.{place, comma_behind}
+use Rattle.yaml_laws.proofs.Scans.{begins_low, low, white_low, Near, near_of, looks_same}
 use Rattle.yaml_laws.proofs.Stops.{near_white, near_comma, near_tab}
 use Rattle.yaml_laws.proofs.OpenEnds.{with_line, next_more}
 use Rattle.yaml_laws.proofs.Endings.{solid_next}
 use Rattle.yaml_laws.proofs.Texts.{no_feed, no_feeds}
 
--- a comma and the closing brackets, where a plain scalar before it stays as it is
+-- where a plain scalar before them stays as it is
 pub record FirmAt (rest : List ℕ) (a : At) : Type 0 where
   pub at : At
   pub col : ℕ
@@ -63,7 +62,7 @@ firm_line rest a (x ∷ xs) is small =
         to = white_next a.col x rest white;
         same = refl;
         free = no_white_quote x white;
-        near = λ none. subst (λ (l : List ℕ). Near true l (x ∷ 44 ∷ rest)) (sym is) (near_white x xs (44 ∷ rest) white (λ w. refl) (sym (ap (plain_len true false) is) ∙ none));
+        near = λ none. subst (λ (l : List ℕ). Near true l (x ∷ 44 ∷ rest)) (sym is) (near_white true x xs (44 ∷ rest) white (λ w. refl) (sym (ap (plain_len true false) is) ∙ none));
         part = ap (parts true) (sym is);
         lows = white_low x white;
         tidy = λ clean. rw (no_white_feed x white, clean) refl;
@@ -86,7 +85,7 @@ firm_line rest a (x ∷ xs) is small =
           to = white_next a.col 9 rest refl;
           same = refl;
           free = refl;
-          near = λ none. subst (λ (l : List ℕ). Near true l (9 ∷ 44 ∷ rest)) (sym is) (near_tab x xs rest dark plain small (sym (ap (plain_len true false) is) ∙ none));
+          near = λ none. subst (λ (l : List ℕ). Near true l (9 ∷ 44 ∷ rest)) (sym is) (near_tab true x xs (44 ∷ rest) dark plain small (λ w. refl) (sym (ap (plain_len true false) is) ∙ none));
           part = sym (ap (parts true) is ∙ ap (λ (b : Bool). b || is_flow_mark x) (or_parts (is_space x) (eqb x 9) dark).0 ∙ plain);
           lows = refl;
           tidy = λ clean. rw clean refl;
@@ -96,3 +95,8 @@ firm_line rest a (x ∷ xs) is small =
 
 pub firm_at : (rest : List ℕ) (a : At) → begins_low a.line ≡ true → FirmAt rest a
 firm_at rest a small = firm_line rest a a.line refl small
+
+-- a comma behind a tab or a line end
+pub comma_next : (tab : Bool) (col : ℕ) (rest : List ℕ) → (n : ℕ) × (flow_next (comma_behind tab col rest) ≡ place n (44 ∷ rest) [])
+comma_next true col rest = (col + 1, white_next col 9 rest refl)
+comma_next false col rest = (0, next_more (place col [] []) (44 ∷ rest) (nothing_ends col) refl)

@@ -1,20 +1,23 @@
 -- Steps within flows, to a place where something else stands.
-use Rattle.std.proofs.Common.{◌≡◌, ℕ, List, [], ◌∷◌, ◌++◌, drop, Bool, true, false, not, ◌&&◌, ◌||◌, eqb, Option, None, Ok, refl, sym, ap, ◌∙◌, subst}
-use Rattle.std.proofs.lemmas.Bool.{eqb-true}
+use Rattle.std.proofs.Common.{◌≡◌, ℕ, List, [], ◌∷◌, ◌++◌, drop, Bool, true, false, not, ◌&&◌, ◌||◌, eqb, ltb, Option, None, Ok, refl, sym, ap, ◌∙◌, subst, inl, inr}
+use Rattle.std.proofs.lemmas.Bool.{cases_Bool, eqb-true}
+use Rattle.yaml_scan.specs.Bytes.{is_white}
+use Rattle.yaml_scan.specs.Lines.{is_passed, ends}
 use Rattle.yaml_scan.specs.Plain.{parts}
 use Rattle.yaml_small.specs.declared.event.Event.TheVariants.{SequenceStart, SequenceEnd, MappingStart, MappingEnd}
 use Rattle.yaml_small.specs.declared.state.Mode.TheVariants.{Open}
 use Rattle.yaml_small.specs.declared.state.Frame.{Frame}
 use Rattle.yaml_small.specs.declared.state.Frame.TheVariants.{InSeq, InPairs}
-use Rattle.yaml_small.specs.Places.{At, past, flow_next, begins, is_end}
+use Rattle.yaml_small.specs.Places.{At, past, over, next_at, flow_next, begins, is_end}
 use Rattle.yaml_small.specs.Scalars.{Word, word_at}
 use Rattle.yaml_small.specs.Grammar.{closes_value, is_flow_colon}
 use Rattle.yaml_small.specs.Step.{inline_at, seq_entry, pairs_entry, flow_fault, flow_value, paired_at, seq_fault, seq_done, pairs_done}
 use Rattle.yaml_small.proofs.Marks.{and_parts}
-use Rattle.yaml_laws.proofs.Along.{is_solid}
-use Rattle.yaml_laws.proofs.Contents.{Instead, place}
-use Rattle.yaml_laws.proofs.Scans.{first_of, same_begins, same_parts, Looks, looks_comma, looks_bracket, looks_brace, looks_colon, near_of}
+use Rattle.yaml_laws.proofs.Along.{if_false, all_of, is_solid}
+use Rattle.yaml_laws.proofs.Contents.{Instead, place, spaced_at}
+use Rattle.yaml_laws.proofs.Scans.{begins_low, first_of, same_begins, same_parts, Looks, looks_comma, looks_bracket, looks_brace, looks_colon, near_of}
 use Rattle.yaml_laws.proofs.Words.{word_place, head_line}
+use Rattle.yaml_laws.proofs.Stops.{told_white}
 use Rattle.yaml_laws.proofs.Tokens.{Token}
 use Rattle.yaml_laws.proofs.Frames.{in_flow, nested, flow_push, pairs_push, nested_push, agree, agrees}
 use Rattle.yaml_laws.proofs.Moves.{Flowing, Moves, moves_err, moves_if, moves_map, reads_from, weaker}
@@ -41,12 +44,12 @@ unfolding inline_at
 inline_flow k depth parent a flow nest =
     moves_if k (Entry a) (λ c. begins 91 c.line) _ _ a
     (λ is.
-    moves_opens depth 91 SequenceStart (λ n. Open) (λ n. InSeq true) k (λ c. Entry a c × (begins 91 c.line ≡ true)) a is nest flow (flow_push false k (InSeq true))
+    moves_opens depth 91 SequenceStart (λ n. Open) (λ n. InSeq true) k (λ c. Entry a c × (begins 91 c.line ≡ true)) a is nest flow (flow_push false k (InSeq true)) (λ flow low. refl)
     (λ d fits. (fits, (entry_at 91 a d.line d.later is refl, refl))))
     (λ no_seq.
     moves_if k (λ c. Entry a c × (begins 91 c.line ≡ false)) (λ c. begins 123 c.line) _ _ a
     (λ is.
-    moves_opens depth 123 MappingStart (λ n. Open) (λ n. InPairs true) k (λ c. (Entry a c × (begins 91 c.line ≡ false)) × (begins 123 c.line ≡ true)) a is nest flow (flow_push false k (InPairs true))
+    moves_opens depth 123 MappingStart (λ n. Open) (λ n. InPairs true) k (λ c. (Entry a c × (begins 91 c.line ≡ false)) × (begins 123 c.line ≡ true)) a is nest flow (flow_push false k (InPairs true)) (λ flow low. refl)
     (λ d fits. (fits, ((entry_at 123 a d.line d.later is refl, refl), refl))))
     (λ no_map.
     moves_word true k (λ c. (Entry a c × (begins 91 c.line ≡ false)) × (begins 123 c.line ≡ false)) a flow nest
@@ -160,6 +163,31 @@ pub moves_pairs_done : (k : List Frame) (inner goes : Bool) (a : At) → in_flow
 moves_pairs_done k inner goes a inside nest =
     moves_token (k ++ (InPairs inner ∷ [])) (Mark true (flow_next a)) (Flowing true a) (pairs_done inner goes) a (moves_pairs_mark k inner goes (flow_next a) inside nest) (λ c mark. mark.instead) (flowing_at true a)
 
+-- A comma or a brace behind white space is low.
+mark_begins : (v r : List ℕ) → all_of is_white v ≡ true → closes_value r ≡ true → begins_low (v ++ r) ≡ true
+mark_begins [] [] all e = refl
+mark_begins [] (c ∷ cs) all e = from (eqb c 44) refl e
+  where
+    from : (b : Bool) → eqb c 44 ≡ b → b || eqb c 125 ≡ true → ltb c 160 ≡ true
+    from true is e = ap (λ (x : ℕ). ltb x 160) (eqb-true c 44 is)
+    from false is e = ap (λ (x : ℕ). ltb x 160) (eqb-true c 125 e)
+mark_begins (c ∷ v) r all e = (told_white c (and_parts (is_white c) (all_of is_white v) all).0).small
+
+ended_begins : (line : List ℕ) → ends line ≡ true → begins_low line ≡ true
+ended_begins [] e = refl
+ended_begins (c ∷ cs) e = (told_white c (and_parts (is_white c) (is_passed (c ∷ cs)) e).0).small
+
+closes_low : (a : At) → closes_value (flow_next a).line ≡ true → begins_low a.line ≡ true
+unfolding flow_next
+closes_low a closes =
+    elim (cases_Bool (ends a.line)) [
+      | inl ended ↦ ended_begins a.line ended
+      | inr more ↦
+          let s = spaced_at a in
+          let here = ap over (if_false (ends a.line) (next_at a.later) a more) in
+          ap begins_low s.line ∙ mark_begins s.front (over a).line s.all (sym (ap (λ (x : At). closes_value x.line) here) ∙ closes)
+    ]
+
 -- behind the colon of a flow map
 record After (a c : At) : Type 0 where
   col : c.col ≡ a.col
@@ -169,7 +197,7 @@ moves_flow_value : (k : List Frame) (depth : ℕ) (a : At) → in_flow false k �
 unfolding flow_value
 moves_flow_value k depth a flow nest =
     moves_if k (After a) (λ c. closes_value (flow_next c).line) _ _ a
-    (λ is. moves_flow_missing k (λ c. After a c × (closes_value (flow_next c).line ≡ true)) a flow nest (λ d like. (record { col = like.col; part = (like.closes is).2 }, (like.closes is).0)))
+    (λ is. moves_flow_missing k (λ c. After a c × (closes_value (flow_next c).line ≡ true)) a flow nest (closes_low a is) (λ d like. (record { col = like.col; part = (like.closes is).2 }, (like.closes is).0)))
     (λ none. moves_token k (Entry (flow_next a)) (λ c. After a c × (closes_value (flow_next c).line ≡ false)) (inline_at true depth None) a (inline_flow k depth None (flow_next a) flow nest) (λ c entry. entry.instead)
     (λ c t entry. (
       record { col = t.col; part = same_parts true t.at.line a.line (t.first entry.first) },
@@ -220,6 +248,6 @@ moves_paired k depth quoted goes a flow nest =
     (λ c mark. mark.0.instead)
     (λ c t mark. (flowing_at (not quoted) a c t mark.0, ap (λ (x : At). is_flow_colon quoted x.line) t.to ∙ mark.1)))
     (λ none. moves_if k (λ c. Flowing (not quoted) a c × (is_flow_colon quoted (flow_next c).line ≡ false)) (λ c. closes_value (flow_next c).line) _ _ a
-    (λ is. moves_flow_missing k (λ c. (Flowing (not quoted) a c × (is_flow_colon quoted (flow_next c).line ≡ false)) × (closes_value (flow_next c).line ≡ true)) a flow nest
+    (λ is. moves_flow_missing k (λ c. (Flowing (not quoted) a c × (is_flow_colon quoted (flow_next c).line ≡ false)) × (closes_value (flow_next c).line ≡ true)) a flow nest (closes_low a is)
     (λ d like. ((weaker (not quoted) a d like, (like.closes is).1 quoted), (like.closes is).0)))
     (λ bad. moves_err k _ (λ c. flow_fault goes (flow_next c)) a))

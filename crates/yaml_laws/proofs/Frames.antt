@@ -1,5 +1,5 @@
 -- How open lists and maps lie in one another.
-use Rattle.std.proofs.Common.{◌≡◌, ◌⊎◌, List, [], ◌∷◌, ◌++◌, Bool, true, false, not, ◌&&◌, refl, ap, inl, inr}
+use Rattle.std.proofs.Common.{◌≡◌, ◌⊎◌, List, [], ◌∷◌, ◌++◌, Bool, true, false, not, ◌&&◌, refl, sym, ap, ◌∙◌, inl, inr}
 use Rattle.yaml_small.specs.declared.state.Frame.{Frame}
 use Rattle.yaml_small.specs.declared.state.Frame.TheVariants.{InList, InMap, InSeq, InPairs}
 use Rattle.yaml_small.proofs.Marks.{and_parts}
@@ -84,3 +84,19 @@ innermost (x ∷ k) =
       | inl none ↦ record { either = inr ([], (x, ap (λ (l : List Frame). x ∷ l) none)) }
       | inr (j, (f, is)) ↦ record { either = inr (x ∷ j, (f, ap (λ (l : List Frame). x ∷ l) is)) }
     ]
+
+pub pairs_flow : (k : List Frame) → in_pairs false k ≡ true → in_flow false k ≡ true
+pairs_flow k e =
+    elim ((innermost k).either) [
+      | inl none ↦ absurd (off (sym (ap (in_pairs false) none) ∙ e))
+      | inr (j, (f, is)) ↦ ap (in_flow false) is ∙ flow_push false j f ∙ flows f (sym (pairs_push false j f) ∙ sym (ap (in_pairs false) is) ∙ e)
+    ]
+  where
+    off : false ≡ true → ⊥
+    off e = absurd cc
+
+    flows : (f : Frame) → is_pairs f ≡ true → is_flow f ≡ true
+    flows (InList col) e = absurd cc
+    flows (InMap col) e = absurd cc
+    flows (InSeq inner) e = absurd cc
+    flows (InPairs inner) e = refl

@@ -1,7 +1,8 @@
 -- Single steps to a place where something else stands: scalars, and the starts and ends of lists and maps.
-use Rattle.std.proofs.Common.{not, ◌≡◌, ℕ, ◌+◌, List, [], ◌∷◌, ◌++◌, drop, Bool, true, false, cond, ltb, Option, Ok, refl, sym, ap, ◌∙◌, subst, inl, inr}
+use Rattle.std.proofs.Common.{not, ◌≡◌, ℕ, ◌+◌, ◌⊎◌, ◌&&◌, List, [], ◌∷◌, ◌++◌, drop, Bool, true, false, cond, ltb, Option, Ok, refl, sym, ap, ◌∙◌, subst, inl, inr, append-nil}
 use Rattle.std.proofs.lemmas.Bool.{cases_Bool, eqb-true}
 use Rattle.warg_base.specs.Reading.{◌>>=◌}
+use Rattle.yaml_scan.specs.Bytes.{is_white}
 use Rattle.yaml_scan.specs.Lines.{ends}
 use Rattle.yaml_small.specs.declared.event.Event.{Event}
 use Rattle.yaml_small.specs.declared.state.Mode.{Mode}
@@ -10,20 +11,22 @@ use Rattle.yaml_small.specs.declared.state.Frame.{Frame}
 use Rattle.yaml_small.specs.declared.state.Frame.TheVariants.{InMap}
 use Rattle.yaml_small.specs.Trees.{scalar_event}
 use Rattle.yaml_small.specs.Places.{At, past, over, next_at, begins}
-use Rattle.yaml_small.specs.Scalars.{TooDeep, Word, word_at, block_at, key_at, goes_on}
+use Rattle.yaml_small.specs.Scalars.{TooDeep, Word, word_at, block_at, key_at, is_key, goes_on}
 use Rattle.yaml_small.specs.Grammar.{is_quoted}
 use Rattle.yaml_small.specs.Step.{Go, go, opened, settled, word_go, block_go, missing_go, key_go, flow_key, closed, block_end}
 use Rattle.yaml_small.specs.Stream.{changed}
-use Rattle.yaml_small.proofs.Grows.{SameMode}
+use Rattle.yaml_small.proofs.Grows.{the_end, SameMode}
 use Rattle.yaml_small.proofs.Runs.{popped}
-use Rattle.yaml_laws.proofs.Along.{if_true, if_false, Along, stays, ahead, further}
-use Rattle.yaml_laws.proofs.Contents.{place, next_below}
-use Rattle.yaml_laws.proofs.Scans.{first_of, looks_same, Near, near_of}
-use Rattle.yaml_laws.proofs.Words.{WordReads, word_reads, key_reads, key_gap}
+use Rattle.yaml_small.proofs.Marks.{and_parts, both}
+use Rattle.yaml_laws.proofs.Along.{not_true, if_true, if_false, Along, stays, ahead, further, all_of, white_ends}
+use Rattle.yaml_laws.proofs.Contents.{place, spaced_at, tab_if, end_behind, comma_behind, next_end, next_below}
+use Rattle.yaml_laws.proofs.Scans.{begins_low, first_of, looks_same, Near, near_of}
+use Rattle.yaml_laws.proofs.Words.{WordReads, word_reads, key_reads, key_gap, same_key}
+use Rattle.yaml_laws.proofs.WordEnds.{word_halts, halts_no_key, word_commas}
 use Rattle.yaml_laws.proofs.Blocks.{Next, ready, block_moves}
 use Rattle.yaml_laws.proofs.Tokens.{ended_free}
-use Rattle.yaml_laws.proofs.Frames.{is_flow, sits, in_flow, in_pairs, nested, flow_push, nested_push}
-use Rattle.yaml_laws.proofs.Moves.{Keyed, Flowing, Fits, Fine, Suits, Moves, moves_err, moves_if, moves_ok, ReadBack, moves_read}
+use Rattle.yaml_laws.proofs.Frames.{is_flow, sits, in_flow, in_pairs, nested, flow_push, nested_push, pairs_flow}
+use Rattle.yaml_laws.proofs.Moves.{Keyed, Flowing, Fits, Fine, Suits, Moves, moves_err, moves_if, is_tied, tied, Lasts, EndBack, moves_ok, ReadBack, ReadEndBack, moves_read}
 
 -- behind a node, in a flow or not
 pub done_out : (flow g : Bool) (a d : At) → flow ≡ false → Fits flow (Done g) a d → Next a d
@@ -78,15 +81,45 @@ land false g e h a d fl is fits =
       | inr more ↦ absurd (subst (λ (x : Go). Fits fl x.mode x.at d) (if_false (ends a.line) (go e (next_at a.later) (Done g) h.change) (go e (over a) Stray h.change) more) fits)
     ]
 
-settled_fine : (k : List Frame) (flow g : Bool) (e : Event) (h : Go) (a : At) → nested false (changed h.change k) ≡ true → Fine (settled flow g e h.change a).mode (changed (settled flow g e h.change a).change k) (settled flow g e h.change a).at
+pub untied : {P : Type 0} (flow low : Bool) → flow ≡ false → flow && not low ≡ true → P
+untied true low out tie = absurd cc
+untied false low out tie = absurd cc
+
+high_there : (flow low : Bool) → flow && not low ≡ true → low ≡ false
+high_there flow low tie = not_true low (and_parts flow (not low) tie).1
+
+-- before a high byte in a flow, or where more stood on the line outside flows
+settled_tied : (k : List Frame) (flow g : Bool) (e : Event) (h : Go) (a : At) → in_flow false (changed (settled flow g e h.change a).change k) ≡ flow → tied k (settled flow g e h.change a) ≡ true
+    → ((flow ≡ true) × ((settled flow g e h.change a).mode ≡ Done g) × ((settled flow g e h.change a).at ≡ a) × (begins_low a.line ≡ false)) ⊎ ((flow ≡ false) × ((settled flow g e h.change a).at ≡ over a))
 unfolding settled
-settled_fine k true g e h a nest = record { nest = nest; suits = tt }
-settled_fine k false g e h a nest = from (ends a.line)
+settled_tied k true g e h a inside tie = inl (refl, refl, refl, high_there (in_flow false (changed h.change k)) (begins_low a.line) tie)
+settled_tied k false g e h a inside tie = from (ends a.line) inside tie
+  where
+    from : (b : Bool) → in_flow false (changed (cond b (go e (next_at a.later) (Done g) h.change) (go e (over a) Stray h.change)).change k) ≡ false → tied k (cond b (go e (next_at a.later) (Done g) h.change) (go e (over a) Stray h.change)) ≡ true
+        → ((false ≡ true) × ((cond b (go e (next_at a.later) (Done g) h.change) (go e (over a) Stray h.change)).mode ≡ Done g) × ((cond b (go e (next_at a.later) (Done g) h.change) (go e (over a) Stray h.change)).at ≡ a) × (begins_low a.line ≡ false))
+        ⊎ ((false ≡ false) × ((cond b (go e (next_at a.later) (Done g) h.change) (go e (over a) Stray h.change)).at ≡ over a))
+    from true inside tie = untied (in_flow false (changed h.change k)) (begins_low (next_at a.later).line) inside tie
+    from false inside tie = inr (refl, refl)
+
+settled_flow : (g : Bool) (e : Event) (h : Go) (a : At) → settled true g e h.change a ≡ go e a (Done g) h.change
+unfolding settled
+settled_flow g e h a = refl
+
+-- behind a node with white space alone
+settled_blank : (g : Bool) (e : Event) (h : Go) (a : At) → all_of is_white a.line ≡ true → a.later ≡ [] → settled false g e h.change a ≡ go e the_end (Done g) h.change
+unfolding settled
+settled_blank g e h a all last =
+    if_true (ends a.line) (go e (next_at a.later) (Done g) h.change) (go e (over a) Stray h.change) (white_ends a.line all) ∙ ap (λ (x : At). go e x (Done g) h.change) (ap next_at last ∙ next_end)
+
+settled_fine : (k : List Frame) (flow g : Bool) (e : Event) (h : Go) (a : At) → nested false (changed h.change k) ≡ true → in_flow false (changed h.change k) ≡ flow → Fine (settled flow g e h.change a).mode (changed (settled flow g e h.change a).change k) (settled flow g e h.change a).at
+unfolding settled
+settled_fine k true g e h a nest inside = record { nest = nest; suits = tt }
+settled_fine k false g e h a nest inside = from (ends a.line)
   where
     from : (b : Bool) → Fine (cond b (go e (next_at a.later) (Done g) h.change) (go e (over a) Stray h.change)).mode (changed (cond b (go e (next_at a.later) (Done g) h.change) (go e (over a) Stray h.change)).change k)
         (cond b (go e (next_at a.later) (Done g) h.change) (go e (over a) Stray h.change)).at
     from true = record { nest = nest; suits = tt }
-    from false = record { nest = nest; suits = tt }
+    from false = record { nest = nest; suits = inside }
 
 -- the same change of what is open
 pub settled_change : (k : List Frame) (flow g : Bool) (e : Event) (h : Go) (a : At) → changed (settled flow g e h.change a).change k ≡ changed h.change k
@@ -124,9 +157,9 @@ reads_of false a w c e like =
 
 -- a plain or quoted scalar
 pub moves_word : (fl : Bool) (k : List Frame) (P : At → Type 0) (a : At) → in_flow false k ≡ fl → nested false k ≡ true
-    → ((w v : Word) (c : At) → word_at fl a ≡ Ok w → word_at fl c ≡ Ok v → c.col ≡ a.col → first_of c.line ≡ first_of a.line → (fl ≡ false → c.line ≡ a.line) → P c)
+    → ((w v : Word) (c : At) → word_at fl a ≡ Ok w → word_at fl c ≡ Ok v → c.col ≡ a.col → first_of c.line ≡ first_of a.line → (fl ≡ false → is_key a ≡ false → is_key c ≡ false) → P c)
     → Moves k P (λ c. word_at fl c >>= λ w. Ok (word_go fl w)) a
-moves_word fl k P a flow nest like = moves_read k P (word_at fl) (λ c w. word_go fl w) a back (λ w is. settled_fine k fl (goes_on w.scalar.style w.end) (scalar_event w.scalar) (missing_go a) w.end nest)
+moves_word fl k P a flow nest like = moves_read k P (word_at fl) (λ c w. word_go fl w) a back end_back (λ w is. settled_fine k fl (goes_on w.scalar.style w.end) (scalar_event w.scalar) (missing_go a) w.end nest flow)
   where
     landed : (w : Word) (d : At) → Fits (in_flow false (changed (word_go fl w).change k)) (word_go fl w).mode (word_go fl w).at d → Landing fl w.end (scalar_event w.scalar) (goes_on w.scalar.style w.end) (missing_go a) d
     landed w d fits =
@@ -143,12 +176,68 @@ moves_word fl k P a flow nest like = moves_read k P (word_at fl) (λ c w. word_g
           at = r.at;
           word = v;
           read_it = r.is;
-          like = like w v r.at is r.is r.col r.first (λ out. r.whole (line_of fl w.end l.at l.like out));
+          like = like w v r.at is r.is r.col r.first (λ out. same_key a r.at (r.whole (line_of fl w.end l.at l.like out)) r.col);
           along = further a w.end r.at l.at (word_go fl w).at d r.along l.along;
           mode = n.0;
           same = n.1.0;
           is = n.1.1 ∙ settled_keeps fl (goes_on w.scalar.style w.end) (scalar_event w.scalar) (missing_go a) w.end d n.0;
         }
+
+    -- before a high byte in a flow
+    comma : (w : Word) (rest : List ℕ) → word_at fl a ≡ Ok w → in_flow false (changed (word_go fl w).change k) ≡ fl → fl ≡ true → (word_go fl w).mode ≡ Done (goes_on w.scalar.style w.end) → (word_go fl w).at ≡ w.end → begins_low w.end.line ≡ false
+        → ReadEndBack k P (word_at fl) (λ c w. word_go fl w) a w rest
+    comma w rest is inside within mode at high =
+        let h = word_commas a w rest (ap (λ (b : Bool). word_at b a) (sym within) ∙ is) high in
+        let end = comma_behind h.tab w.end.col rest in
+        let v : Word = record { scalar = w.scalar; end = end } in
+        let goes = goes_on w.scalar.style end in
+        let read = ap (λ (b : Bool). word_at b h.reads.at) within ∙ h.reads.is in
+        record {
+          at = h.reads.at;
+          word = v;
+          read_it = read;
+          like = like w v h.reads.at is read h.reads.col h.reads.first (λ out before. absurd (both fl within out));
+          there = end;
+          along = subst (λ (x : At). Along a x h.reads.at end) (sym at) h.reads.along;
+          to = end;
+          mode = Done goes;
+          comes = subst (λ (b : Bool). Lasts b (word_go fl w).mode rest end end (Done goes)) (sym (inside ∙ within))
+              ((h.tab, (w.end.col, refl)), refl, subst (λ (m : Mode). SameMode m (Done goes)) (sym mode) (done_same (goes_on w.scalar.style w.end) goes));
+          is = ap (λ (b : Bool). settled b goes (scalar_event w.scalar) (missing_go a).change end) within ∙ settled_flow goes (scalar_event w.scalar) (missing_go a) end
+              ∙ settled_keeps fl (goes_on w.scalar.style w.end) (scalar_event w.scalar) (missing_go a) w.end end (Done goes);
+        }
+
+    -- with nothing more on the line outside flows
+    halt : (w : Word) (rest : List ℕ) → word_at fl a ≡ Ok w → in_flow false (changed (word_go fl w).change k) ≡ fl → fl ≡ false → (word_go fl w).at ≡ over w.end → ReadEndBack k P (word_at fl) (λ c w. word_go fl w) a w rest
+    halt w rest is inside out at =
+        let h = word_halts a w (ap (λ (b : Bool). word_at b a) (sym out) ∙ is) in
+        let end = place w.end.col (h.front ++ tab_if h.tab) [] in
+        let v : Word = record { scalar = w.scalar; end = end } in
+        let goes = goes_on w.scalar.style end in
+        let read = ap (λ (b : Bool). word_at b h.reads.at) out ∙ h.reads.is in
+        record {
+          at = h.reads.at;
+          word = v;
+          read_it = read;
+          like = like w v h.reads.at is read h.reads.col h.reads.first (λ none before. halts_no_key h.reads.at v h.reads.is h.white);
+          there = end_behind h.tab;
+          along = subst (λ (x : At). Along a x h.reads.at (end_behind h.tab)) (sym at)
+              (further a w.end h.reads.at end (over w.end) (end_behind h.tab) h.reads.along (ahead h.front w.end (over w.end) end (end_behind h.tab) h.line h.later refl refl));
+          to = the_end;
+          mode = Done goes;
+          comes = subst (λ (b : Bool). Lasts b (word_go fl w).mode rest (end_behind h.tab) the_end (Done goes)) (sym (inside ∙ out)) ((h.tab, refl), refl, (goes, refl));
+          is = ap (λ (b : Bool). settled b goes (scalar_event w.scalar) (missing_go a).change end) out ∙ settled_blank goes (scalar_event w.scalar) (missing_go a) end h.white refl
+              ∙ settled_keeps fl (goes_on w.scalar.style w.end) (scalar_event w.scalar) (missing_go a) w.end the_end (Done goes);
+        }
+
+    end_back : (w : Word) → word_at fl a ≡ Ok w → (rest : List ℕ) → tied k (word_go fl w) ≡ true → ReadEndBack k P (word_at fl) (λ c w. word_go fl w) a w rest
+    end_back w is rest tie =
+        let g = goes_on w.scalar.style w.end in
+        let inside = ap (in_flow false) (settled_change k fl g (scalar_event w.scalar) (missing_go a) w.end) ∙ flow in
+        elim (settled_tied k fl g (scalar_event w.scalar) (missing_go a) w.end inside tie) [
+          | inl (within, mode, at, high) ↦ comma w rest is inside within mode at high
+          | inr (out, at) ↦ halt w rest is inside out at
+        ]
 
 pub same_mode : (m : Mode) → SameMode m m
 same_mode m = inl refl
@@ -169,18 +258,18 @@ moves_block k parent P a flow nest like = moves_read k P (block_at parent) (λ c
       same = same_mode (Done false);
       is = refl;
     })
-    (λ w is. record { nest = nest; suits = tt })
+    (λ w is rest tie. untied (in_flow false k) (begins_low w.end.line) flow tie) (λ w is. record { nest = nest; suits = tt })
 
 -- a missing node, outside a flow and in one
 pub moves_missing : (k : List Frame) (P : At → Type 0) (a : At) → in_flow false k ≡ false → nested false k ≡ true → ((d : At) → Next a d → P d) → Moves k P (λ c. Ok (missing_go c)) a
 moves_missing k P a flow nest like = moves_ok k P missing_go a
     (λ d fits. record { at = d; like = like d (done_out (in_flow false k) false a d flow fits); along = stays a d; mode = Done false; same = same_mode (Done false); is = refl })
-    (record { nest = nest; suits = tt })
+    (λ rest tie. untied (in_flow false k) (begins_low a.line) flow tie) (record { nest = nest; suits = tt })
 
-pub moves_flow_missing : (k : List Frame) (P : At → Type 0) (a : At) → in_flow false k ≡ true → nested false k ≡ true → ((d : At) → Flowing true a d → P d) → Moves k P (λ c. Ok (missing_go c)) a
-moves_flow_missing k P a flow nest like = moves_ok k P missing_go a
+pub moves_flow_missing : (k : List Frame) (P : At → Type 0) (a : At) → in_flow false k ≡ true → nested false k ≡ true → begins_low a.line ≡ true → ((d : At) → Flowing true a d → P d) → Moves k P (λ c. Ok (missing_go c)) a
+moves_flow_missing k P a flow nest low like = moves_ok k P missing_go a
     (λ d fits. record { at = d; like = like d (done_in (in_flow false k) false a d flow fits); along = stays a d; mode = Done false; same = same_mode (Done false); is = refl })
-    (record { nest = nest; suits = tt })
+    (λ rest tie. absurd (both (begins_low a.line) low (high_there (in_flow false k) (begins_low a.line) tie))) (record { nest = nest; suits = tt })
 
 pub head_byte : (x : ℕ) (line : List ℕ) → begins x line ≡ true → line ≡ (x ∷ []) ++ drop 1 line
 head_byte x [] e = absurd cc
@@ -188,10 +277,10 @@ head_byte x (c ∷ cs) e = ap (λ (n : ℕ). n ∷ cs) (eqb-true c x e)
 
 -- a list or map that opens at a byte, and goes on behind it
 pub moves_opens : (depth x : ℕ) (e : Event) (m : ℕ → Mode) (f : ℕ → Frame) (k : List Frame) (P : At → Type 0) (a : At) → begins x a.line ≡ true → nested false k ≡ true → sits (in_flow false k) (f a.col) ≡ true
-    → Suits (m a.col) (k ++ (f a.col ∷ [])) (past 1 a)
+    → Suits (m a.col) (k ++ (f a.col ∷ [])) (past 1 a) → ((flow low : Bool) → is_tied (m a.col) flow low ≡ false)
     → ((d : At) → Fits (is_flow (f a.col)) (m a.col) (past 1 a) d → (d.col ≡ a.col + 1) × P (place a.col (x ∷ d.line) d.later)) → Moves k P (λ c. opened depth e (past 1 c) (m c.col) (f c.col)) a
 unfolding opened
-moves_opens depth x e m f k P a here nest sit suit fit =
+moves_opens depth x e m f k P a here nest sit suit free fit =
     moves_if k P (λ c. ltb depth 64) _ _ a
     (λ room. moves_ok k (λ c. P c × (ltb depth 64 ≡ true)) _ a
     (λ d fits.
@@ -205,7 +294,7 @@ moves_opens depth x e m f k P a here nest sit suit fit =
       same = same_mode (m a.col);
       is = rw (← h.0) refl;
     })
-    (record { nest = nested_push false k (f a.col) nest sit; suits = suit }))
+    (λ rest tie. absurd (both (is_tied (m a.col) (in_flow false (k ++ (f a.col ∷ []))) (begins_low (past 1 a).line)) tie (free (in_flow false (k ++ (f a.col ∷ []))) (begins_low (past 1 a).line)))) (record { nest = nested_push false k (f a.col) nest sit; suits = suit }))
     (λ full. moves_err k (λ c. P c × (ltb depth 64 ≡ false)) (λ c. TooDeep) a)
 
 -- a block map opens at its first key
@@ -223,7 +312,7 @@ moves_map_opens depth e k P a nest flow like =
       same = same_mode Key;
       is = rw fits.col refl;
     })
-    (record { nest = nested_push false k (InMap a.col) nest (rw flow refl); suits = flow_push false k (InMap a.col) }))
+    (λ rest tie. absurd cc) (record { nest = nested_push false k (InMap a.col) nest (rw flow refl); suits = flow_push false k (InMap a.col) }))
     (λ full. moves_err k (λ c. P c × (ltb depth 64 ≡ false)) (λ c. TooDeep) a)
 
 -- a key of a block map
@@ -242,7 +331,7 @@ moves_key k P a flow nest like = moves_read k P key_at (λ c w. key_go c.col w) 
       same = same_mode (Value a.col);
       is = ap (λ (n : ℕ). key_go n (record { scalar = w.scalar; end = d })) r.col;
     })
-    (λ w is. record { nest = nest; suits = flow })
+    (λ w is rest tie. absurd cc) (λ w is. record { nest = nest; suits = flow })
 
 -- a key of a flow map
 pub moves_flow_key : (k : List Frame) (P : At → Type 0) (a : At) → in_pairs false k ≡ true → nested false k ≡ true
@@ -263,8 +352,28 @@ moves_flow_key k P a pairs nest like = moves_read k P (word_at true) (λ c w. fl
       same = inr (inr (q, (g, (h, (refl, refl)))));
       is = refl;
     })
-    (λ w is. record { nest = nest; suits = pairs })
+    end_back (λ w is. record { nest = nest; suits = pairs })
   where
+    end_back : (w : Word) → word_at true a ≡ Ok w → (rest : List ℕ) → tied k (flow_key w) ≡ true → ReadEndBack k P (word_at true) (λ c w. flow_key w) a w rest
+    end_back w is rest tie =
+        let h = word_commas a w rest is (not_true (begins_low w.end.line) tie) in
+        let end = comma_behind h.tab w.end.col rest in
+        let q = is_quoted w.scalar in
+        let g = goes_on w.scalar.style w.end in
+        let n = goes_on w.scalar.style end in
+        record {
+          at = h.reads.at;
+          word = record { scalar = w.scalar; end = end };
+          read_it = h.reads.is;
+          like = like w (record { scalar = w.scalar; end = end }) h.reads.at is h.reads.is h.reads.col h.reads.first;
+          there = end;
+          along = h.reads.along;
+          to = end;
+          mode = Paired q n;
+          comes = subst (λ (b : Bool). Lasts b (Paired q g) rest end end (Paired q n)) (sym (pairs_flow k pairs)) ((h.tab, (w.end.col, refl)), refl, inr (inr (q, (g, (n, (refl, refl))))));
+          is = refl;
+        }
+
     quoted : (q : Bool) → not q ≡ false → q ≡ true
     quoted true e = refl
     quoted false e = absurd cc
@@ -290,4 +399,48 @@ moves_closes x e inner k f P a here nest inside like =
           ap (λ (m : ℕ). settled inner false e h.change (place m l.at.line l.at.later)) (sym (col_of inner (past 1 a) l.at l.like))
           ∙ n.1.1 ∙ settled_keeps inner false e h (past 1 a) d n.0;
     })
-    (settled_fine (k ++ (f ∷ [])) inner false e (block_end e a) (past 1 a) (ap (nested false) (popped k f) ∙ nest))
+    end_back (settled_fine (k ++ (f ∷ [])) inner false e (block_end e a) (past 1 a) (ap (nested false) (popped k f) ∙ nest) (ap (in_flow false) (popped k f) ∙ inside))
+  where
+    comma : (rest : List ℕ) → in_flow false (changed (closed e inner a).change (k ++ (f ∷ []))) ≡ inner → inner ≡ true → (closed e inner a).mode ≡ Done false → (closed e inner a).at ≡ past 1 a → EndBack (k ++ (f ∷ [])) P (λ c. closed e inner c) a rest
+    comma rest behind within mode at =
+        let h = block_end e a in
+        let b = comma_behind true (a.col + 1) rest in
+        let c = place a.col (x ∷ b.line) [] in
+        record {
+          at = c;
+          like = like b;
+          there = b;
+          along = subst (λ (y : At). Along a y c b) (sym at) (ahead (x ∷ []) a (past 1 a) c b (head_byte x a.line here) refl refl refl);
+          to = b;
+          mode = Done false;
+          comes = subst (λ (y : Bool). Lasts y (closed e inner a).mode rest b b (Done false)) (sym (behind ∙ within)) ((true, (a.col + 1, refl)), refl, subst (λ (m : Mode). SameMode m (Done false)) (sym mode) (same_mode (Done false)));
+          is = ap (λ (y : Bool). settled y false e h.change b) within ∙ settled_flow false e h b ∙ settled_keeps inner false e h (past 1 a) b (Done false);
+        }
+
+    halt : (rest : List ℕ) → in_flow false (changed (closed e inner a).change (k ++ (f ∷ []))) ≡ inner → inner ≡ false → (closed e inner a).at ≡ over (past 1 a) → EndBack (k ++ (f ∷ [])) P (λ c. closed e inner c) a rest
+    halt rest behind out at =
+        let h = block_end e a in
+        let p = spaced_at (past 1 a) in
+        let b = place (a.col + 1) p.front [] in
+        let c = place a.col (x ∷ p.front) [] in
+        record {
+          at = c;
+          like = like b;
+          there = the_end;
+          along = subst (λ (y : At). Along a y c the_end) (sym at)
+              (further a (past 1 a) c b (over (past 1 a)) the_end (ahead (x ∷ []) a (past 1 a) c b (head_byte x a.line here) refl refl refl)
+              (ahead p.front (past 1 a) (over (past 1 a)) b the_end p.line (sym p.later) (sym (append-nil p.front)) refl));
+          to = the_end;
+          mode = Done false;
+          comes = subst (λ (y : Bool). Lasts y (closed e inner a).mode rest the_end the_end (Done false)) (sym (behind ∙ out)) ((false, refl), refl, (false, refl));
+          is = ap (λ (y : Bool). settled y false e h.change b) out ∙ settled_blank false e h b p.all refl ∙ settled_keeps inner false e h (past 1 a) the_end (Done false);
+        }
+
+    end_back : (rest : List ℕ) → tied (k ++ (f ∷ [])) (closed e inner a) ≡ true → EndBack (k ++ (f ∷ [])) P (λ c. closed e inner c) a rest
+    end_back rest tie =
+        let h = block_end e a in
+        let behind = ap (in_flow false) (settled_change (k ++ (f ∷ [])) inner false e h (past 1 a) ∙ popped k f) ∙ inside in
+        elim (settled_tied (k ++ (f ∷ [])) inner false e h (past 1 a) behind tie) [
+          | inl (within, mode, at, high) ↦ comma rest behind within mode at
+          | inr (out, at) ↦ halt rest behind out at
+        ]

@@ -3,6 +3,8 @@ pub mod Contents
 pub mod Scans
 pub mod Words
 pub mod Blocks
+pub mod Stops
+pub mod WordEnds
 pub mod Tokens
 pub mod Frames
 pub mod Moves
@@ -16,7 +18,6 @@ pub mod Endings
 pub mod Blanks
 pub mod Texts
 pub mod OpenEnds
-pub mod Stops
 pub mod Firm
 pub mod Completions
 pub mod Cuts

@@ -1,22 +1,17 @@
 -- Where the text ends within a flow, closing brackets may follow on one line more.
-use Rattle.std.proofs.Common.{◌≡◌, ℕ, ◌+◌, List, [], ◌∷◌, ◌++◌, length, Bool, true, ◌&&◌, refl, sym, ap, ◌∙◌, inl, inr}
+use Rattle.std.proofs.Common.{◌≡◌, ℕ, ◌+◌, List, [], ◌∷◌, ◌++◌, length, true, refl, sym, ap, ◌∙◌, inl, inr, append-nil}
 use Rattle.std.proofs.lemmas.Bool.{cases_Bool}
 use Rattle.yaml_scan.specs.Bytes.{is_white}
 use Rattle.yaml_scan.specs.Lines.{is_passed, ends}
 use Rattle.yaml_small.specs.Places.{At, over, next_at, flow_next, is_end}
-use Rattle.yaml_small.proofs.Marks.{and_parts, both}
-use Rattle.yaml_laws.proofs.Along.{if_true, if_false, all_of, parted, is_solid, solid_white, solid_over, passes, gone_over}
+use Rattle.yaml_small.proofs.Marks.{both}
+use Rattle.yaml_laws.proofs.Along.{if_true, if_false, parted, is_solid, solid_white, solid_over, passes, white_ends, gone_over}
 use Rattle.yaml_laws.proofs.Contents.{place}
 use Rattle.yaml_laws.proofs.Tokens.{token_of, token_stands, token_passed}
-use Rattle.yaml_laws.proofs.Texts.{no_feed, no_feeds}
 
 no_rest : (a : At) (line : List ℕ) → a.line ≡ line → is_end a ≡ true → line ≡ []
 no_rest a [] is end = refl
 no_rest a (c ∷ cs) is end = absurd (both (is_end a) end (ap (λ (l : List ℕ). is_end (place 0 l [])) is))
-
-white_ends : (v : List ℕ) → all_of is_white v ≡ true → ends (v ++ []) ≡ true
-white_ends [] all = refl
-white_ends (c ∷ v) all = ap (λ (b : Bool). b && is_passed (c ∷ (v ++ []))) (and_parts (is_white c) (all_of is_white v) all).0 ∙ passes (c ∷ v) [] all refl
 
 -- a line more behind lines without a token
 token_more : (lines : List (List ℕ)) (r : List ℕ) → is_end (token_of lines) ≡ true → is_solid r ≡ true → token_of (lines ++ (r ∷ [])) ≡ place 0 r []
@@ -43,7 +38,7 @@ line_over a end =
           let here : flow_next a ≡ place (a.col + length p.front) p.rest a.later =
           ap over (if_false (ends a.line) (next_at a.later) a more) ∙ ap (λ (l : List ℕ). over (place a.col l a.later)) p.is ∙ gone_over a.col p.front p.rest a.later p.all p.stop in
           let none = no_rest (flow_next a) p.rest (ap (λ (x : At). x.line) here) end in
-          ap ends (p.is ∙ ap (λ (x : List ℕ). p.front ++ x) none) ∙ white_ends p.front p.all
+          ap ends (p.is ∙ ap (λ (x : List ℕ). p.front ++ x) none ∙ append-nil p.front) ∙ white_ends p.front p.all
     ]
 
 -- the place with a line more
@@ -56,13 +51,3 @@ next_more a r end solid =
     let ended = line_over a end in
     let none : is_end (token_of a.later) ≡ true = sym (ap (λ (x : At). is_end (over x)) (if_true (ends a.line) (next_at a.later) a ended)) ∙ end in
     ap over (if_true (ends a.line) (next_at (a.later ++ (r ∷ []))) (with_line r a) ended) ∙ token_more a.later r none solid
-
-pub no_token : (a : At) → is_end a ≡ true → a.line ≡ []
-no_token a end = no_rest a a.line refl end
-
-feeds_more : (lines : List (List ℕ)) (r : List ℕ) → no_feeds lines ≡ true → no_feed r ≡ true → no_feeds (lines ++ (r ∷ [])) ≡ true
-feeds_more [] r clean new = rw new refl
-feeds_more (l ∷ ls) r clean new = let p = and_parts (no_feed l) (no_feeds ls) clean in rw p.0 (feeds_more ls r p.1 new)
-
-pub tidy_more : (a : At) (r : List ℕ) → no_feed r ≡ true → no_feeds (a.line ∷ a.later) ≡ true → no_feeds ((with_line r a).line ∷ (with_line r a).later) ≡ true
-tidy_more a r new clean = feeds_more (a.line ∷ a.later) r clean new

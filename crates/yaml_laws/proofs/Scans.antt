@@ -23,6 +23,11 @@ abbrev pub low : List ℕ → Bool
 low [] = true
 low (c ∷ cs) = is_low c
 
+-- no byte above those of ASCII and of the control characters behind it begins the line
+abbrev pub begins_low : List ℕ → Bool
+begins_low [] = true
+begins_low (c ∷ cs) = ltb c 160
+
 pub white_low : (c : ℕ) → is_white c ≡ true → is_low c ≡ true
 white_low c e = from (eqb c 32) refl e
   where
@@ -84,19 +89,22 @@ pub record Looks (flow : Bool) (r t : List ℕ) : Type 0 where
 pub looks_same : (flow : Bool) (r : List ℕ) → Looks flow r r
 looks_same flow r = record { plain = λ white. refl; control = λ c. refl; part = refl; begun = refl; first = refl; dashes = λ u. refl; dots = λ u. refl }
 
--- the same, but for how the rests begin
-pub record Near (flow : Bool) (r t : List ℕ) : Type 0 where
+-- the same, but for how the rests begin: behind one byte, and behind each
+pub record NearTo (flow : Bool) (c : ℕ) (r t : List ℕ) : Type 0 where
   pub plain : (white : Bool) → plain_len flow white t ≡ plain_len flow white r
-  pub control : (c : ℕ) → is_control (c ∷ t) ≡ is_control (c ∷ r)
+  pub control : is_control (c ∷ t) ≡ is_control (c ∷ r)
   pub part : parts flow t ≡ parts flow r
   pub dashes : (u : List ℕ) → is_dashes (u ++ t) ≡ is_dashes (u ++ r)
   pub dots : (u : List ℕ) → is_dots (u ++ t) ≡ is_dots (u ++ r)
 
-pub near_of : (flow : Bool) (r t : List ℕ) → Looks flow r t → Near flow r t
-near_of flow r t l = record { plain = l.plain; control = l.control; part = l.part; dashes = l.dashes; dots = l.dots }
+abbrev pub Near : Bool → List ℕ → List ℕ → Type 0
+Near flow r t = (c : ℕ) → NearTo flow c r t
 
-plain_behind : (flow white : Bool) (c : ℕ) (r t : List ℕ) → Near flow r t → plain_len flow white (c ∷ t) ≡ plain_len flow white (c ∷ r)
-plain_behind flow white c r t l = rw (l.part, l.control c, l.plain (is_white c)) refl
+pub near_of : (flow : Bool) (r t : List ℕ) → Looks flow r t → Near flow r t
+near_of flow r t l = λ c. record { plain = l.plain; control = l.control c; part = l.part; dashes = l.dashes; dots = l.dots }
+
+plain_behind : (flow white : Bool) (c : ℕ) (r t : List ℕ) → NearTo flow c r t → plain_len flow white (c ∷ t) ≡ plain_len flow white (c ∷ r)
+plain_behind flow white c r t l = rw (l.part, l.control, l.plain (is_white c)) refl
 
 control_behind : (c d : ℕ) (r t : List ℕ) → is_control (c ∷ d ∷ t) ≡ is_control (c ∷ d ∷ r)
 control_behind c d r t = refl
@@ -108,11 +116,11 @@ mark_behind test c r t e u =
 part_behind : (flow : Bool) (c : ℕ) (r t : List ℕ) → parts flow (c ∷ t) ≡ parts flow (c ∷ r)
 part_behind flow c r t = refl
 
-begun_behind : (flow : Bool) (c : ℕ) (r t : List ℕ) → Near flow r t → begins_plain flow (c ∷ t) ≡ begins_plain flow (c ∷ r)
-begun_behind flow c r t l = rw (l.part, l.control c) refl
+begun_behind : (flow : Bool) (c : ℕ) (r t : List ℕ) → NearTo flow c r t → begins_plain flow (c ∷ t) ≡ begins_plain flow (c ∷ r)
+begun_behind flow c r t l = rw (l.part, l.control) refl
 
 -- one byte more in front
-pub looks_behind : (flow : Bool) (c : ℕ) (r t : List ℕ) → Near flow r t → Looks flow (c ∷ r) (c ∷ t)
+pub looks_behind : (flow : Bool) (c : ℕ) (r t : List ℕ) → NearTo flow c r t → Looks flow (c ∷ r) (c ∷ t)
 looks_behind flow c r t l = record {
   plain = λ white. plain_behind flow white c r t l;
   control = λ b. control_behind b c r t;
@@ -125,11 +133,11 @@ looks_behind flow c r t l = record {
 
 pub looks_far : (flow : Bool) (u r t : List ℕ) → Looks flow r t → Looks flow (u ++ r) (u ++ t)
 looks_far flow [] r t l = l
-looks_far flow (c ∷ u) r t l = looks_behind flow c (u ++ r) (u ++ t) (near_of flow (u ++ r) (u ++ t) (looks_far flow u r t l))
+looks_far flow (c ∷ u) r t l = looks_behind flow c (u ++ r) (u ++ t) (near_of flow (u ++ r) (u ++ t) (looks_far flow u r t l) c)
 
 pub near_far : (flow : Bool) (u r t : List ℕ) → Near flow r t → Near flow (u ++ r) (u ++ t)
 near_far flow [] r t n = n
-near_far flow (c ∷ u) r t n = near_of flow (c ∷ (u ++ r)) (c ∷ (u ++ t)) (looks_behind flow c (u ++ r) (u ++ t) (near_far flow u r t n))
+near_far flow (c ∷ u) r t n = near_of flow (c ∷ (u ++ r)) (c ∷ (u ++ t)) (looks_behind flow c (u ++ r) (u ++ t) (near_far flow u r t n c))
 
 -- a byte that ends a plain scalar, and is no part of a document's mark
 no_mark : (mark c : ℕ) (r t : List ℕ) → eqb mark c ≡ false → (u : List ℕ)

@@ -3,7 +3,7 @@ use Rattle.std.proofs.Common.{◌≡◌, ℕ, List, [], ◌∷◌, ◌++◌, Boo
 use Rattle.yaml_scan.specs.Lines.{lines_of, lengthened, begins_feed}
 use Rattle.yaml_small.specs.Places.{At}
 use Rattle.yaml_small.proofs.Marks.{and_parts}
-use Rattle.yaml_laws.proofs.Along.{joined, Along}
+use Rattle.yaml_laws.proofs.Along.{joined}
 
 -- no line feed
 abbrev pub no_feed : List ℕ → Bool
@@ -90,18 +90,6 @@ feed_join [] r e f = f
 feed_join (c ∷ u) r e f =
     let p = and_parts (not (eqb c 10)) (no_feed u) e in
     rw p.0 (feed_join u r p.1 f)
-
-tidy_joined : (before : List (List ℕ)) (front : List ℕ) (a d : At) → no_feeds (joined before front a) ≡ true → no_feeds (d.line ∷ d.later) ≡ true → no_feeds (joined before front d) ≡ true
-tidy_joined [] front a d old new =
-    let p = and_parts (no_feed (front ++ a.line)) (no_feeds a.later) old in
-    let q = and_parts (no_feed d.line) (no_feeds d.later) new in
-    rw (feed_join front d.line (feed_split front a.line p.0).0 q.0) q.1
-tidy_joined (line ∷ before) front a d old new =
-    let p = and_parts (no_feed line) (no_feeds (joined before front a)) old in
-    rw p.0 (tidy_joined before front a d p.1 new)
-
-pub tidy_along : (a b c d : At) → Along a b c d → no_feeds (a.line ∷ a.later) ≡ true → no_feeds (d.line ∷ d.later) ≡ true → no_feeds (c.line ∷ c.later) ≡ true
-tidy_along a b c d h old new = ap no_feeds h.there ∙ tidy_joined h.before h.front b d (sym (ap no_feeds h.here) ∙ old) new
 
 -- a place's line and those behind it hold none
 pub tidy_place : (before : List (List ℕ)) (front : List ℕ) (a : At) → no_feeds (joined before front a) ≡ true → no_feeds (a.line ∷ a.later) ≡ true

@@ -10,7 +10,7 @@ use Rattle.yaml_small.specs.declared.event.Style.TheVariants as styles
 use Rattle.yaml_small.specs.Trees.{Scalar}
 use Rattle.yaml_small.specs.Grammar.{is_quoted}
 use Rattle.yaml_small.specs.Places.{At, past, over, begins, at_dashes, at_dots, at_mark, is_dash, is_colon}
-use Rattle.yaml_small.specs.Scalars.{Fault, Form, is_plain, Word, word, begins_at, start_fault, plain_at, quoted_at, word_at, colon_behind, key_at}
+use Rattle.yaml_small.specs.Scalars.{Fault, Form, is_plain, Word, word, begins_at, start_fault, plain_at, quoted_at, word_at, colon_behind, key_at, is_word, is_key}
 use Rattle.yaml_small.proofs.Marks.{and_parts, and_false, or_parts, not_so, both, word_opener}
 use Rattle.yaml_laws.proofs.Along.{if_true, if_false, Along, ahead, further, all_of, parted, is_solid, dropped, gone_over}
 use Rattle.yaml_laws.proofs.Contents.{place}
@@ -75,7 +75,19 @@ taken u t n e = rw (← e) (whole u t)
 dropped_at : (u t : List ℕ) (n : ℕ) → length u ≡ n → drop n (u ++ t) ≡ t
 dropped_at u t n e = rw (← e) (dropped u t)
 
-plain_reads : (flow : Bool) (a : At) (w : Word) (d : At) → plain_at flow a ≡ Ok w → d.col ≡ w.end.col → Near flow w.end.line d.line → WordReads flow (plain_at flow) a w d
+-- a plain scalar has a byte
+pub plain_text : (flow : Bool) (a : At) (w : Word) → plain_at flow a ≡ Ok w → (c : ℕ) × ((u : List ℕ) × (w.scalar.text ≡ c ∷ u))
+plain_text flow a w e =
+    let b = plain_begun flow a w e in
+    let s = plain_some flow a.line (and_parts (not (at_mark a)) (begins_plain flow a.line) b.begun).1 in (s.0, (s.1.0, sym (ap (λ (x : Word). x.scalar.text) b.is) ∙ s.1.1))
+
+-- a plain scalar looks the same before what looks nearly the same
+pub plain_looks : (flow : Bool) (a : At) (w : Word) (t : List ℕ) → plain_at flow a ≡ Ok w → Near flow w.end.line t → Looks flow (w.scalar.text ++ w.end.line) (w.scalar.text ++ t)
+plain_looks flow a w t e near =
+    let s = plain_text flow a w e in
+    subst (λ (v : List ℕ). Looks flow (v ++ w.end.line) (v ++ t)) (sym s.1.1) (looks_behind flow s.0 (s.1.0 ++ w.end.line) (s.1.0 ++ t) (near_far flow s.1.0 w.end.line t near s.0))
+
+plain_reads : (flow : Bool) (a : At) (w : Word) (d : At) → plain_at flow a ≡ Ok w → d.col ≡ w.end.col → Looks flow (w.scalar.text ++ w.end.line) (w.scalar.text ++ d.line) → WordReads flow (plain_at flow) a w d
 unfolding plain_at
 plain_reads flow a w d e col looks =
     let b = plain_begun flow a w e in
@@ -84,9 +96,8 @@ plain_reads flow a w d e col looks =
     let size : length u ≡ n = omega (arith, plain_within flow false a.line, length-take n a.line) in
     let line : a.line ≡ u ++ w.end.line = sym (take-append-drop n a.line) ∙ ap (λ (x : List ℕ). u ++ x) (ap (λ (x : Word). x.end.line) b.is) in
     let c = place a.col (u ++ d.line) d.later in
-    let s = plain_some flow a.line (and_parts (not (at_mark a)) (begins_plain flow a.line) b.begun).1 in
     let near : Looks flow (u ++ w.end.line) (u ++ d.line) =
-    subst (λ (v : List ℕ). Looks flow (v ++ w.end.line) (v ++ d.line)) (sym s.1.1) (looks_behind flow s.0 (s.1.0 ++ w.end.line) (s.1.0 ++ d.line) (near_far flow s.1.0 w.end.line d.line looks)) in
+    subst (λ (v : List ℕ). Looks flow (v ++ w.end.line) (v ++ d.line)) (sym (ap (λ (x : Word). x.scalar.text) b.is)) looks in
     let far : Looks flow a.line (u ++ d.line) = subst (λ (x : List ℕ). Looks flow x (u ++ d.line)) (sym line) near in
     let here : begins_at flow c ≡ true = same_begin flow a c refl far ∙ b.begun in
     let long : plain_len flow false (u ++ d.line) ≡ n = far.plain false in
@@ -139,12 +150,14 @@ quoted_reads flow style q scan may a w d closed here e col fit =
     ∙ ap (λ (n : ℕ). Ok (word x.text style (place n d.line d.later))) end
     ∙ ap (λ (t : Scalar). Ok (record { scalar = t; end = d })) (ap (λ (v : Word). v.scalar) x.is))
 
-plain_style : (flow : Bool) (a : At) (w : Word) → plain_at flow a ≡ Ok w → is_quoted w.scalar ≡ false
+pub plain_style : (flow : Bool) (a : At) (w : Word) → plain_at flow a ≡ Ok w → is_quoted w.scalar ≡ false
 plain_style flow a w e = ap (λ (x : Word). is_quoted x.scalar) (sym (plain_begun flow a w e).is)
 
-pub word_reads : (flow : Bool) (a : At) (w : Word) (d : At) → word_at flow a ≡ Ok w → d.col ≡ w.end.col → begins 39 d.line ≡ false → (is_quoted w.scalar ≡ false → Near flow w.end.line d.line) → WordReads flow (word_at flow) a w d
+-- a scalar before what does not change how it is read
+pub word_again : (flow : Bool) (a : At) (w : Word) (d : At) → word_at flow a ≡ Ok w → d.col ≡ w.end.col → begins 39 d.line ≡ false
+    → (plain_at flow a ≡ Ok w → Looks flow (w.scalar.text ++ w.end.line) (w.scalar.text ++ d.line)) → WordReads flow (word_at flow) a w d
 unfolding word_at
-word_reads flow a w d e col free looks =
+word_again flow a w d e col free looks =
     elim (cases_Bool (begins 39 a.line)) [
       | inl single ↦
           let r = quoted_reads flow styles.SingleQuoted 39 single_at no_quote a w d (single_closed (drop 1 a.line)) single (sym (first _ _ single) ∙ e) col (rw free refl) in
@@ -155,7 +168,7 @@ word_reads flow a w d e col free looks =
             record { at = r.at; is = second _ _ _ (same_begins 39 r.at.line a.line r.first ∙ no_single) (same_begins 34 r.at.line a.line r.first ∙ double) ∙ r.is; along = r.along; col = r.col; first = r.first; whole = r.whole; later = r.later }
         | inr no_double ↦
             let plain = sym (third _ _ _ no_single no_double) ∙ e in
-            let r = plain_reads flow a w d plain col (looks (plain_style flow a w plain)) in
+            let r = plain_reads flow a w d plain col (looks plain) in
             record { at = r.at; is = third _ _ _ (same_begins 39 r.at.line a.line r.first ∙ no_single) (same_begins 34 r.at.line a.line r.first ∙ no_double) ∙ r.is; along = r.along; col = r.col; first = r.first; whole = r.whole; later = r.later }
       ]
     ]
@@ -168,6 +181,9 @@ word_reads flow a w d e col free looks =
 
     third : {b c : Bool} (x y z : Result Word Fault) → b ≡ false → c ≡ false → cond b x (cond c y z) ≡ z
     third x y z e f = rw (e, f) refl
+
+pub word_reads : (flow : Bool) (a : At) (w : Word) (d : At) → word_at flow a ≡ Ok w → d.col ≡ w.end.col → begins 39 d.line ≡ false → (is_quoted w.scalar ≡ false → Near flow w.end.line d.line) → WordReads flow (word_at flow) a w d
+word_reads flow a w d e col free near = word_again flow a w d e col free (λ plain. plain_looks flow a w d.line plain (near (plain_style flow a w plain)))
 
 -- behind white space stands no other quote
 pub white_free : (v r : List ℕ) → all_of is_white v ≡ true → begins 39 r ≡ false → begins 39 (v ++ r) ≡ false
@@ -257,6 +273,23 @@ key_gap a w e = from (word_at false a) e
     from (Err f) e = absurd cc
     from (Ok v) e = (coloned v w e).gap
 
+-- a key stands on a line whatever lines follow
+pub key_ok : (a : At) → is_key a ≡ true → (w : Word) × (key_at a ≡ Ok w)
+key_ok a e = from (key_at a) refl e
+  where
+    from : (r : Result Word Fault) → key_at a ≡ r → is_word r ≡ true → (w : Word) × (key_at a ≡ Ok w)
+    from (Ok w) is e = (w, is)
+    from (Err f) is e = absurd cc
+
+pub same_key : (a c : At) → c.line ≡ a.line → c.col ≡ a.col → is_key a ≡ false → is_key c ≡ false
+same_key a c line col none =
+    not_so (is_key c) (λ is.
+    let k = key_ok c is in
+    let r = key_reads c k.0 (place k.0.end.col k.0.end.line a.later) k.1 refl (key_gap c k.0 k.1) in
+    let at : r.at ≡ a =
+    ap (λ (n : ℕ). place n r.at.line r.at.later) (r.col ∙ col) ∙ ap (λ (l : List ℕ). place a.col l r.at.later) (r.whole refl ∙ line) ∙ ap (λ (ls : List (List ℕ)). place a.col a.line ls) r.later in
+    both (is_key a) (ap is_key (sym at) ∙ ap is_word r.is) none)
+
 -- what stands where a scalar is read
 pub record WordPlace (a : At) : Type 0 where
   pub solid : is_solid a.line ≡ true
@@ -318,9 +351,9 @@ key_place a w e = from (word_at false a) refl e
 quoted_style : (style : Style) (a : At) (found : Found) (w : Word) → quoted_at style a found ≡ Ok w → w.scalar.style ≡ style
 quoted_style style a found w e = sym (ap (λ (x : Word). x.scalar.style) (quotes style a found w e).is)
 
-pub plain_stops : (flow : Bool) (a : At) (w : Word) → word_at flow a ≡ Ok w → is_quoted w.scalar ≡ false → plain_len flow false w.end.line ≡ 0
+pub unquoted : (flow : Bool) (a : At) (w : Word) → word_at flow a ≡ Ok w → is_quoted w.scalar ≡ false → plain_at flow a ≡ Ok w
 unfolding word_at
-plain_stops flow a w e plain =
+unquoted flow a w e plain =
     elim (cases_Bool (begins 39 a.line)) [
       | inl single ↦
           let style = quoted_style styles.SingleQuoted a (single_at (drop 1 a.line)) w (sym (if_true (begins 39 a.line) _ _ single) ∙ e) in
@@ -329,14 +362,17 @@ plain_stops flow a w e plain =
         | inl double ↦
             let style = quoted_style styles.DoubleQuoted a (double_quoted_at (drop 1 a.line)) w (sym (if_false (begins 39 a.line) _ _ no_single ∙ if_true (begins 34 a.line) _ _ double) ∙ e) in
             absurd (both (is_quoted w.scalar) (ap (λ (x : Style). not (is_plain x)) style) plain)
-        | inr no_double ↦
-            let b = plain_begun flow a w (sym (if_false (begins 39 a.line) _ _ no_single ∙ if_false (begins 34 a.line) _ _ no_double) ∙ e) in
-            let s = plain_some flow a.line (and_parts (not (at_mark a)) (begins_plain flow a.line) b.begun).1 in
-            elim (rest_stops flow false a.line) [
-              | inl none ↦ absurd (empty s.0 s.1.0 (sym (ap (λ (n : ℕ). take n a.line) none) ∙ s.1.1))
-              | inr stop ↦ ap (λ (x : Word). plain_len flow false x.end.line) (sym b.is) ∙ stop
-            ]
+        | inr no_double ↦ sym (if_false (begins 39 a.line) _ _ no_single ∙ if_false (begins 34 a.line) _ _ no_double) ∙ e
       ]
+    ]
+
+pub plain_stops : (flow : Bool) (a : At) (w : Word) → word_at flow a ≡ Ok w → is_quoted w.scalar ≡ false → plain_len flow false w.end.line ≡ 0
+plain_stops flow a w e plain =
+    let b = plain_begun flow a w (unquoted flow a w e plain) in
+    let s = plain_some flow a.line (and_parts (not (at_mark a)) (begins_plain flow a.line) b.begun).1 in
+    elim (rest_stops flow false a.line) [
+      | inl none ↦ absurd (empty s.0 s.1.0 (sym (ap (λ (n : ℕ). take n a.line) none) ∙ s.1.1))
+      | inr stop ↦ ap (λ (x : Word). plain_len flow false x.end.line) (sym b.is) ∙ stop
     ]
   where
     empty : (c : ℕ) (u : List ℕ) → take {A = ℕ} 0 a.line ≡ c ∷ u → ⊥

@@ -1,5 +1,5 @@
 -- Steps that first go to the next content, over white space or to the next token.
-use Rattle.std.proofs.Common.{◌≡◌, ℕ, ◌+◌, List, [], ◌∷◌, ◌++◌, drop, length, Bool, true, false, cond, ◌&&◌, eqb, Result, refl, sym, ap, ◌∙◌, subst}
+use Rattle.std.proofs.Common.{◌≡◌, ℕ, ◌+◌, List, [], ◌∷◌, ◌++◌, drop, Bool, true, false, cond, ◌&&◌, eqb, Result, refl, sym, ap, ◌∙◌, subst}
 use Rattle.yaml_scan.specs.Bytes.{is_space, is_white, is_gap, spaces, whites}
 use Rattle.yaml_scan.specs.Lines.{ends}
 use Rattle.yaml_small.specs.declared.state.Frame.{Frame}
@@ -9,8 +9,8 @@ use Rattle.yaml_small.specs.Step.{Go}
 use Rattle.std.proofs.lemmas.Bool.{eqb-true}
 use Rattle.yaml_scan.specs.Lines.{is_dashes}
 use Rattle.yaml_small.proofs.Marks.{and_parts}
-use Rattle.yaml_laws.proofs.Along.{ahead, further, all_of, stops, parted, counted, is_solid, solid_white, white_space, gone_over}
-use Rattle.yaml_laws.proofs.Contents.{Instead, Ready, place, next_below}
+use Rattle.yaml_laws.proofs.Along.{ahead, further, all_of, stops, counted, is_solid, solid_white, white_space, gone_over}
+use Rattle.yaml_laws.proofs.Contents.{Instead, Ready, place, next_below, Spaced, spaced_at}
 use Rattle.yaml_laws.proofs.Words.{WordPlace, head_line}
 use Rattle.yaml_laws.proofs.Blocks.{Alike}
 use Rattle.yaml_laws.proofs.Tokens.{Token, token_at}
@@ -19,56 +19,32 @@ use Rattle.yaml_laws.proofs.Moves.{Moves, Gap}
 pub moves_next : (k : List Frame) (P Q : At → Type 0) (r : At → Result Go Fault) (a : At) → Moves k P r (next_at a.later) → ((c : At) → P c → Ready (next_at a.later) c) → ((c : At) → c.line ≡ a.line → c.col ≡ a.col → Q c)
     → Moves k Q (λ c. r (next_at c.later)) a
 moves_next k P Q r a m ready like = record {
-  move = λ g e d fits.
-      let n = m.move g e d fits in
+  move = λ g e want.
+      let n = m.move g e want in
       let b = next_below a n.at (ready n.at n.like) in
       record {
         at = place a.col a.line b.others;
         like = like (place a.col a.line b.others) refl refl;
-        along = further a (next_at a.later) (place a.col a.line b.others) n.at g.at d b.along n.along;
-        mode = n.mode;
-        same = n.same;
+        along = further a (next_at a.later) (place a.col a.line b.others) n.at g.at n.arrives.there b.along n.along;
+        arrives = n.arrives;
         is = ap r b.to ∙ n.is;
       };
   fine = m.fine;
 }
 
--- white space, and what stands behind it
-pub record Spaced (a : At) : Type 0 where
-  pub front : List ℕ
-  pub all : all_of is_white front ≡ true
-  pub line : a.line ≡ front ++ (over a).line
-  pub stop : stops is_white (over a).line ≡ true
-  pub col : (over a).col ≡ a.col + length front
-  pub later : (over a).later ≡ a.later
-
-pub spaced_at : (a : At) → Spaced a
-spaced_at a =
-    let p = parted is_white a.line in
-    let here : over a ≡ place (a.col + length p.front) p.rest a.later = ap (λ (l : List ℕ). over (place a.col l a.later)) p.is ∙ gone_over a.col p.front p.rest a.later p.all p.stop in
-    record {
-      front = p.front;
-      all = p.all;
-      line = p.is ∙ ap (λ (x : At). p.front ++ x.line) (sym here);
-      stop = ap (λ (x : At). stops is_white x.line) here ∙ p.stop;
-      col = ap (λ (x : At). x.col) here;
-      later = ap (λ (x : At). x.later) here;
-    }
-
 pub moves_over : (k : List Frame) (P Q : At → Type 0) (r : At → Result Go Fault) (a : At) → Moves k P r (over a) → ((c : At) → P c → Instead (over a) c) → ((s : Spaced a) (c : At) → P c → Q (place a.col (s.front ++ c.line) c.later))
     → Moves k Q (λ c. r (over c)) a
 moves_over k P Q r a m instead like = record {
-  move = λ g e d fits.
-      let n = m.move g e d fits in
+  move = λ g e want.
+      let n = m.move g e want in
       let s = spaced_at a in
       let i = instead n.at n.like in
       let c = place a.col (s.front ++ n.at.line) n.at.later in
       record {
         at = c;
         like = like s n.at n.like;
-        along = further a (over a) c n.at g.at d (ahead s.front a (over a) c n.at s.line (sym s.later) refl refl) n.along;
-        mode = n.mode;
-        same = n.same;
+        along = further a (over a) c n.at g.at n.arrives.there (ahead s.front a (over a) c n.at s.line (sym s.later) refl refl) n.along;
+        arrives = n.arrives;
         is = ap r (gone_over a.col s.front n.at.line n.at.later s.all (solid_white n.at.line i.other) ∙ ap (λ (x : ℕ). place x n.at.line n.at.later) (sym (i.col ∙ s.col))) ∙ n.is;
       };
   fine = m.fine;
@@ -77,15 +53,14 @@ moves_over k P Q r a m instead like = record {
 pub moves_token : (k : List Frame) (P Q : At → Type 0) (r : At → Result Go Fault) (a : At) → Moves k P r (flow_next a) → ((c : At) → P c → Instead (flow_next a) c) → ((c : At) (t : Token a c) → P c → Q t.at)
     → Moves k Q (λ c. r (flow_next c)) a
 moves_token k P Q r a m instead like = record {
-  move = λ g e d fits.
-      let n = m.move g e d fits in
+  move = λ g e want.
+      let n = m.move g e want in
       let t = token_at a n.at (instead n.at n.like) in
       record {
         at = t.at;
         like = like n.at t n.like;
-        along = further a (flow_next a) t.at n.at g.at d t.along n.along;
-        mode = n.mode;
-        same = n.same;
+        along = further a (flow_next a) t.at n.at g.at n.arrives.there t.along n.along;
+        arrives = n.arrives;
         is = ap r t.to ∙ n.is;
       };
   fine = m.fine;

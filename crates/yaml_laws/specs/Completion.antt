@@ -1,9 +1,7 @@
 -- What was told so far of a text can be completed.
-use Rattle.std.specs.Prelude.{◌≡◌, ℕ, List, [], ◌∷◌, ◌++◌, Bool, true, false, ◌&&◌, nat_lt, Option}
+use Rattle.std.specs.Prelude.{◌≡◌, ℕ, List, ◌∷◌, ◌++◌, Option}
 use Rattle.yaml_scan.specs.Lines.{lines_of}
 use Rattle.yaml_small.specs.declared.event.Event.{Event}
-use Rattle.yaml_small.specs.declared.state.Frame.{Frame}
-use Rattle.yaml_small.specs.declared.state.Frame.TheVariants.{InList, InMap, InSeq, InPairs}
 use Rattle.yaml_small.specs.Trees.{Tree, stream_told, ends_again}
 use Rattle.yaml_small.specs.Places.{At}
 use Rattle.yaml_small.specs.Grammar.{Carried}
@@ -21,19 +19,3 @@ pub record Completed (text : List ℕ) (events : List Event) (a : At) : Type 0 w
   pub more : List Event
   pub count : ℕ
   pub told : stream_told tree (ends_again count) ≡ events ++ more
-
--- No flow list or map is open.
-abbrev pub is_block : Frame → Bool
-is_block (InList col) = true
-is_block (InMap col) = true
-is_block (InSeq inner) = false
-is_block (InPairs inner) = false
-
-abbrev pub all_blocks : List Frame → Bool
-all_blocks [] = true
-all_blocks (frame ∷ frames) = is_block frame && all_blocks frames
-
--- No byte above those of ASCII and of the control characters behind it begins the line.
-abbrev pub begins_low : List ℕ → Bool
-begins_low [] = true
-begins_low (c ∷ cs) = nat_lt c 160
