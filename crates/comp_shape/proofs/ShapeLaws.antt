@@ -1,5 +1,5 @@
 -- One export more.
-use Rattle.std.proofs.Common.{◌≡◌, ◌<◌, ◌+◌, ℕ, suc, length, get_or, take, drop, drop-cons, Bool, true, false, ◌||◌, List, [], ◌∷◌, ◌++◌, map, Option, Some, None, refl, sym, ap, ◌∙◌}
+use Rattle.std.proofs.Common.{◌≡◌, ◌<◌, ◌+◌, ℕ, suc, length, get_or, take, drop, drop-cons, Bool, true, false, not, ◌||◌, List, [], ◌∷◌, ◌++◌, map, Option, Some, None, refl, sym, ap, ◌∙◌}
 use Rattle.std.specs.Prelude.{bytes_eq, slice_get, option_map, option_and_then}
 use Rattle.std.specs.Prelude.{All}
 use Rattle.std.specs.List.{AllByRecursion, list_all, list_any}
@@ -44,8 +44,25 @@ unfolding after
 after_own k e t here own = rw here refl
 
 -- whether a name is taken, by the names that are kept in lower case
-pub taken_from : (exports : List (List ℕ × Entity)) (names : BTreeSet (List ℕ)) (name lower : List ℕ) (b : Bool) → lower ≡ str_to_ascii_lowercase name → AreNamesOf exports names → b ≡ has_name names lower → b ≡ is_taken name (entries exports)
-taken_from exports names name lower b l kept e = e ∙ ap (has_name names) l ∙ kept (str_to_ascii_lowercase name) ∙ taken_is exports name
+taken_from : (exports : List (List ℕ × Entity)) (names : BTreeSet (List ℕ)) (name lower : List ℕ) → lower ≡ str_to_ascii_lowercase name → AreNamesOf exports names → has_name names lower ≡ is_taken name (entries exports)
+taken_from exports names name lower l kept = ap (has_name names) l ∙ kept (str_to_ascii_lowercase name) ∙ taken_is exports name
+
+-- so it is, where the set does not take it in, and else it is not
+pub was_taken : (exports : List (List ℕ × Entity)) (names : BTreeSet (List ℕ)) (name lower : List ℕ) (added : Bool) → lower ≡ str_to_ascii_lowercase name → AreNamesOf exports names → added ≡ not (has_name names lower) → added ≡ false
+    → is_taken name (entries exports) ≡ true
+was_taken exports names name lower added l kept is not_added = sym (taken_from exports names name lower l kept) ∙ found (has_name names lower) (sym is ∙ not_added)
+  where
+    found : (b : Bool) → not b ≡ false → b ≡ true
+    found true e = refl
+    found false e = absurd cc
+
+pub is_own : (exports : List (List ℕ × Entity)) (names : BTreeSet (List ℕ)) (name lower : List ℕ) (added : Bool) → lower ≡ str_to_ascii_lowercase name → AreNamesOf exports names → added ≡ not (has_name names lower) → added ≡ true
+    → is_taken name (entries exports) ≡ false
+is_own exports names name lower added l kept is was_added = sym (taken_from exports names name lower l kept) ∙ missing (has_name names lower) (sym is ∙ was_added)
+  where
+    missing : (b : Bool) → not b ≡ true → b ≡ false
+    missing true e = absurd cc
+    missing false e = refl
 
 -- no names, and one more
 pub none_named : (names : BTreeSet (List ℕ)) → names.keys ≡ [] → AreNamesOf [] names

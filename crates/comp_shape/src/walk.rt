@@ -8,7 +8,7 @@ ghost use Rattle.comp_types.specs.Sections.{Reads, component_at};
 ghost use Rattle.comp_shape.specs.Shape.{BreaksAt, BreaksFirst, after, after_all, nothing_known, shape};
 ghost use Rattle.comp_shape.specs.FirstForm.{InFirstForm, StandsFirstOther, is_plain_item};
 ghost use Rattle.comp_shape.specs.Refusal.{IsIndexOrMemory, IsOfItems};
-ghost use Rattle.comp_shape.specs.Views.{known, has_name, plain_tree, shape_tree, IsNamed, IsPlain, ArePlain};
+ghost use Rattle.comp_shape.specs.Views.{known, plain_tree, shape_tree, IsNamed, IsPlain, ArePlain};
 
 use crate::error::ShapeError;
 use crate::first_form::check_first_form;
@@ -37,13 +37,6 @@ fn type_at<'a>(types: &[&'a DefType], index: u32) -> Option<&'a DefType>
     }
 }
 
-/// Whether a name in lower case is taken.
-fn is_taken(names: &BTreeSet<Text>, lower: &Text) -> bool
-    ensures { result ≡ has_name names.now lower.now }
-{
-    names.contains(lower)
-}
-
 /// Adds an export of a type, the item of this number.
 #[tactic(auto, unfolding(crate::specs::Shape::after))]
 fn add_export(
@@ -66,7 +59,8 @@ fn add_export(
         return Err(ShapeError::Index(number));
     };
     let lower = name.to_ascii_lowercase(alloc)?;
-    if is_taken(&space.names, &lower) {
+    let is_new = space.names.insert(lower)?;
+    if !is_new {
         return Err(ShapeError::Index(number));
     }
     let Some(value) = value_of(alloc, ty)? else {
@@ -76,7 +70,6 @@ fn add_export(
     let name = name.try_clone(alloc)?;
     space.types.push(ty)?;
     space.exports.push((name, entity))?;
-    space.names.insert(lower)?;
     Ok(())
 }
 

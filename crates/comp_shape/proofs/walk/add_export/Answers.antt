@@ -6,14 +6,14 @@ use Rattle.comp_shape.specs.Shape.{Value, EntityTree, IsType}
 use Rattle.std.specs.Str.{str_to_ascii_lowercase}
 use Rattle.comp_shape.specs.declared.shape.Entity.{Entity}
 use Rattle.comp_shape.specs.Views.{entries, known, plain_tree, value_tree, AreNamesOf, IsPlain}
-use Rattle.comp_shape.proofs.ShapeLaws.{tree_is, no_tree, after_taken, after_own, taken_from, exported, one_named}
+use Rattle.comp_shape.proofs.ShapeLaws.{tree_is, no_tree, after_taken, after_own, was_taken, is_own, exported, one_named}
 use Rattle.std.proofs.lemmas.List.Elements.{All-push}
 use Rattle.comp_shape.proofs.walk.add_export.Goals as goal
 
-pub returns-then-is_taken-clause-index : goal.returns-then-is_taken-clause-index
-returns-then-is_taken-clause-index c = λ at e.
+pub returns-then-not-is_new-clause-index : goal.returns-then-not-is_new-clause-index
+returns-then-not-is_new-clause-index c = λ at e.
     let here : slice_get (known c.args.space.now).types c.args.index ≡ Some (plain_tree c.in-Some.ty.now) = rw (← c.deref.ensures.value) c.in-Some.ensures.there in
-    let taken = sym (taken_from c.args.space.now.exports.items c.args.space.now.names c.args.name.now c.in_ok-lower.lower c.is_taken.result c.in_ok-lower.ensures c.requires.has_names c.is_taken.ensures) ∙ c.if-is_taken.true in
+    let taken = was_taken c.args.space.now.exports.items c.args.space.now.names c.args.name.now c.in_ok-lower.lower c.in_ok-is_new.is_new c.in_ok-lower.ensures c.requires.has_names c.in_ok-is_new.ensures.added c.if-not-is_new.true in
     after_taken (known c.args.space.now) (record { name = c.args.name.now; sort = sort.Ty; index = c.args.index; ty = None }) (plain_tree c.in-Some.ty.now) here taken
 
 pub returns-clause-added : goal.returns-clause-added
@@ -21,7 +21,7 @@ returns-clause-added c =
     let k = known c.args.space.now in
     let t = plain_tree c.in-Some.ty.now in
     let here : slice_get k.types c.args.index ≡ Some t = rw (← c.deref.ensures.value) c.in-Some.ensures.there in
-    let own = sym (taken_from c.args.space.now.exports.items c.args.space.now.names c.args.name.now c.in_ok-lower.lower c.is_taken.result c.in_ok-lower.ensures c.requires.has_names c.is_taken.ensures) ∙ c.if-is_taken.false in
+    let own = is_own c.args.space.now.exports.items c.args.space.now.names c.args.name.now c.in_ok-lower.lower c.in_ok-is_new.is_new c.in_ok-lower.ensures c.requires.has_names c.in_ok-is_new.ensures.added c.if-not-is_new.false in
     let value_is : plain_tree c.in-Some.ty.now ≡ value_tree _ = tree_is c.in-Some.ty.now _ (ap (option_map value_tree) (sym c.in-Some-2.is) ∙ c.in_ok-value.ensures) in
     let types_are : map (λ d. plain_tree d.now) c.push.new.self.items ≡ k.types ++ t ∷ [] = rw c.in_ok-push.ensures.items (map_push _ c.args.space.now.types.items _) in
     let exports_are : entries c.push-2.new.self.items ≡ k.exports ++ (c.args.name.now, IsType (Value t)) ∷ [] =
@@ -38,4 +38,4 @@ pub returns-clause-named : goal.returns-clause-named
 returns-clause-named c =
     let lower_is = c.in_ok-lower.ensures ∙ ap str_to_ascii_lowercase (sym c.in_ok-name.ensures) in
     subst (λ (l : List (List ℕ × Entity)). AreNamesOf l c.insert.new.self) (sym c.in_ok-push-2.ensures.items)
-    (one_named c.args.space.now.exports.items _ c.args.space.now.names c.insert.new.self c.in_ok-lower.lower lower_is c.requires.has_names c.in_ok-insert.ensures.updates)
+    (one_named c.args.space.now.exports.items _ c.args.space.now.names c.insert.new.self c.in_ok-lower.lower lower_is c.requires.has_names c.in_ok-is_new.ensures.updates)
