@@ -22,10 +22,7 @@ hash_and_copy() {
 
 check_line() {
     wanted="bytes $(size_of "$work/out.wasm") $(sha256sum <"$work/out.wasm" | cut -d ' ' -f 1)"
-    [ "$(cat "$work/line")" = "$wanted" ] || {
-        printf 'link.sh: OUT does not have the bytes that the printed line tells\n' >&2
-        exit 1
-    }
+    [ "$(cat "$work/line")" = "$wanted" ] || fail 'OUT does not have the bytes that the printed line tells'
 }
 
 printf '| exports | ROOT, bytes | OUT, bytes | link, ms | times the row above | sha256sum and cp, ms | link to these | peak, KiB | peak to ROOT |\n'

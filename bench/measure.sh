@@ -29,9 +29,14 @@ build_over() {
     program=$work/crates/$1/out/$1
     [ -x "$program" ] || {
         cat "$work/build" >&2
-        printf '%s was not built\n' "$1" >&2
-        exit 1
+        fail "$1 was not built"
     }
+}
+
+# Ends the script with a message that has its name.
+fail() {
+    printf '%s: %s\n' "${0##*/}" "$1" >&2
+    exit 1
 }
 
 # Nanoseconds, where the clock tells them, else whole seconds.

@@ -24,10 +24,8 @@ hash_root() {
 }
 
 check_refusal() {
-    [ "$(cat "$work/status")" = 6 ] && [ "$(cat "$work/line")" = 'refused BadComponent' ] || {
-        printf 'read.sh: the component was not refused as one without a shape\n' >&2
-        exit 1
-    }
+    [ "$(cat "$work/status")" = 6 ] && [ "$(cat "$work/line")" = 'refused BadComponent' ] ||
+        fail 'the component was not refused as one without a shape'
 }
 
 printf '| ROOT, bytes | link, ms | times the row above | sha256sum, ms | link to sha256sum | peak, KiB | peak to ROOT |\n'

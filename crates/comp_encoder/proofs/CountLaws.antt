@@ -6,13 +6,13 @@ use Rattle.std.proofs.lemmas.Bool.{cases_Bool, eqb-true, eqb-false}
 use Rattle.std.proofs.lemmas.List.{append-nil}
 use Rattle.std.proofs.lemmas.List.Sums.{sum_by-append}
 use Rattle.std.proofs.Common.{get_or-set_same, get_or-set_other}
-use Rattle.comp_types.specs.declared.types.CoreSort.{CoreSort}
-use Rattle.comp_types.specs.declared.types.CoreSort.TheVariants as core
-use Rattle.comp_types.specs.declared.types.Sort.{Sort}
-use Rattle.comp_types.specs.declared.types.Sort.TheVariants as sort
-use Rattle.comp_types.specs.Items.{ItemTree}
-use Rattle.comp_types.specs.Sections.{Section, ContentForm, section_id, section_items}
-use Rattle.comp_types.specs.Spaces.{core_space, space_of}
+use Rattle.comp_format.specs.declared.types.CoreSort.{CoreSort}
+use Rattle.comp_format.specs.declared.types.CoreSort.TheVariants as core
+use Rattle.comp_format.specs.declared.types.Sort.{Sort}
+use Rattle.comp_format.specs.declared.types.Sort.TheVariants as sort
+use Rattle.comp_format.specs.Items.{ItemTree}
+use Rattle.comp_format.specs.Sections.{Section, ContentForm, section_id, section_items}
+use Rattle.comp_format.specs.Spaces.{core_space, space_of}
 use Rattle.comp_encoder.specs.Builder.{Kept, Item, Whole, IsKept, IsBuilt, IsBytesOf, item_of, entry_of, entries_of}
 use Rattle.comp_encoder.specs.Writing.{Entry, Single, RawSection, items_of, item_sort, numbers, numbered, next_index}
 use Rattle.comp_encoder.proofs.GroupLaws.{entries_append}

@@ -1,16 +1,16 @@
 -- Declarations as bytes, and one declaration more.
 use Rattle.std.proofs.Common.{◌≡◌, ℕ, max, List, [], ◌∷◌, ◌++◌, length, map, sym, ap, ◌∙◌, append_assoc, arith}
 use Rattle.std.proofs.lemmas.List.{append-nil}
-use Rattle.comp_types.specs.declared.types.ComponentType.{ComponentType}
-use Rattle.comp_types.specs.declared.types.InstanceType.{InstanceType}
-use Rattle.comp_types.specs.declared.core_types.ModuleType.{ModuleType}
-use Rattle.comp_types.specs.Numbers.{number_text}
-use Rattle.comp_types.specs.CoreTypes as core
-use Rattle.comp_types.specs.CoreTypes.{ModuleDeclTree, ModuleDecls, module_decls, core_text, module_decl_text, module_text}
-use Rattle.comp_types.specs.Definitions as tree
-use Rattle.comp_types.specs.Definitions.{DeclTree, Decls, decls_of, definition_text, decl_text, decls_text}
-use Rattle.comp_types.specs.Views.{module_decl_tree, module_tree, decl_tree, component_type_tree, instance_type_tree}
-use Rattle.comp_types.proofs.ViewLaws.{module_is, modules_counted, component_is, instance_is, component_counted, instance_counted}
+use Rattle.comp_format.specs.declared.types.ComponentType.{ComponentType}
+use Rattle.comp_format.specs.declared.types.InstanceType.{InstanceType}
+use Rattle.comp_format.specs.declared.core_types.ModuleType.{ModuleType}
+use Rattle.comp_format.specs.Numbers.{number_text}
+use Rattle.comp_format.specs.CoreTypes as core
+use Rattle.comp_format.specs.CoreTypes.{ModuleDeclTree, ModuleDecls, module_decls, core_text, module_decl_text, module_text}
+use Rattle.comp_format.specs.Definitions as tree
+use Rattle.comp_format.specs.Definitions.{DeclTree, Decls, decls_of, definition_text, decl_text, decls_text}
+use Rattle.comp_format.specs.Views.{module_decl_tree, module_tree, decl_tree, component_type_tree, instance_type_tree}
+use Rattle.comp_format.proofs.ViewLaws.{module_is, modules_counted, component_is, instance_is, component_counted, instance_counted}
 use Rattle.comp_encoder.specs.Largest.{module_decl_largest, module_largest, decl_largest, decls_largest}
 use Rattle.comp_encoder.specs.Texts.{TextsOfModuleDecl, TextsOfModule, TextsOfDecl, TextsOfDecls}
 

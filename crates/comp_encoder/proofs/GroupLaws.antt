@@ -3,8 +3,8 @@ use Rattle.std.proofs.Common.{◌≡◌, ℕ, zero, suc, ◌<◌, ◌^◌, Bool,
 use Rattle.std.specs.List.{flat_map, AllByRecursion}
 use Rattle.std.proofs.lemmas.List.{take-append-drop, map-append, append-nil}
 use Rattle.std.proofs.lemmas.Bool.{cases_Bool, eq-eqb}
-use Rattle.comp_types.specs.Items.{ItemTree}
-use Rattle.comp_types.specs.Numbers.{number_text}
+use Rattle.comp_format.specs.Items.{ItemTree}
+use Rattle.comp_format.specs.Numbers.{number_text}
 use Rattle.comp_encoder.specs.declared.built.Built.{Built}
 use Rattle.comp_encoder.specs.Builder.{Kept, Item, Whole, IsKept, IsItem, IsRun, EndsRun, kept, kepts_of, kept_bytes, item_of, entry_of, entries_of, first_group, shared_group}
 use Rattle.comp_encoder.specs.Writing.{Group, item_id, item_text, is_shared, is_plain, alone, joins, joined, groups_of, content_text}

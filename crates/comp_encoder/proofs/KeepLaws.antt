@@ -2,22 +2,22 @@
 use Rattle.std.proofs.Common.{◌≡◌, ℕ, ◌<◌, ◌^◌, List, [], ◌++◌, length, Result, Ok, Err, Vec, Global, refl, ap, subst, ◌∙◌, sym, arith}
 use Rattle.std.specs.Prelude.{IfOk, OnOk}
 use Rattle.std.proofs.lemmas.List.{append-nil}
-use Rattle.comp_types.specs.declared.error.EncodeError.{EncodeError}
-use Rattle.comp_types.specs.declared.types.InstanceItem.{InstanceItem}
-use Rattle.comp_types.specs.declared.types.Alias.{Alias}
-use Rattle.comp_types.specs.Numbers.{FormOf}
-use Rattle.comp_types.specs.Vectors.{ReaderOf}
-use Rattle.comp_types.specs.CoreTypes.{CoreTree, CoreForm, core_text}
-use Rattle.comp_types.specs.Definitions.{TypeTree, DefForm, definition_text}
-use Rattle.comp_types.specs.Parts.{InstanceForm, AliasForm, instance_at, alias_at, instance_text, alias_text}
-use Rattle.comp_types.specs.Items.{ImportTree, ExportTree, ItemTree, CoreTy, Component, Instance, Aliased, Ty, Import, Export, ImportForm, ExportForm, import_at, export_at, import_text, export_text}
-use Rattle.comp_types.specs.Fits.{FitsItem, FitsCore, FitsDefinition, FitsInstance, FitsAlias, FitsImport, FitsExport, IsComponent}
-use Rattle.comp_types.proofs.VectorLaws.{IsComplete}
-use Rattle.comp_types.proofs.PartLaws.{instance_again, instance_written, alias_again, alias_written}
-use Rattle.comp_types.proofs.CoreTypeLaws.{core_again, core_written}
-use Rattle.comp_types.proofs.DefinitionLaws.{definition_again, definition_written}
-use Rattle.comp_types.proofs.ScopeLaws.{core_within, definition_within}
-use Rattle.comp_types.proofs.ItemLaws.{import_again, import_written, export_again, export_written}
+use Rattle.comp_format.specs.declared.error.EncodeError.{EncodeError}
+use Rattle.comp_format.specs.declared.types.InstanceItem.{InstanceItem}
+use Rattle.comp_format.specs.declared.types.Alias.{Alias}
+use Rattle.comp_format.specs.Numbers.{FormOf}
+use Rattle.comp_format.specs.Vectors.{ReaderOf}
+use Rattle.comp_format.specs.CoreTypes.{CoreTree, CoreForm, core_text}
+use Rattle.comp_format.specs.Definitions.{TypeTree, DefForm, definition_text}
+use Rattle.comp_format.specs.Parts.{InstanceForm, AliasForm, instance_at, alias_at, instance_text, alias_text}
+use Rattle.comp_format.specs.Items.{ImportTree, ExportTree, ItemTree, CoreTy, Component, Instance, Aliased, Ty, Import, Export, ImportForm, ExportForm, import_at, export_at, import_text, export_text}
+use Rattle.comp_format.specs.Fits.{FitsItem, FitsCore, FitsDefinition, FitsInstance, FitsAlias, FitsImport, FitsExport, IsComponent}
+use Rattle.comp_format.proofs.VectorLaws.{IsComplete}
+use Rattle.comp_format.proofs.PartLaws.{instance_again, instance_written, alias_again, alias_written}
+use Rattle.comp_format.proofs.CoreTypeLaws.{core_again, core_written}
+use Rattle.comp_format.proofs.DefinitionLaws.{definition_again, definition_written}
+use Rattle.comp_format.proofs.ScopeLaws.{core_within, definition_within}
+use Rattle.comp_format.proofs.ItemLaws.{import_again, import_written, export_again, export_written}
 use Rattle.comp_encoder.specs.Writing.{item_id, item_text}
 use Rattle.comp_encoder.specs.Builder.{IsBytesOf, item_of, read_as}
 

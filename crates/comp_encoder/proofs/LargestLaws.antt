@@ -4,10 +4,10 @@ use Rattle.std.specs.Prelude.{IfSome}
 use Rattle.std.specs.List.{AllByRecursion}
 use Rattle.std.specs.Str.{IsUtf8}
 use Rattle.std.proofs.lemmas.List.Elements.{All-from_recursion, recursion_from_All}
-use Rattle.comp_types.specs.declared.types.TypeRef.{TypeRef}
-use Rattle.comp_types.specs.declared.types.TypeRef.TheVariants as description
-use Rattle.comp_types.specs.declared.types.Arg.{Arg}
-use Rattle.comp_types.specs.Fits.{FitsType, FitsArg}
+use Rattle.comp_format.specs.declared.types.TypeRef.{TypeRef}
+use Rattle.comp_format.specs.declared.types.TypeRef.TheVariants as description
+use Rattle.comp_format.specs.declared.types.Arg.{Arg}
+use Rattle.comp_format.specs.Fits.{FitsType, FitsArg}
 use Rattle.comp_encoder.specs.Largest.{largest_among, optional_largest, description_largest, arg_largest}
 
 -- of one value more

@@ -1,11 +1,11 @@
 -- Sections that are given as their bytes.
 use Rattle.std.proofs.Common.{◌≡◌, ℕ, ◌<◌, ◌^◌, List, [], ◌∷◌, ◌++◌, length, refl, sym, ap, ◌∙◌}
 use Rattle.std.proofs.lemmas.List.{append-nil}
-use Rattle.comp_types.specs.Numbers.{number_text}
-use Rattle.comp_types.specs.Sections.{Section, none, more, Framed, ContentForm, Reads, section_id, section_items, content_at, header}
-use Rattle.comp_types.proofs.NumberLaws.{number_written}
-use Rattle.comp_types.proofs.SectionLaws.{section_again}
-use Rattle.comp_types.proofs.ScopeLaws.{section_within}
+use Rattle.comp_format.specs.Numbers.{number_text}
+use Rattle.comp_format.specs.Sections.{Section, none, more, Framed, ContentForm, Reads, section_id, section_items, content_at, header}
+use Rattle.comp_format.proofs.NumberLaws.{number_written}
+use Rattle.comp_format.proofs.SectionLaws.{section_again}
+use Rattle.comp_format.proofs.ScopeLaws.{section_within}
 use Rattle.comp_encoder.specs.Builder.{Whole, IsKept, items_read}
 
 -- a section's content is read as the section

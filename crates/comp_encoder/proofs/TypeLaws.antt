@@ -2,23 +2,23 @@
 use Rattle.std.proofs.Common.{◌≡◌, ℕ, ◌<◌, ◌≤◌, ◌^◌, Bool, List, [], ◌∷◌, length, map, Option, All, arith}
 use Rattle.std.specs.Str.{IsUtf8}
 use Rattle.std.proofs.lemmas.List.{length-map, get_or-map}
-use Rattle.comp_types.specs.declared.core_types.Limits.{Limits}
-use Rattle.comp_types.specs.declared.core_types.CoreDesc.{CoreDesc}
-use Rattle.comp_types.specs.declared.core_types.CoreDesc.TheVariants as core_item
-use Rattle.comp_types.specs.declared.types.ValType.{ValType}
-use Rattle.comp_types.specs.declared.types.ValType.TheVariants as value
-use Rattle.comp_types.specs.declared.types.DefinedType.{DefinedType}
-use Rattle.comp_types.specs.declared.types.DefinedType.TheVariants as defined
-use Rattle.comp_types.specs.declared.types.FuncType.{FuncType}
-use Rattle.comp_types.specs.declared.types.Alias.{Alias}
-use Rattle.comp_types.specs.declared.types.Alias.TheVariants as alias
-use Rattle.comp_types.specs.Types.{label_of}
-use Rattle.comp_types.specs.CoreTypes as core
-use Rattle.comp_types.specs.CoreTypes.{CoreTree, ModuleDeclTree, ModuleDecls}
-use Rattle.comp_types.specs.Definitions as tree
-use Rattle.comp_types.specs.Definitions.{TypeTree, DeclTree, Decls}
-use Rattle.comp_types.specs.Fits.{FitsName, FitsVal, FitsField, FitsCase, FitsLabelled, FitsDefined, FitsFunc, FitsAlias, FitsLimits, FitsCoreDesc, FitsCore, FitsModuleDecl, FitsModule, FitsDefinition, FitsDecl, FitsDecls}
-use Rattle.comp_types.specs.Forms.{AreLabels, IsDefined, IsFunc, IsAlias, IsCoreDesc, IsCore, IsModuleDecl, AreModuleDecls, IsDefinition, IsDecl, AreDecls}
+use Rattle.comp_format.specs.declared.core_types.Limits.{Limits}
+use Rattle.comp_format.specs.declared.core_types.CoreDesc.{CoreDesc}
+use Rattle.comp_format.specs.declared.core_types.CoreDesc.TheVariants as core_item
+use Rattle.comp_format.specs.declared.types.ValType.{ValType}
+use Rattle.comp_format.specs.declared.types.ValType.TheVariants as value
+use Rattle.comp_format.specs.declared.types.DefinedType.{DefinedType}
+use Rattle.comp_format.specs.declared.types.DefinedType.TheVariants as defined
+use Rattle.comp_format.specs.declared.types.FuncType.{FuncType}
+use Rattle.comp_format.specs.declared.types.Alias.{Alias}
+use Rattle.comp_format.specs.declared.types.Alias.TheVariants as alias
+use Rattle.comp_format.specs.Types.{label_of}
+use Rattle.comp_format.specs.CoreTypes as core
+use Rattle.comp_format.specs.CoreTypes.{CoreTree, ModuleDeclTree, ModuleDecls}
+use Rattle.comp_format.specs.Definitions as tree
+use Rattle.comp_format.specs.Definitions.{TypeTree, DeclTree, Decls}
+use Rattle.comp_format.specs.Fits.{FitsName, FitsVal, FitsField, FitsCase, FitsLabelled, FitsDefined, FitsFunc, FitsAlias, FitsLimits, FitsCoreDesc, FitsCore, FitsModuleDecl, FitsModule, FitsDefinition, FitsDecl, FitsDecls}
+use Rattle.comp_format.specs.Forms.{AreLabels, IsDefined, IsFunc, IsAlias, IsCoreDesc, IsCore, IsModuleDecl, AreModuleDecls, IsDefinition, IsDecl, AreDecls}
 use Rattle.comp_encoder.specs.Largest.{vector_largest, alias_largest, value_largest, field_largest, case_largest, defined_largest, func_largest, limits_largest, core_desc_largest, core_largest, module_decl_largest, module_largest, definition_largest, decl_largest, decls_largest}
 use Rattle.comp_encoder.specs.Texts.{HasText, TextsOfDefined, TextsOfFunc, TextsOfAlias, TextsOfCore, TextsOfModuleDecl, TextsOfModule, TextsOfType, TextsOfDecl, TextsOfDecls}
 use Rattle.comp_encoder.proofs.LargestLaws.{each_fits, optional_fits, description_fits}

@@ -2,7 +2,7 @@
 use Rattle.std.proofs.Common.{◌≡◌, ℕ, zero, suc, ◌+◌, ◌-◌, ◌/◌, ◌%◌, ◌<◌, ◌≤◌, [], ◌∷◌, refl, arith}
 use native.Mathlib.Numerals.{unary_clauses}
 use Rattle.std.proofs.lemmas.Bool.{lt-ltb, le-ltb}
-use Rattle.comp_types.specs.Numbers.{leb_text, signed_leb_text}
+use Rattle.comp_format.specs.Numbers.{leb_text, signed_leb_text}
 
 -- a number of one byte
 pub leb_text_last : (most n : ℕ) → 0 < most → n < 128 → leb_text most n ≡ n ∷ []

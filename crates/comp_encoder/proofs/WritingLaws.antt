@@ -4,27 +4,27 @@ use Rattle.std.specs.Prelude.{is_none}
 use Rattle.std.specs.List.{flat_map, AllByRecursion}
 use Rattle.std.proofs.lemmas.Bool.{cases_Bool, eqb-true}
 use Rattle.std.proofs.lemmas.List.{append-nil, length-map}
-use Rattle.comp_types.specs.declared.types.CoreInstance.{CoreInstance}
-use Rattle.comp_types.specs.declared.types.InstanceItem.{InstanceItem}
-use Rattle.comp_types.specs.declared.types.Alias.{Alias}
-use Rattle.comp_types.specs.declared.types.Canon.{Canon}
-use Rattle.comp_types.specs.Fault.{Form}
-use Rattle.comp_types.specs.Numbers.{FormOf, number_text}
-use Rattle.comp_types.specs.Vectors.{Vector, vector_text}
-use Rattle.comp_types.specs.CoreTypes.{CoreTree, CoreForm, core_text}
-use Rattle.comp_types.specs.Definitions.{TypeTree, DefForm, definition_text}
-use Rattle.comp_types.specs.Canons.{CanonForm, canon_text}
-use Rattle.comp_types.specs.Parts.{CoreInstanceForm, InstanceForm, AliasForm, core_instance_text, instance_text, alias_text}
-use Rattle.comp_types.specs.Items.{ImportTree, ExportTree, ItemTree, Custom, CoreModule, CoreMade, CoreTy, Component, Instance, Aliased, Ty, Canonical, Import, Export, ImportForm, ExportForm, import_text, export_text}
-use Rattle.comp_types.specs.Sections.{Section, Named, CoreModules, CoreInstances, CoreTypes, Nested, Instances, Aliases, Types, Canons, Imports, Exports, Sections, none, more, Framed, Whole, ContentForm, SectionsForm, Reads, section_id, section_items, items_in}
-use Rattle.comp_types.specs.Fits.{FitsCoreInstance, FitsCore, FitsInstance, FitsAlias, FitsDefinition, FitsCanon, FitsImport, FitsExport, FitsItem}
-use Rattle.comp_types.proofs.NumberLaws.{number_written}
-use Rattle.comp_types.proofs.VectorLaws.{vector_written, any_name_written}
-use Rattle.comp_types.proofs.PartLaws.{core_instance_written, instance_written, alias_written}
-use Rattle.comp_types.proofs.CoreTypeLaws.{core_written}
-use Rattle.comp_types.proofs.DefinitionLaws.{definition_written}
-use Rattle.comp_types.proofs.CanonLaws.{canon_written}
-use Rattle.comp_types.proofs.ItemLaws.{import_written, export_written}
+use Rattle.comp_format.specs.declared.types.CoreInstance.{CoreInstance}
+use Rattle.comp_format.specs.declared.types.InstanceItem.{InstanceItem}
+use Rattle.comp_format.specs.declared.types.Alias.{Alias}
+use Rattle.comp_format.specs.declared.types.Canon.{Canon}
+use Rattle.comp_format.specs.Fault.{Form}
+use Rattle.comp_format.specs.Numbers.{FormOf, number_text}
+use Rattle.comp_format.specs.Vectors.{Vector, vector_text}
+use Rattle.comp_format.specs.CoreTypes.{CoreTree, CoreForm, core_text}
+use Rattle.comp_format.specs.Definitions.{TypeTree, DefForm, definition_text}
+use Rattle.comp_format.specs.Canons.{CanonForm, canon_text}
+use Rattle.comp_format.specs.Parts.{CoreInstanceForm, InstanceForm, AliasForm, core_instance_text, instance_text, alias_text}
+use Rattle.comp_format.specs.Items.{ImportTree, ExportTree, ItemTree, Custom, CoreModule, CoreMade, CoreTy, Component, Instance, Aliased, Ty, Canonical, Import, Export, ImportForm, ExportForm, import_text, export_text}
+use Rattle.comp_format.specs.Sections.{Section, Named, CoreModules, CoreInstances, CoreTypes, Nested, Instances, Aliases, Types, Canons, Imports, Exports, Sections, none, more, Framed, Whole, ContentForm, SectionsForm, Reads, section_id, section_items, items_in}
+use Rattle.comp_format.specs.Fits.{FitsCoreInstance, FitsCore, FitsInstance, FitsAlias, FitsDefinition, FitsCanon, FitsImport, FitsExport, FitsItem}
+use Rattle.comp_format.proofs.NumberLaws.{number_written}
+use Rattle.comp_format.proofs.VectorLaws.{vector_written, any_name_written}
+use Rattle.comp_format.proofs.PartLaws.{core_instance_written, instance_written, alias_written}
+use Rattle.comp_format.proofs.CoreTypeLaws.{core_written}
+use Rattle.comp_format.proofs.DefinitionLaws.{definition_written}
+use Rattle.comp_format.proofs.CanonLaws.{canon_written}
+use Rattle.comp_format.proofs.ItemLaws.{import_written, export_written}
 use Rattle.comp_encoder.specs.Builder.{IsContentOf}
 use Rattle.comp_encoder.specs.Writing.{Entry, Single, RawSection, Group, IsShort, items_of, item_id, item_text, is_shared, is_plain, alone, joins, joined, groups_of, content_text, group_text, component_text}
 

@@ -3,15 +3,15 @@ use Rattle.std.specs.Prelude.{◌≡◌, ℕ, ◌<◌, ◌^◌, false, List, [],
 use Rattle.std.specs.List.{AllByRecursion}
 use Rattle.comp_encoder.specs.declared.built.Built.{Built}
 use Rattle.comp_encoder.specs.declared.built.Built.TheVariants as built
-use Rattle.comp_types.specs.declared.types.Sort.{Sort}
-use Rattle.comp_types.specs.Fault.{Fault}
-use Rattle.comp_types.specs.CoreTypes.{core_at}
-use Rattle.comp_types.specs.Definitions.{definition_at}
-use Rattle.comp_types.specs.Parts.{instance_at, alias_at}
-use Rattle.comp_types.specs.Items.{ItemTree, Custom, CoreTy, Component, Instance, Aliased, Ty, Import, Export, import_at, export_at}
-use Rattle.comp_types.specs.Sections.{Section, ContentForm, section_id, section_items, content_at}
-use Rattle.comp_types.specs.Fits.{FitsItem}
-use Rattle.comp_types.specs.Spaces.{space_of}
+use Rattle.comp_format.specs.declared.types.Sort.{Sort}
+use Rattle.comp_format.specs.Fault.{Fault}
+use Rattle.comp_format.specs.CoreTypes.{core_at}
+use Rattle.comp_format.specs.Definitions.{definition_at}
+use Rattle.comp_format.specs.Parts.{instance_at, alias_at}
+use Rattle.comp_format.specs.Items.{ItemTree, Custom, CoreTy, Component, Instance, Aliased, Ty, Import, Export, import_at, export_at}
+use Rattle.comp_format.specs.Sections.{Section, ContentForm, section_id, section_items, content_at}
+use Rattle.comp_format.specs.Fits.{FitsItem}
+use Rattle.comp_format.specs.Spaces.{space_of}
 use Rattle.comp_encoder.specs.Writing.{Entry, Single, RawSection, Group, item_id, item_text, is_shared, next_index}
 
 -- what was added, as its bytes: an item with the id of its section, or a section

@@ -1,22 +1,22 @@
 -- The largest length, count or index that is written for a part of a component: what has to be below 2 ^ 32.
 use Rattle.std.specs.Prelude.{ℕ, max, List, [], ◌∷◌, length, Option, Some, None}
-use Rattle.comp_types.specs.declared.core_types.Limits.{Limits}
-use Rattle.comp_types.specs.declared.core_types.CoreDesc.{CoreDesc}
-use Rattle.comp_types.specs.declared.core_types.CoreDesc.TheVariants as core_item
-use Rattle.comp_types.specs.declared.types.ValType.{ValType}
-use Rattle.comp_types.specs.declared.types.ValType.TheVariants as value
-use Rattle.comp_types.specs.declared.types.DefinedType.{DefinedType}
-use Rattle.comp_types.specs.declared.types.DefinedType.TheVariants as defined
-use Rattle.comp_types.specs.declared.types.FuncType.{FuncType}
-use Rattle.comp_types.specs.declared.types.TypeRef.{TypeRef}
-use Rattle.comp_types.specs.declared.types.TypeRef.TheVariants as description
-use Rattle.comp_types.specs.declared.types.Arg.{Arg}
-use Rattle.comp_types.specs.declared.types.Alias.{Alias}
-use Rattle.comp_types.specs.declared.types.Alias.TheVariants as alias
-use Rattle.comp_types.specs.CoreTypes as core
-use Rattle.comp_types.specs.CoreTypes.{CoreTree, ModuleDeclTree, ModuleDecls, module_count}
-use Rattle.comp_types.specs.Definitions as tree
-use Rattle.comp_types.specs.Definitions.{TypeTree, DeclTree, Decls, decl_count}
+use Rattle.comp_format.specs.declared.core_types.Limits.{Limits}
+use Rattle.comp_format.specs.declared.core_types.CoreDesc.{CoreDesc}
+use Rattle.comp_format.specs.declared.core_types.CoreDesc.TheVariants as core_item
+use Rattle.comp_format.specs.declared.types.ValType.{ValType}
+use Rattle.comp_format.specs.declared.types.ValType.TheVariants as value
+use Rattle.comp_format.specs.declared.types.DefinedType.{DefinedType}
+use Rattle.comp_format.specs.declared.types.DefinedType.TheVariants as defined
+use Rattle.comp_format.specs.declared.types.FuncType.{FuncType}
+use Rattle.comp_format.specs.declared.types.TypeRef.{TypeRef}
+use Rattle.comp_format.specs.declared.types.TypeRef.TheVariants as description
+use Rattle.comp_format.specs.declared.types.Arg.{Arg}
+use Rattle.comp_format.specs.declared.types.Alias.{Alias}
+use Rattle.comp_format.specs.declared.types.Alias.TheVariants as alias
+use Rattle.comp_format.specs.CoreTypes as core
+use Rattle.comp_format.specs.CoreTypes.{CoreTree, ModuleDeclTree, ModuleDecls, module_count}
+use Rattle.comp_format.specs.Definitions as tree
+use Rattle.comp_format.specs.Definitions.{TypeTree, DeclTree, Decls, decl_count}
 
 -- of some values, and of a vector of them, which is their number too
 abbrev pub largest_among : {X : Type 0} → (X → ℕ) → List X → ℕ

@@ -1,15 +1,15 @@
 -- That the names in a type are UTF-8, as texts are.
 use Rattle.std.specs.Prelude.{ℕ, List, All}
 use Rattle.std.specs.Str.{IsUtf8}
-use Rattle.comp_types.specs.declared.types.DefinedType.{DefinedType}
-use Rattle.comp_types.specs.declared.types.DefinedType.TheVariants as defined
-use Rattle.comp_types.specs.declared.types.FuncType.{FuncType}
-use Rattle.comp_types.specs.declared.types.Alias.{Alias}
-use Rattle.comp_types.specs.declared.types.Alias.TheVariants as alias
-use Rattle.comp_types.specs.CoreTypes as core
-use Rattle.comp_types.specs.CoreTypes.{CoreTree, ModuleDeclTree, ModuleDecls}
-use Rattle.comp_types.specs.Definitions as tree
-use Rattle.comp_types.specs.Definitions.{TypeTree, DeclTree, Decls}
+use Rattle.comp_format.specs.declared.types.DefinedType.{DefinedType}
+use Rattle.comp_format.specs.declared.types.DefinedType.TheVariants as defined
+use Rattle.comp_format.specs.declared.types.FuncType.{FuncType}
+use Rattle.comp_format.specs.declared.types.Alias.{Alias}
+use Rattle.comp_format.specs.declared.types.Alias.TheVariants as alias
+use Rattle.comp_format.specs.CoreTypes as core
+use Rattle.comp_format.specs.CoreTypes.{CoreTree, ModuleDeclTree, ModuleDecls}
+use Rattle.comp_format.specs.Definitions as tree
+use Rattle.comp_format.specs.Definitions.{TypeTree, DeclTree, Decls}
 
 -- the label of a part
 abbrev pub HasText : {X : Type 0} → List ℕ × X → Type 0

@@ -3,24 +3,24 @@
 -- its own, as has a section that was given as its bytes.
 use Rattle.std.specs.Prelude.{◌≡◌, ℕ, ◌<◌, ◌^◌, Bool, false, List, [], ◌∷◌, ◌++◌, length, Option, Some, None, is_none, unwrap_or, ◌==◌, ◌&&◌, ◌||◌, ◌⊎◌, ◌≤◌, if◌then◌else◌, count_by, Contains}
 use Rattle.std.specs.List.{flat_map}
-use Rattle.comp_types.specs.declared.types.CoreSort.TheVariants as core
-use Rattle.comp_types.specs.declared.types.Sort.{Sort}
-use Rattle.comp_types.specs.declared.types.Sort.TheVariants as sort
-use Rattle.comp_types.specs.declared.types.TypeRef.{TypeRef}
-use Rattle.comp_types.specs.declared.types.TypeRef.TheVariants as description
-use Rattle.comp_types.specs.declared.types.Alias.{Alias}
-use Rattle.comp_types.specs.declared.types.Alias.TheVariants as alias
-use Rattle.comp_types.specs.declared.types.Canon.{Canon}
-use Rattle.comp_types.specs.declared.types.Canon.TheVariants as canon
-use Rattle.comp_types.specs.Spaces.{space_of}
-use Rattle.comp_types.specs.Numbers.{number_text}
-use Rattle.comp_types.specs.Vectors.{vector_text, name_text}
-use Rattle.comp_types.specs.CoreTypes.{core_text}
-use Rattle.comp_types.specs.Definitions.{definition_text}
-use Rattle.comp_types.specs.Canons.{canon_text}
-use Rattle.comp_types.specs.Parts.{core_instance_text, instance_text, alias_text}
-use Rattle.comp_types.specs.Items.{ItemTree, Custom, CoreModule, CoreMade, CoreTy, Component, Instance, Aliased, Ty, Canonical, Import, Export, import_text, export_text}
-use Rattle.comp_types.specs.Sections.{header}
+use Rattle.comp_format.specs.declared.types.CoreSort.TheVariants as core
+use Rattle.comp_format.specs.declared.types.Sort.{Sort}
+use Rattle.comp_format.specs.declared.types.Sort.TheVariants as sort
+use Rattle.comp_format.specs.declared.types.TypeRef.{TypeRef}
+use Rattle.comp_format.specs.declared.types.TypeRef.TheVariants as description
+use Rattle.comp_format.specs.declared.types.Alias.{Alias}
+use Rattle.comp_format.specs.declared.types.Alias.TheVariants as alias
+use Rattle.comp_format.specs.declared.types.Canon.{Canon}
+use Rattle.comp_format.specs.declared.types.Canon.TheVariants as canon
+use Rattle.comp_format.specs.Spaces.{space_of}
+use Rattle.comp_format.specs.Numbers.{number_text}
+use Rattle.comp_format.specs.Vectors.{vector_text, name_text}
+use Rattle.comp_format.specs.CoreTypes.{core_text}
+use Rattle.comp_format.specs.Definitions.{definition_text}
+use Rattle.comp_format.specs.Canons.{canon_text}
+use Rattle.comp_format.specs.Parts.{core_instance_text, instance_text, alias_text}
+use Rattle.comp_format.specs.Items.{ItemTree, Custom, CoreModule, CoreMade, CoreTy, Component, Instance, Aliased, Ty, Canonical, Import, Export, import_text, export_text}
+use Rattle.comp_format.specs.Sections.{header}
 
 -- what is added to a component: an item, or a section as its id and content, with the items that it holds
 pub data Entry : Type 0 where

@@ -2,20 +2,20 @@
 
 ghost use Rattle.std.specs.Prelude.{◌≡◌, ◌<◌, ◌≤◌, ◌+◌, ◌^◌, ◌++◌, ◌∷◌, ◌⊎◌, [], ℕ, List, length, All, Some, OnOk, OnErr, IfOk, IfErr, Err, None, option_map, true, false};
 ghost use Rattle.std.specs.List.{AllByRecursion};
-ghost use Rattle.comp_types.specs.declared.types.CoreSort.TheVariants as core_sort;
-ghost use Rattle.comp_types.specs.declared.types.Sort.{Sort as sort_of_item};
-ghost use Rattle.comp_types.specs.declared.types.Sort.TheVariants as sort;
-ghost use Rattle.comp_types.specs.declared.types.InstanceItem.TheVariants as instance;
-ghost use Rattle.comp_types.specs.declared.types.Alias.TheVariants as alias;
-ghost use Rattle.comp_types.specs.Parts.{is_outer};
-ghost use Rattle.comp_types.specs.CoreTypes as core_tree;
-ghost use Rattle.comp_types.specs.Definitions as tree;
-ghost use Rattle.comp_types.specs.Views.{module_tree, instance_type_tree, component_type_tree};
-ghost use Rattle.comp_types.specs.Items.{ItemTree, CoreTy, Component, Instance, Aliased, Ty, Import, Export};
-ghost use Rattle.comp_types.specs.Sections.{Reads};
-ghost use Rattle.comp_types.specs.Fits.{IsComponent};
-ghost use Rattle.comp_types.specs.Forms.{IsDefined, IsFunc, AreDecls, AreModuleDecls};
-ghost use Rattle.comp_types.specs.Spaces.{space_of};
+ghost use Rattle.comp_format.specs.declared.types.CoreSort.TheVariants as core_sort;
+ghost use Rattle.comp_format.specs.declared.types.Sort.{Sort as sort_of_item};
+ghost use Rattle.comp_format.specs.declared.types.Sort.TheVariants as sort;
+ghost use Rattle.comp_format.specs.declared.types.InstanceItem.TheVariants as instance;
+ghost use Rattle.comp_format.specs.declared.types.Alias.TheVariants as alias;
+ghost use Rattle.comp_format.specs.Parts.{is_outer};
+ghost use Rattle.comp_format.specs.CoreTypes as core_tree;
+ghost use Rattle.comp_format.specs.Definitions as tree;
+ghost use Rattle.comp_format.specs.Views.{module_tree, instance_type_tree, component_type_tree};
+ghost use Rattle.comp_format.specs.Items.{ItemTree, CoreTy, Component, Instance, Aliased, Ty, Import, Export};
+ghost use Rattle.comp_format.specs.Sections.{Reads};
+ghost use Rattle.comp_format.specs.Fits.{IsComponent};
+ghost use Rattle.comp_format.specs.Forms.{IsDefined, IsFunc, AreDecls, AreModuleDecls};
+ghost use Rattle.comp_format.specs.Spaces.{space_of};
 ghost use Rattle.comp_encoder.specs.Largest.{vector_largest, arg_largest, defined_largest, func_largest, core_largest, definition_largest};
 ghost use Rattle.comp_encoder.specs.Writing.{Single, RawSection, numbered, IsTooLongAmong, IsShort, items_of, described_sort, item_sort, groups_of, component_text, next_index};
 ghost use Rattle.comp_encoder.specs.Builder.{IsBytesOf, IsContent, IsContentOf, item_of, entries_of};
@@ -29,7 +29,7 @@ use crate::items::{
 };
 use crate::raw::{HEADER, count_section};
 use crate::spaces::{described_sort, space_of};
-use comp_types::{
+use comp_format::{
     Arg, ComponentType, CoreSort, DefinedType, EncodeError, FuncType, InstanceType, ModuleType,
     Sort, TypeRef,
 };

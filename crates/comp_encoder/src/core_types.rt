@@ -1,17 +1,17 @@
 //! Core types as bytes.
 
 ghost use Rattle.std.specs.Prelude.{◌≡◌, ◌++◌, length, map, max, OnOk};
-ghost use Rattle.comp_types.specs.Numbers.{number_text};
-ghost use Rattle.comp_types.specs.CoreTypes as tree;
-ghost use Rattle.comp_types.specs.CoreTypes.{core_value_code, mutable_code, module_decls, limits_text, core_value_text, core_desc_text, core_text, module_decl_text, module_text};
-ghost use Rattle.comp_types.specs.Views.{core_tree, module_decl_tree, module_tree};
+ghost use Rattle.comp_format.specs.Numbers.{number_text};
+ghost use Rattle.comp_format.specs.CoreTypes as tree;
+ghost use Rattle.comp_format.specs.CoreTypes.{core_value_code, mutable_code, module_decls, limits_text, core_value_text, core_desc_text, core_text, module_decl_text, module_text};
+ghost use Rattle.comp_format.specs.Views.{core_tree, module_decl_tree, module_tree};
 ghost use Rattle.comp_encoder.specs.Largest.{limits_largest, core_desc_largest, core_largest, module_decl_largest, module_largest};
 ghost use Rattle.comp_encoder.specs.Texts.{TextsOfCore, TextsOfModuleDecl, TextsOfModule};
 
 use crate::parts::{Encode, write_marked, write_vector};
 use crate::sink::Sink;
-use comp_types::{CoreDesc, CoreType, CoreVal, Limits, ModuleDecl, ModuleType};
-use warg_base::Memory;
+use comp_format::{CoreDesc, CoreType, CoreVal, Limits, ModuleDecl, ModuleType};
+use warg_values::Memory;
 
 fn code_of(value: CoreVal) -> u8
     ensures { result ≡ core_value_code value }
@@ -84,7 +84,7 @@ fn write_core_desc(out: &mut Sink, desc: CoreDesc) -> Result<(), Memory>
 
 /// A core type.
 #[cycle(core_writing)]
-#[tactic(auto, using(comp_types::proofs::ViewLaws::core_func, comp_types::proofs::ViewLaws::core_module, crate::proofs::LargestLaws::none_among), unfolding(comp_types::specs::CoreTypes::core_text, crate::specs::Largest::core_largest, crate::specs::Texts::TextsOfCore))]
+#[tactic(auto, using(comp_format::proofs::ViewLaws::core_func, comp_format::proofs::ViewLaws::core_module, crate::proofs::LargestLaws::none_among), unfolding(comp_format::specs::CoreTypes::core_text, crate::specs::Largest::core_largest, crate::specs::Texts::TextsOfCore))]
 pub fn write_core(out: &mut Sink, ty: &CoreType) -> Result<(), Memory>
     ensures text { OnOk result (out.new.bytes.items ≡ out.old.bytes.items ++ core_text (core_tree ty.now)) }
     ensures largest { OnOk result (out.new.largest ≡ max out.old.largest (core_largest (core_tree ty.now))) }
@@ -103,7 +103,7 @@ pub fn write_core(out: &mut Sink, ty: &CoreType) -> Result<(), Memory>
 
 /// A type of core modules.
 #[cycle(core_writing)]
-#[tactic(auto, using(comp_types::proofs::ViewLaws::module_is, comp_types::proofs::ViewLaws::modules_counted), unfolding(comp_types::specs::CoreTypes::core_text, crate::specs::Largest::core_largest, crate::specs::Texts::TextsOfCore))]
+#[tactic(auto, using(comp_format::proofs::ViewLaws::module_is, comp_format::proofs::ViewLaws::modules_counted), unfolding(comp_format::specs::CoreTypes::core_text, crate::specs::Largest::core_largest, crate::specs::Texts::TextsOfCore))]
 pub fn write_module(out: &mut Sink, ty: &ModuleType) -> Result<(), Memory>
     ensures text { OnOk result (out.new.bytes.items ≡ out.old.bytes.items ++ core_text (tree.Module (module_tree ty.now))) }
     ensures largest { OnOk result (out.new.largest ≡ max out.old.largest (core_largest (tree.Module (module_tree ty.now)))) }
@@ -116,7 +116,7 @@ pub fn write_module(out: &mut Sink, ty: &ModuleType) -> Result<(), Memory>
 
 /// How many declarations there are, and the declarations.
 #[cycle(core_writing)]
-#[tactic(auto, unfolding(comp_types::specs::CoreTypes::module_text, crate::specs::Largest::module_largest, crate::specs::Texts::TextsOfModule))]
+#[tactic(auto, unfolding(comp_format::specs::CoreTypes::module_text, crate::specs::Largest::module_largest, crate::specs::Texts::TextsOfModule))]
 fn write_module_decls(out: &mut Sink, decls: &[ModuleDecl]) -> Result<(), Memory>
     ensures text { OnOk result (out.new.bytes.items ≡ out.old.bytes.items ++ (number_text (length decls.now) ++ module_text (module_decls (map module_decl_tree decls.now)))) }
     ensures largest { OnOk result (out.new.largest ≡ max out.old.largest (max (length decls.now) (module_largest (module_decls (map module_decl_tree decls.now))))) }
@@ -131,7 +131,7 @@ fn write_module_decls(out: &mut Sink, decls: &[ModuleDecl]) -> Result<(), Memory
 
 /// A declaration of a type of core modules.
 #[cycle(core_writing)]
-#[tactic(auto, using(comp_types::proofs::ViewLaws::module_decl_import, comp_types::proofs::ViewLaws::module_decl_core_ty, comp_types::proofs::ViewLaws::module_decl_alias, comp_types::proofs::ViewLaws::module_decl_export), unfolding(comp_types::specs::CoreTypes::module_decl_text, crate::specs::Largest::module_decl_largest, crate::specs::Texts::TextsOfModuleDecl))]
+#[tactic(auto, using(comp_format::proofs::ViewLaws::module_decl_import, comp_format::proofs::ViewLaws::module_decl_core_ty, comp_format::proofs::ViewLaws::module_decl_alias, comp_format::proofs::ViewLaws::module_decl_export), unfolding(comp_format::specs::CoreTypes::module_decl_text, crate::specs::Largest::module_decl_largest, crate::specs::Texts::TextsOfModuleDecl))]
 fn write_module_decl(out: &mut Sink, decl: &ModuleDecl) -> Result<(), Memory>
     ensures text { OnOk result (out.new.bytes.items ≡ out.old.bytes.items ++ module_decl_text (module_decl_tree decl.now)) }
     ensures largest { OnOk result (out.new.largest ≡ max out.old.largest (module_decl_largest (module_decl_tree decl.now))) }

@@ -1,12 +1,12 @@
 //! Types that components define as bytes.
 
 ghost use Rattle.std.specs.Prelude.{◌≡◌, ◌++◌, length, map, max, OnOk};
-ghost use Rattle.comp_types.specs.Numbers.{number_text};
-ghost use Rattle.comp_types.specs.Vectors.{optional_text};
-ghost use Rattle.comp_types.specs.Parts.{alias_text};
-ghost use Rattle.comp_types.specs.Definitions as tree;
-ghost use Rattle.comp_types.specs.Definitions.{decls_of, definition_text, decl_text, decls_text};
-ghost use Rattle.comp_types.specs.Views.{type_tree, decl_tree, component_type_tree, instance_type_tree};
+ghost use Rattle.comp_format.specs.Numbers.{number_text};
+ghost use Rattle.comp_format.specs.Vectors.{optional_text};
+ghost use Rattle.comp_format.specs.Parts.{alias_text};
+ghost use Rattle.comp_format.specs.Definitions as tree;
+ghost use Rattle.comp_format.specs.Definitions.{decls_of, definition_text, decl_text, decls_text};
+ghost use Rattle.comp_format.specs.Views.{type_tree, decl_tree, component_type_tree, instance_type_tree};
 ghost use Rattle.comp_encoder.specs.Largest.{optional_largest, alias_largest, definition_largest, decl_largest, decls_largest};
 ghost use Rattle.comp_encoder.specs.Texts.{TextsOfAlias, TextsOfType, TextsOfDecl, TextsOfDecls};
 
@@ -14,8 +14,8 @@ use crate::core_types::write_core;
 use crate::parts::{write_description, write_marked, write_sort};
 use crate::sink::Sink;
 use crate::values::{write_defined, write_func};
-use comp_types::{Alias, ComponentType, Decl, DefType, InstanceType, Sort};
-use warg_base::Memory;
+use comp_format::{Alias, ComponentType, Decl, DefType, InstanceType, Sort};
+use warg_values::Memory;
 
 fn write_alias(out: &mut Sink, alias: &Alias) -> Result<(), Memory>
     ensures text { OnOk result (out.new.bytes.items ≡ out.old.bytes.items ++ alias_text alias.now) }
@@ -64,7 +64,7 @@ fn write_optional(out: &mut Sink, index: Option<u32>) -> Result<(), Memory>
 
 /// A type.
 #[cycle(writing)]
-#[tactic(auto, using(comp_types::proofs::ViewLaws::type_defined, comp_types::proofs::ViewLaws::type_func, comp_types::proofs::ViewLaws::type_component, comp_types::proofs::ViewLaws::type_instance, comp_types::proofs::ViewLaws::type_resource), unfolding(comp_types::specs::Definitions::definition_text, crate::specs::Largest::definition_largest, crate::specs::Texts::TextsOfType))]
+#[tactic(auto, using(comp_format::proofs::ViewLaws::type_defined, comp_format::proofs::ViewLaws::type_func, comp_format::proofs::ViewLaws::type_component, comp_format::proofs::ViewLaws::type_instance, comp_format::proofs::ViewLaws::type_resource), unfolding(comp_format::specs::Definitions::definition_text, crate::specs::Largest::definition_largest, crate::specs::Texts::TextsOfType))]
 pub fn write_type(out: &mut Sink, ty: &DefType) -> Result<(), Memory>
     ensures text { OnOk result (out.new.bytes.items ≡ out.old.bytes.items ++ definition_text (type_tree ty.now)) }
     ensures largest { OnOk result (out.new.largest ≡ max out.old.largest (definition_largest (type_tree ty.now))) }
@@ -88,7 +88,7 @@ pub fn write_type(out: &mut Sink, ty: &DefType) -> Result<(), Memory>
 
 /// A type of components.
 #[cycle(writing)]
-#[tactic(auto, using(comp_types::proofs::ViewLaws::component_is, comp_types::proofs::ViewLaws::component_counted), unfolding(comp_types::specs::Definitions::definition_text, crate::specs::Largest::definition_largest, crate::specs::Texts::TextsOfType))]
+#[tactic(auto, using(comp_format::proofs::ViewLaws::component_is, comp_format::proofs::ViewLaws::component_counted), unfolding(comp_format::specs::Definitions::definition_text, crate::specs::Largest::definition_largest, crate::specs::Texts::TextsOfType))]
 pub fn write_component(out: &mut Sink, ty: &ComponentType) -> Result<(), Memory>
     ensures text { OnOk result (out.new.bytes.items ≡ out.old.bytes.items ++ definition_text (tree.Component (component_type_tree ty.now))) }
     ensures largest { OnOk result (out.new.largest ≡ max out.old.largest (definition_largest (tree.Component (component_type_tree ty.now)))) }
@@ -101,7 +101,7 @@ pub fn write_component(out: &mut Sink, ty: &ComponentType) -> Result<(), Memory>
 
 /// A type of instances.
 #[cycle(writing)]
-#[tactic(auto, using(comp_types::proofs::ViewLaws::instance_is, comp_types::proofs::ViewLaws::instance_counted), unfolding(comp_types::specs::Definitions::definition_text, crate::specs::Largest::definition_largest, crate::specs::Texts::TextsOfType))]
+#[tactic(auto, using(comp_format::proofs::ViewLaws::instance_is, comp_format::proofs::ViewLaws::instance_counted), unfolding(comp_format::specs::Definitions::definition_text, crate::specs::Largest::definition_largest, crate::specs::Texts::TextsOfType))]
 pub fn write_instance(out: &mut Sink, ty: &InstanceType) -> Result<(), Memory>
     ensures text { OnOk result (out.new.bytes.items ≡ out.old.bytes.items ++ definition_text (tree.Instance (instance_type_tree ty.now))) }
     ensures largest { OnOk result (out.new.largest ≡ max out.old.largest (definition_largest (tree.Instance (instance_type_tree ty.now)))) }
@@ -114,7 +114,7 @@ pub fn write_instance(out: &mut Sink, ty: &InstanceType) -> Result<(), Memory>
 
 /// How many declarations there are, and the declarations.
 #[cycle(writing)]
-#[tactic(auto, unfolding(comp_types::specs::Definitions::decls_text, crate::specs::Largest::decls_largest, crate::specs::Texts::TextsOfDecls))]
+#[tactic(auto, unfolding(comp_format::specs::Definitions::decls_text, crate::specs::Largest::decls_largest, crate::specs::Texts::TextsOfDecls))]
 fn write_decls(out: &mut Sink, decls: &[Decl]) -> Result<(), Memory>
     ensures text { OnOk result (out.new.bytes.items ≡ out.old.bytes.items ++ (number_text (length decls.now) ++ decls_text (decls_of (map decl_tree decls.now)))) }
     ensures largest { OnOk result (out.new.largest ≡ max out.old.largest (max (length decls.now) (decls_largest (decls_of (map decl_tree decls.now))))) }
@@ -129,7 +129,7 @@ fn write_decls(out: &mut Sink, decls: &[Decl]) -> Result<(), Memory>
 
 /// A declaration.
 #[cycle(writing)]
-#[tactic(auto, using(comp_types::proofs::ViewLaws::decl_core_ty, comp_types::proofs::ViewLaws::decl_ty, comp_types::proofs::ViewLaws::decl_alias, comp_types::proofs::ViewLaws::decl_import, comp_types::proofs::ViewLaws::decl_export), unfolding(comp_types::specs::Definitions::decl_text, crate::specs::Largest::decl_largest, crate::specs::Texts::TextsOfDecl))]
+#[tactic(auto, using(comp_format::proofs::ViewLaws::decl_core_ty, comp_format::proofs::ViewLaws::decl_ty, comp_format::proofs::ViewLaws::decl_alias, comp_format::proofs::ViewLaws::decl_import, comp_format::proofs::ViewLaws::decl_export), unfolding(comp_format::specs::Definitions::decl_text, crate::specs::Largest::decl_largest, crate::specs::Texts::TextsOfDecl))]
 fn write_decl(out: &mut Sink, decl: &Decl) -> Result<(), Memory>
     ensures text { OnOk result (out.new.bytes.items ≡ out.old.bytes.items ++ decl_text (decl_tree decl.now)) }
     ensures largest { OnOk result (out.new.largest ≡ max out.old.largest (decl_largest (decl_tree decl.now))) }

@@ -2,15 +2,15 @@
 
 ghost use Rattle.std.specs.Prelude.{◌≡◌, ◌<◌, ◌≤◌, ◌^◌, ◌++◌, ◌∷◌, ℕ, length, take, drop, OnOk, IfOk, Err, false};
 ghost use Rattle.std.specs.List.{flat_map, AllByRecursion};
-ghost use Rattle.comp_types.specs.Numbers.{number_text};
+ghost use Rattle.comp_format.specs.Numbers.{number_text};
 ghost use Rattle.comp_encoder.specs.Builder.{IsKept, IsItem, IsRun, EndsRun, kept, kepts_of, kept_bytes, entries_of, first_group, shared_group};
 ghost use Rattle.comp_encoder.specs.Writing.{IsTooLong, IsTooLongAmong, IsShort, is_shared, is_plain, group_text, groups_of};
 
 use crate::built::Built;
 use crate::sink::write_number;
-use comp_types::EncodeError;
+use comp_format::EncodeError;
 use std::alloc::Global;
-use warg_base::Memory;
+use warg_values::Memory;
 
 /// A length as the format writes it.
 pub fn short(length: usize) -> Result<u32, EncodeError>

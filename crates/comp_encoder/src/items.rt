@@ -1,15 +1,15 @@
 //! Items as their bytes. `TooLarge` has the largest length, count or index of an item, where that is above 2^32 - 1.
 
 ghost use Rattle.std.specs.Prelude.{◌≡◌, ◌<◌, ◌≤◌, ◌^◌, ℕ, length, All, OnOk, IfOk, Err, None, true, false};
-ghost use Rattle.comp_types.specs.declared.types.InstanceItem.TheVariants as instance;
-ghost use Rattle.comp_types.specs.declared.types.Alias.TheVariants as alias;
-ghost use Rattle.comp_types.specs.Parts.{is_outer};
-ghost use Rattle.comp_types.specs.CoreTypes as core_tree;
-ghost use Rattle.comp_types.specs.Definitions as tree;
-ghost use Rattle.comp_types.specs.Views.{module_tree, instance_type_tree, component_type_tree};
-ghost use Rattle.comp_types.specs.Items.{CoreTy, Component, Instance, Aliased, Ty, Import, Export};
-ghost use Rattle.comp_types.specs.Fits.{IsComponent};
-ghost use Rattle.comp_types.specs.Forms.{IsDefined, IsFunc, AreDecls, AreModuleDecls};
+ghost use Rattle.comp_format.specs.declared.types.InstanceItem.TheVariants as instance;
+ghost use Rattle.comp_format.specs.declared.types.Alias.TheVariants as alias;
+ghost use Rattle.comp_format.specs.Parts.{is_outer};
+ghost use Rattle.comp_format.specs.CoreTypes as core_tree;
+ghost use Rattle.comp_format.specs.Definitions as tree;
+ghost use Rattle.comp_format.specs.Views.{module_tree, instance_type_tree, component_type_tree};
+ghost use Rattle.comp_format.specs.Items.{CoreTy, Component, Instance, Aliased, Ty, Import, Export};
+ghost use Rattle.comp_format.specs.Fits.{IsComponent};
+ghost use Rattle.comp_format.specs.Forms.{IsDefined, IsFunc, AreDecls, AreModuleDecls};
 ghost use Rattle.comp_encoder.specs.Largest.{vector_largest, arg_largest, defined_largest, func_largest, core_largest, definition_largest};
 ghost use Rattle.comp_encoder.specs.Builder.{IsBytesOf};
 
@@ -19,7 +19,7 @@ use crate::groups::short;
 use crate::parts::{write_description, write_marked, write_optional, write_sort, write_vector};
 use crate::sink::Sink;
 use crate::values::{write_defined, write_func};
-use comp_types::{
+use comp_format::{
     Arg, ComponentType, DefinedType, EncodeError, FuncType, InstanceType, ModuleType, Sort, TypeRef,
 };
 use std::alloc::Global;

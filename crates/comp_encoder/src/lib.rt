@@ -1,7 +1,7 @@
 //! A builder that writes WebAssembly components as bytes.
 //!
 //! The binary format is that of the Component Model's `Binary.md`. What items and types are, and what their bytes are,
-//! stands in the crate `comp_types`.
+//! stands in the crate `comp_format`.
 #![tactic(auto)]
 
 mod builder;
@@ -19,7 +19,7 @@ mod tests;
 mod values;
 
 pub use builder::ComponentBuilder;
-pub use comp_types::{
+pub use comp_format::{
     Alias, Arg, Canon, CanonOption, ComponentType, CoreDesc, CoreInstance, CoreSort, CoreType,
     CoreVal, Decl, DefType, DefinedType, EncodeError, FuncType, InstanceItem, InstanceType, Item,
     Limits, ModuleDecl, ModuleType, Primitive, Sort, TypeRef, ValType,

@@ -2,14 +2,14 @@
 
 ghost use Rattle.std.specs.Prelude.{◌≡◌, ◌++◌, List, ℕ, max, All, OnOk};
 ghost use Rattle.std.specs.Str.{IsUtf8};
-ghost use Rattle.comp_types.specs.Numbers.{number_text};
-ghost use Rattle.comp_types.specs.Vectors.{vector_text, optional_text};
-ghost use Rattle.comp_types.specs.Parts.{core_sort_code, sort_text, description_text, arg_text};
+ghost use Rattle.comp_format.specs.Numbers.{number_text};
+ghost use Rattle.comp_format.specs.Vectors.{vector_text, optional_text};
+ghost use Rattle.comp_format.specs.Parts.{core_sort_code, sort_text, description_text, arg_text};
 ghost use Rattle.comp_encoder.specs.Largest.{vector_largest, optional_largest, description_largest, arg_largest};
 
 use crate::sink::Sink;
-use comp_types::{Arg, CoreSort, Sort, TypeRef};
-use warg_base::Memory;
+use comp_format::{Arg, CoreSort, Sort, TypeRef};
+use warg_values::Memory;
 
 /// What is written as bytes.
 pub trait Encode {

@@ -1,19 +1,19 @@
 //! Sections that are given as their bytes.
 
 ghost use Rattle.std.specs.Prelude.{◌≡◌, ◌<◌, ◌≤◌, ◌+◌, ◌^◌, ◌++◌, ◌∷◌, ◌⊎◌, ℕ, length, List, map, slice_index, OnOk, IfOk, IfErr, Err};
-ghost use Rattle.comp_types.specs.declared.types.Sort.{Sort as sort};
-ghost use Rattle.comp_types.specs.Numbers.{number_text};
-ghost use Rattle.comp_types.specs.Items.{ItemTree, item_tree};
-ghost use Rattle.comp_types.specs.Sections.{Reads, header};
-ghost use Rattle.comp_types.specs.Fits.{IsComponent};
+ghost use Rattle.comp_format.specs.declared.types.Sort.{Sort as sort};
+ghost use Rattle.comp_format.specs.Numbers.{number_text};
+ghost use Rattle.comp_format.specs.Items.{ItemTree, item_tree};
+ghost use Rattle.comp_format.specs.Sections.{Reads, header};
+ghost use Rattle.comp_format.specs.Fits.{IsComponent};
 ghost use Rattle.comp_encoder.specs.Builder.{IsContent, IsContentOf};
 ghost use Rattle.comp_encoder.specs.Writing.{numbered};
-ghost use Rattle.comp_types.specs.Spaces.{space_of};
+ghost use Rattle.comp_format.specs.Spaces.{space_of};
 
 use crate::groups::write_section;
 use crate::spaces::{sort_of, space_of};
+use comp_format::{EncodeError, Item};
 use comp_reader::read_items;
-use comp_types::{EncodeError, Item};
 use std::alloc::Global;
 
 /// The magic bytes, the version and the layer of a component.

@@ -2,12 +2,12 @@
 
 ghost use Rattle.std.specs.Prelude.{◌≡◌, ◌++◌, ◌<◌, ◌≤◌, ◌^◌, ℕ, [], length, max, OnOk, IfOk, Err};
 ghost use Rattle.std.specs.Str.{IsUtf8};
-ghost use Rattle.comp_types.specs.Numbers.{leb_text, number_text, signed_leb_text, signed_index_text};
-ghost use Rattle.comp_types.specs.Vectors.{name_text};
+ghost use Rattle.comp_format.specs.Numbers.{leb_text, number_text, signed_leb_text, signed_index_text};
+ghost use Rattle.comp_format.specs.Vectors.{name_text};
 
-use comp_types::EncodeError;
+use comp_format::EncodeError;
 use std::alloc::Global;
-use warg_base::Memory;
+use warg_values::Memory;
 
 /// Bytes, and the largest length, count or index that was written among them.
 ///
@@ -19,7 +19,7 @@ pub struct Sink {
 }
 
 /// LEB128 in at most so many bytes.
-#[tactic(auto, using(crate::proofs::WriteLaws::leb_text_last, crate::proofs::WriteLaws::leb_text_next), unfolding(comp_types::specs::Numbers::leb_text))]
+#[tactic(auto, using(crate::proofs::WriteLaws::leb_text_last, crate::proofs::WriteLaws::leb_text_next), unfolding(comp_format::specs::Numbers::leb_text))]
 fn write_leb(out: &mut Vec<u8>, most: u8, number: u64) -> Result<(), Memory>
     ensures { OnOk result (out.new.items ≡ out.old.items ++ leb_text most number) }
 {
@@ -36,7 +36,7 @@ fn write_leb(out: &mut Vec<u8>, most: u8, number: u64) -> Result<(), Memory>
 }
 
 /// A number in its shortest spelling.
-#[tactic(auto, unfolding(comp_types::specs::Numbers::number_text))]
+#[tactic(auto, unfolding(comp_format::specs::Numbers::number_text))]
 pub fn write_number(out: &mut Vec<u8>, number: u64) -> Result<(), Memory>
     ensures { OnOk result (out.new.items ≡ out.old.items ++ number_text number) }
 {
@@ -45,7 +45,7 @@ pub fn write_number(out: &mut Vec<u8>, number: u64) -> Result<(), Memory>
 }
 
 /// Signed LEB128 of a number from 0 on, in at most so many bytes.
-#[tactic(auto, using(crate::proofs::WriteLaws::signed_leb_text_last, crate::proofs::WriteLaws::signed_leb_text_next), unfolding(comp_types::specs::Numbers::signed_leb_text))]
+#[tactic(auto, using(crate::proofs::WriteLaws::signed_leb_text_last, crate::proofs::WriteLaws::signed_leb_text_next), unfolding(comp_format::specs::Numbers::signed_leb_text))]
 fn write_signed_leb(out: &mut Vec<u8>, most: u8, number: u64) -> Result<(), Memory>
     ensures { OnOk result (out.new.items ≡ out.old.items ++ signed_leb_text most number) }
 {
@@ -92,7 +92,7 @@ impl Sink {
     }
 
     /// The index of a type, as a value type has it.
-    #[tactic(auto, unfolding(comp_types::specs::Numbers::signed_index_text))]
+    #[tactic(auto, unfolding(comp_format::specs::Numbers::signed_index_text))]
     pub fn write_signed(&mut self, index: u32) -> Result<(), Memory>
         ensures text { OnOk result (self.new.bytes.items ≡ self.old.bytes.items ++ signed_index_text index) }
         ensures largest { OnOk result (self.new.largest ≡ max self.old.largest index) }

@@ -1,11 +1,11 @@
 //! What items are, and which index space numbers them.
 
 ghost use Rattle.std.specs.Prelude.{◌≡◌, ◌<◌};
-ghost use Rattle.comp_types.specs.Items.{item_tree};
+ghost use Rattle.comp_format.specs.Items.{item_tree};
 ghost use Rattle.comp_encoder.specs.Writing.{described_sort, aliased_sort, canonical_sort, item_sort};
-ghost use Rattle.comp_types.specs.Spaces.{core_space, space_of};
+ghost use Rattle.comp_format.specs.Spaces.{core_space, space_of};
 
-use comp_types::{Alias, Canon, CoreSort, Item, Sort, TypeRef};
+use comp_format::{Alias, Canon, CoreSort, Item, Sort, TypeRef};
 
 /// The number of a core index space.
 fn core_space(sort: CoreSort) -> usize

@@ -2,21 +2,21 @@
 //! `Binary.md`.
 
 ghost use Rattle.std.specs.Prelude.{IfOk, true, false};
-ghost use Rattle.comp_types.specs.Views.{module_tree, instance_type_tree, component_type_tree};
-ghost use Rattle.comp_types.specs.Forms.{IsDefined, IsFunc, AreDecls, AreModuleDecls};
+ghost use Rattle.comp_format.specs.Views.{module_tree, instance_type_tree, component_type_tree};
+ghost use Rattle.comp_format.specs.Forms.{IsDefined, IsFunc, AreDecls, AreModuleDecls};
 
 use crate::ComponentBuilder;
 use crate::core_types::write_core;
 use crate::definitions::write_type;
 use crate::sink::Sink;
-use comp_reader::{ReadError, read_items};
-use comp_types::{
+use comp_format::{
     Alias, Arg, ComponentType, CoreDesc, CoreSort, CoreType, CoreVal, DefType, DefinedType,
     EncodeError, FuncType, InstanceType, Item, ModuleType, Primitive, Sort, TypeRef, ValType,
 };
+use comp_reader::{ReadError, read_items};
 use std::alloc::Global;
 use std::test::Fail;
-use warg_base::{Memory, Sequence, Text};
+use warg_values::{Memory, Sequence, Text};
 
 const HEADER: [u8; 8] = [0x00, 0x61, 0x73, 0x6d, 0x0d, 0x00, 0x01, 0x00];
 

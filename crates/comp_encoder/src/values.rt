@@ -2,15 +2,15 @@
 
 ghost use Rattle.std.specs.Prelude.{◌≡◌, ◌++◌, max, length, OnOk};
 ghost use Rattle.std.specs.Str.{IsUtf8};
-ghost use Rattle.comp_types.specs.Vectors.{optional_text, name_text};
-ghost use Rattle.comp_types.specs.Types.{primitive_code, value_text, field_text, case_text, defined_text, result_text, func_text};
+ghost use Rattle.comp_format.specs.Vectors.{optional_text, name_text};
+ghost use Rattle.comp_format.specs.Types.{primitive_code, value_text, field_text, case_text, defined_text, result_text, func_text};
 ghost use Rattle.comp_encoder.specs.Largest.{optional_largest, value_largest, field_largest, case_largest, defined_largest, func_largest};
 ghost use Rattle.comp_encoder.specs.Texts.{HasText, TextsOfDefined, TextsOfFunc};
 
 use crate::parts::{Encode, write_marked, write_vector};
 use crate::sink::Sink;
-use comp_types::{DefinedType, FuncType, Primitive, ValType};
-use warg_base::{Memory, Text};
+use comp_format::{DefinedType, FuncType, Primitive, ValType};
+use warg_values::{Memory, Text};
 
 fn code_of(primitive: Primitive) -> u8
     ensures { result ≡ primitive_code primitive }

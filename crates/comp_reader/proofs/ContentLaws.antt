@@ -2,17 +2,17 @@
 use Rattle.std.proofs.Common.{◌≡◌, ℕ, List, true, Ok, refl}
 use Rattle.std.specs.Prelude.{nat_eq}
 use Rattle.std.specs.List.{starts_with}
-use Rattle.comp_types.specs.declared.types.CoreInstance.{CoreInstance}
-use Rattle.comp_types.specs.declared.types.InstanceItem.{InstanceItem}
-use Rattle.comp_types.specs.declared.types.Alias.{Alias}
-use Rattle.comp_types.specs.declared.types.Canon.{Canon}
-use Rattle.comp_types.specs.Vectors.{any_name_at}
-use Rattle.comp_types.specs.CoreTypes.{CoreTree, core_at}
-use Rattle.comp_types.specs.Definitions.{TypeTree, definition_at}
-use Rattle.comp_types.specs.Canons.{canon_at}
-use Rattle.comp_types.specs.Parts.{core_instance_at, instance_at, alias_at}
-use Rattle.comp_types.specs.Items.{ImportTree, ExportTree, import_at, export_at}
-use Rattle.comp_types.specs.Sections.{Named, CoreModules, CoreInstances, CoreTypes, Instances, Aliases, Types, Canons, Imports, Exports, core_header, whole_at, behind_at, content_with, content_at}
+use Rattle.comp_format.specs.declared.types.CoreInstance.{CoreInstance}
+use Rattle.comp_format.specs.declared.types.InstanceItem.{InstanceItem}
+use Rattle.comp_format.specs.declared.types.Alias.{Alias}
+use Rattle.comp_format.specs.declared.types.Canon.{Canon}
+use Rattle.comp_format.specs.Vectors.{any_name_at}
+use Rattle.comp_format.specs.CoreTypes.{CoreTree, core_at}
+use Rattle.comp_format.specs.Definitions.{TypeTree, definition_at}
+use Rattle.comp_format.specs.Canons.{canon_at}
+use Rattle.comp_format.specs.Parts.{core_instance_at, instance_at, alias_at}
+use Rattle.comp_format.specs.Items.{ImportTree, ExportTree, import_at, export_at}
+use Rattle.comp_format.specs.Sections.{Named, CoreModules, CoreInstances, CoreTypes, Instances, Aliases, Types, Canons, Imports, Exports, core_header, whole_at, behind_at, content_with, content_at}
 
 module _ (scopes id : ℕ) (content : List ℕ) where
   pub custom_is : (name bytes : List ℕ) → id ≡ 0 → any_name_at content ≡ Ok (name, bytes) → content_at scopes id content ≡ Ok (Named name bytes)

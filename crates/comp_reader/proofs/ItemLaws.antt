@@ -3,15 +3,15 @@ use Rattle.std.proofs.Common.{◌≡◌, ℕ, zero, suc, ◌-◌, ◌≤◌, ◌
 use Rattle.std.specs.Prelude.{nat_eq}
 use Rattle.std.specs.List.{starts_with}
 use Rattle.std.proofs.lemmas.List.{append-nil, take_all, length-drop}
-use Rattle.warg_base.specs.Reading.{◌>>=◌}
-use Rattle.warg_base.proofs.ReadingLaws.{bind_ok, ok_is, never}
-use Rattle.comp_types.specs.Fault.{Fault, Form, NotCarried, TooDeep}
-use Rattle.comp_types.specs.Items.{ItemTree, Component}
-use Rattle.comp_types.specs.CoreTypes.{core_at}
-use Rattle.comp_types.specs.Definitions.{definition_at}
-use Rattle.comp_types.specs.Sections.{Section, Nested, Sections, more, Reads, section_items, items_in, frame_at, behind_at, headed_at, header, content_with, content_at, sections_at, component_at}
-use Rattle.comp_types.proofs.SectionLaws.{frame_form, framed_shorter, component_form}
-use Rattle.comp_types.proofs.DepthLaws.{component_within}
+use Rattle.warg_values.specs.Reading.{◌>>=◌}
+use Rattle.warg_values.specs.ReadingLaws.{bind_ok, ok_is, never}
+use Rattle.comp_format.specs.Fault.{Fault, Form, NotCarried, TooDeep}
+use Rattle.comp_format.specs.Items.{ItemTree, Component}
+use Rattle.comp_format.specs.CoreTypes.{core_at}
+use Rattle.comp_format.specs.Definitions.{definition_at}
+use Rattle.comp_format.specs.Sections.{Section, Nested, Sections, more, Reads, section_items, items_in, frame_at, behind_at, headed_at, header, content_with, content_at, sections_at, component_at}
+use Rattle.comp_format.proofs.SectionLaws.{frame_form, framed_shorter, component_form}
+use Rattle.comp_format.proofs.DepthLaws.{component_within}
 use Rattle.comp_reader.specs.declared.error.ReadError.{ReadError}
 use Rattle.comp_reader.specs.declared.error.ReadError.TheVariants as errors
 use Rattle.comp_reader.specs.Nested.{sections_items, component_items}

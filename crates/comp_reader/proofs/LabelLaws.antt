@@ -1,38 +1,21 @@
 -- Reading values under labels one after the other, as a loop does.
-use Rattle.std.proofs.Common.{◌≡◌, ℕ, suc, ◌-◌, ◌+◌, ◌≤◌, ◌<◌, Bool, true, false, not, Bor, List, [], ◌∷◌, ◌++◌, Result, Ok, Err, refl, sym, ap, ◌∙◌, append_assoc, arith}
-use Rattle.std.specs.BTreeSet.{BTreeSet, contains}
+use Rattle.std.proofs.Common.{◌≡◌, ℕ, suc, ◌-◌, ◌+◌, ◌≤◌, ◌<◌, true, false, Bor, List, [], ◌∷◌, ◌++◌, Result, Ok, Err, refl, sym, ap, ◌∙◌, append_assoc, arith}
+use Rattle.std.specs.BTreeSet.{BTreeSet}
 use Rattle.std.specs.List.{list_any}
 use Rattle.std.specs.Str.{bytes_eq}
 use Rattle.std.proofs.lemmas.List.{append-nil}
-use Rattle.warg_base.specs.Reading.{◌>>=◌}
-use Rattle.comp_types.specs.Fault.{Fault, Form, NotCarried}
-use Rattle.comp_types.specs.Vectors.{ReaderOf, name_at, labelled_at}
+use Rattle.warg_values.specs.Reading.{◌>>=◌}
+use Rattle.comp_format.specs.Fault.{Fault, Form, NotCarried}
+use Rattle.comp_format.specs.Vectors.{ReaderOf, name_at, labelled_at}
 use Rattle.comp_reader.specs.declared.error.ReadError.{ReadError}
 use Rattle.comp_reader.specs.declared.error.ReadError.TheVariants as errors
 use Rattle.comp_reader.specs.Refusal.{Fails}
 use Rattle.comp_reader.proofs.ManyLaws.{with_front}
-use Rattle.comp_reader.proofs.TextSets.{by_text, HasTexts}
+use Rattle.comp_reader.proofs.TextSets.{HasTexts}
 
 -- the set has these labels, as they are borrowed
 abbrev pub HasLabels : List (List ℕ) → BTreeSet (Bor (List ℕ)) → Type 0
 HasLabels = HasTexts (λ (label : Bor (List ℕ)). label.now)
-
--- a label that was seen, and one that was not
-pub was_seen : (label : Bor (List ℕ)) (labels : List (List ℕ)) (set : BTreeSet (Bor (List ℕ))) (added : Bool) → HasLabels labels set → added ≡ not (contains (by_text (λ (l : Bor (List ℕ)). l.now)) set label) → added ≡ false
-    → list_any (bytes_eq label.now) labels ≡ true
-was_seen label labels set added has is not_added = sym (has label) ∙ found _ (sym is ∙ not_added)
-  where
-    found : (b : Bool) → not b ≡ false → b ≡ true
-    found true e = refl
-    found false e = absurd cc
-
-pub is_new : (label : Bor (List ℕ)) (labels : List (List ℕ)) (set : BTreeSet (Bor (List ℕ))) (added : Bool) → HasLabels labels set → added ≡ not (contains (by_text (λ (l : Bor (List ℕ)). l.now)) set label) → added ≡ true
-    → list_any (bytes_eq label.now) labels ≡ false
-is_new label labels set added has is was_added = sym (has label) ∙ missing _ (sym is ∙ was_added)
-  where
-    missing : (b : Bool) → not b ≡ true → b ≡ false
-    missing true e = absurd cc
-    missing false e = refl
 
 module _ {X : Type 0} (behind : List ℕ → ReaderOf X) where
   regroup : (front : List X) (x : X) (read : Result (List X × List ℕ) Fault) → with_front front (read >>= λ xs. Ok (x ∷ xs.0, xs.1)) ≡ with_front (front ++ x ∷ []) read

@@ -1,9 +1,9 @@
 -- Reading values one after the other, as a loop does.
 use Rattle.std.proofs.Common.{◌≡◌, ℕ, suc, ◌-◌, ◌+◌, ◌≤◌, ◌<◌, List, [], ◌∷◌, ◌++◌, Result, Ok, Err, refl, sym, ap, ◌∙◌, append_assoc, arith}
 use Rattle.std.proofs.lemmas.List.{append-nil}
-use Rattle.warg_base.specs.Reading.{◌>>=◌}
-use Rattle.comp_types.specs.Fault.{Fault, Form, NotCarried}
-use Rattle.comp_types.specs.Vectors.{ReaderOf, many_at}
+use Rattle.warg_values.specs.Reading.{◌>>=◌}
+use Rattle.comp_format.specs.Fault.{Fault, Form, NotCarried}
+use Rattle.comp_format.specs.Vectors.{ReaderOf, many_at}
 use Rattle.comp_reader.specs.declared.error.ReadError.{ReadError}
 use Rattle.comp_reader.specs.declared.error.ReadError.TheVariants as errors
 use Rattle.comp_reader.specs.Refusal.{Fails}

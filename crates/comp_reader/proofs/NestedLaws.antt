@@ -1,12 +1,12 @@
 -- Types and their declarations, by how many scopes may be open.
 use Rattle.std.proofs.Common.{◌≡◌, ℕ, zero, suc, ◌-◌, ◌<◌, Bool, true, false, List, Ok, refl, ap, ◌∙◌, arith}
-use Rattle.comp_types.specs.declared.types.FuncType.{FuncType}
-use Rattle.comp_types.specs.Vectors.{vector_at, byte_at}
-use Rattle.comp_types.specs.Types.{func_at}
-use Rattle.comp_types.specs.CoreTypes as core
-use Rattle.comp_types.specs.CoreTypes.{ModuleDeclTree, module_decls, module_decl_at, module_at, core_with, core_at}
-use Rattle.comp_types.specs.Definitions as tree
-use Rattle.comp_types.specs.Definitions.{DeclTree, decls_of, decl_at, type_with, definition_at}
+use Rattle.comp_format.specs.declared.types.FuncType.{FuncType}
+use Rattle.comp_format.specs.Vectors.{vector_at, byte_at}
+use Rattle.comp_format.specs.Types.{func_at}
+use Rattle.comp_format.specs.CoreTypes as core
+use Rattle.comp_format.specs.CoreTypes.{ModuleDeclTree, module_decls, module_decl_at, module_at, core_with, core_at}
+use Rattle.comp_format.specs.Definitions as tree
+use Rattle.comp_format.specs.Definitions.{DeclTree, decls_of, decl_at, type_with, definition_at}
 use Rattle.comp_reader.specs.Nested.{module_decls_at, decls_at}
 
 pub core_is : (scopes : ℕ) (bytes : List ℕ) → core_at scopes bytes ≡ core_with (module_decls_at scopes) bytes

@@ -4,24 +4,24 @@ use Rattle.std.specs.List.{flat_map}
 use Rattle.std.proofs.lemmas.Bool.{cases_lt}
 use Rattle.std.proofs.lemmas.List.{length-append, length-map, drop_at}
 use Rattle.std.proofs.lemmas.List.Concat.{flat_map-cons}
-use Rattle.warg_base.specs.Reading.{◌>>=◌}
-use Rattle.warg_base.proofs.ReadingLaws.{ok_is, never}
-use Rattle.comp_types.specs.Fault.{Fault, Form, NotCarried, TooDeep}
-use Rattle.comp_types.specs.Numbers.{FormOf, number_at}
-use Rattle.comp_types.specs.Vectors.{Many}
-use Rattle.comp_types.specs.CoreTypes.{CoreForm, core_at}
-use Rattle.comp_types.specs.Definitions.{DefForm, definition_at}
-use Rattle.comp_types.specs.Canons.{CanonForm, canon_at}
-use Rattle.comp_types.specs.Parts.{CoreInstanceForm, InstanceForm, AliasForm, core_instance_at, instance_at, alias_at}
-use Rattle.comp_types.specs.Items.{ItemTree, CoreMade, CoreTy, Instance, Aliased, Ty, Canonical, Import, Export, ImportForm, ExportForm, import_at, export_at}
-use Rattle.comp_types.specs.Sections.{Section, Named, CoreModules, CoreInstances, CoreTypes, Nested, Instances, Aliases, Types, Canons, Imports, Exports, Sections, none, more, Framed, Whole, ContentForm, SectionsForm, Reads, header, section_id, section_items, items_in, frame_at}
-use Rattle.comp_types.proofs.NumberLaws.{number_again}
-use Rattle.comp_types.proofs.CanonLaws.{canon_again}
-use Rattle.comp_types.proofs.PartLaws.{core_instance_again, instance_again, alias_again}
-use Rattle.comp_types.proofs.ItemLaws.{import_again, export_again}
-use Rattle.comp_types.proofs.SectionLaws.{frame_again, framed_shorter}
-use Rattle.comp_types.proofs.DepthLaws.{Below, core_or_deep, definition_or_deep}
-use Rattle.comp_types.proofs.ScopeLaws.{UsesUp, core_used, definition_used, alias_used, instance_used, core_instance_used, canon_used, import_used, export_used}
+use Rattle.warg_values.specs.Reading.{◌>>=◌}
+use Rattle.warg_values.specs.ReadingLaws.{ok_is, never}
+use Rattle.comp_format.specs.Fault.{Fault, Form, NotCarried, TooDeep}
+use Rattle.comp_format.specs.Numbers.{FormOf, number_at}
+use Rattle.comp_format.specs.Vectors.{Many}
+use Rattle.comp_format.specs.CoreTypes.{CoreForm, core_at}
+use Rattle.comp_format.specs.Definitions.{DefForm, definition_at}
+use Rattle.comp_format.specs.Canons.{CanonForm, canon_at}
+use Rattle.comp_format.specs.Parts.{CoreInstanceForm, InstanceForm, AliasForm, core_instance_at, instance_at, alias_at}
+use Rattle.comp_format.specs.Items.{ItemTree, CoreMade, CoreTy, Instance, Aliased, Ty, Canonical, Import, Export, ImportForm, ExportForm, import_at, export_at}
+use Rattle.comp_format.specs.Sections.{Section, Named, CoreModules, CoreInstances, CoreTypes, Nested, Instances, Aliases, Types, Canons, Imports, Exports, Sections, none, more, Framed, Whole, ContentForm, SectionsForm, Reads, header, section_id, section_items, items_in, frame_at}
+use Rattle.comp_format.proofs.NumberLaws.{number_again}
+use Rattle.comp_format.proofs.CanonLaws.{canon_again}
+use Rattle.comp_format.proofs.PartLaws.{core_instance_again, instance_again, alias_again}
+use Rattle.comp_format.proofs.ItemLaws.{import_again, export_again}
+use Rattle.comp_format.proofs.SectionLaws.{frame_again, framed_shorter}
+use Rattle.comp_format.proofs.DepthLaws.{Below, core_or_deep, definition_or_deep}
+use Rattle.comp_format.proofs.ScopeLaws.{UsesUp, core_used, definition_used, alias_used, instance_used, core_instance_used, canon_used, import_used, export_used}
 use Rattle.comp_reader.specs.declared.error.ReadError.{ReadError}
 use Rattle.comp_reader.specs.declared.error.ReadError.TheVariants as errors
 use Rattle.comp_reader.specs.declared.places.ItemPlace.{ItemPlace}

@@ -1,15 +1,15 @@
 -- Values behind others, as a loop looks for them, and the values of a vector.
 use Rattle.std.proofs.Common.{◌≡◌, ℕ, zero, suc, ◌-◌, ◌+◌, ◌<◌, ◌≤◌, List, [], ◌∷◌, ◌++◌, length, take, drop, Result, Ok, Err, refl, sym, ap, subst, ◌∙◌, arith, inl, inr}
 use Rattle.std.proofs.lemmas.List.{length-append, length-take}
-use Rattle.warg_base.specs.Reading.{◌>>=◌}
-use Rattle.comp_types.specs.Fault.{Fault}
-use Rattle.comp_types.specs.Numbers.{FormOf, number_at}
-use Rattle.comp_types.specs.Vectors.{ReaderOf, Many, many_at}
-use Rattle.comp_types.specs.Sections.{Whole}
-use Rattle.comp_types.proofs.NumberLaws.{number_again, leb_shorter}
-use Rattle.comp_types.proofs.VectorLaws.{IsComplete}
-use Rattle.comp_types.proofs.DepthLaws.{Below, first_below}
-use Rattle.comp_types.proofs.ScopeLaws.{UsesUp, many_used}
+use Rattle.warg_values.specs.Reading.{◌>>=◌}
+use Rattle.comp_format.specs.Fault.{Fault}
+use Rattle.comp_format.specs.Numbers.{FormOf, number_at}
+use Rattle.comp_format.specs.Vectors.{ReaderOf, Many, many_at}
+use Rattle.comp_format.specs.Sections.{Whole}
+use Rattle.comp_format.proofs.NumberLaws.{number_again, leb_shorter}
+use Rattle.comp_format.proofs.VectorLaws.{IsComplete}
+use Rattle.comp_format.proofs.DepthLaws.{Below, first_below}
+use Rattle.comp_format.proofs.ScopeLaws.{UsesUp, many_used}
 use Rattle.comp_reader.specs.declared.error.ReadError.{ReadError}
 use Rattle.comp_reader.specs.Refusal.{Fails}
 use Rattle.comp_reader.specs.Places.{ValueFirst, behind_many_at}

@@ -1,23 +1,23 @@
 -- Types that hold declarations as plain trees.
 use Rattle.std.proofs.Common.{◌≡◌, map, sym, ap, ◌∙◌, Vec, Global}
-use Rattle.comp_types.specs.declared.core_types.CoreType.{fold-roll-CoreType}
-use Rattle.comp_types.specs.declared.core_types.CoreType.TheVariants as core_made
-use Rattle.comp_types.specs.declared.core_types.CoreType.TheOpen as core_layer
-use Rattle.comp_types.specs.declared.core_types.ModuleType.{ModuleType, roll-ModuleType, fold-roll-ModuleType}
-use Rattle.comp_types.specs.declared.types.DefType.{fold-roll-DefType}
-use Rattle.comp_types.specs.declared.types.DefType.TheVariants as made
-use Rattle.comp_types.specs.declared.types.Decl.TheOpen as layer
-use Rattle.comp_types.specs.declared.types.ComponentType.{ComponentType, roll-ComponentType, fold-roll-ComponentType}
-use Rattle.comp_types.specs.declared.types.InstanceType.{InstanceType, roll-InstanceType, fold-roll-InstanceType}
-use Rattle.comp_types.specs.declared.core_types.ModuleDecl.{ModuleDecl}
-use Rattle.comp_types.specs.declared.types.Decl.{Decl}
-use Rattle.comp_types.specs.declared.types.FuncType.{FuncType}
-use Rattle.comp_types.specs.declared.types.DefinedType.{DefinedType}
-use Rattle.comp_types.specs.CoreTypes as core
-use Rattle.comp_types.specs.CoreTypes.{CoreTree, ModuleDeclTree, ModuleDecls, module_decls}
-use Rattle.comp_types.specs.Definitions as tree
-use Rattle.comp_types.specs.Definitions.{TypeTree, DeclTree, Decls, decls_of}
-use Rattle.comp_types.specs.Views.{core_step, module_decl_step, module_step, core_tree, module_decl_tree, decl_step, type_step, component_step, instance_step, type_tree, decl_tree}
+use Rattle.comp_format.specs.declared.core_types.CoreType.{fold-roll-CoreType}
+use Rattle.comp_format.specs.declared.core_types.CoreType.TheVariants as core_made
+use Rattle.comp_format.specs.declared.core_types.CoreType.TheOpen as core_layer
+use Rattle.comp_format.specs.declared.core_types.ModuleType.{ModuleType, roll-ModuleType, fold-roll-ModuleType}
+use Rattle.comp_format.specs.declared.types.DefType.{fold-roll-DefType}
+use Rattle.comp_format.specs.declared.types.DefType.TheVariants as made
+use Rattle.comp_format.specs.declared.types.Decl.TheOpen as layer
+use Rattle.comp_format.specs.declared.types.ComponentType.{ComponentType, roll-ComponentType, fold-roll-ComponentType}
+use Rattle.comp_format.specs.declared.types.InstanceType.{InstanceType, roll-InstanceType, fold-roll-InstanceType}
+use Rattle.comp_format.specs.declared.core_types.ModuleDecl.{ModuleDecl}
+use Rattle.comp_format.specs.declared.types.Decl.{Decl}
+use Rattle.comp_format.specs.declared.types.FuncType.{FuncType}
+use Rattle.comp_format.specs.declared.types.DefinedType.{DefinedType}
+use Rattle.comp_format.specs.CoreTypes as core
+use Rattle.comp_format.specs.CoreTypes.{CoreTree, ModuleDeclTree, ModuleDecls, module_decls}
+use Rattle.comp_format.specs.Definitions as tree
+use Rattle.comp_format.specs.Definitions.{TypeTree, DeclTree, Decls, decls_of}
+use Rattle.comp_format.specs.Views.{core_step, module_decl_step, module_step, core_tree, module_decl_tree, decl_step, type_step, component_step, instance_step, type_tree, decl_tree}
 
 pub tree_module : (v : Vec ModuleDecl Global) → core_tree (core_made.Module (roll-ModuleType (record { decls = v }))) ≡ core.Module (module_decls (map module_decl_tree v.items))
 tree_module v =

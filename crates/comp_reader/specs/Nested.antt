@@ -1,13 +1,13 @@
 -- Declarations, sections and components, which stand in scopes of their own, where at most so many scopes are open at
 -- one place.
 use Rattle.std.specs.Prelude.{ℕ, zero, suc, Bool, List, length, Result, Ok, Err}
-use Rattle.warg_base.specs.Reading.{◌>>=◌}
-use Rattle.comp_types.specs.Fault.{Fault, TooDeep}
-use Rattle.comp_types.specs.Items.{ItemTree}
-use Rattle.comp_types.specs.Sections.{items_in, content_at, sections_at, component_at}
-use Rattle.comp_types.specs.Vectors.{ReaderOf, vector_at}
-use Rattle.comp_types.specs.CoreTypes.{ModuleDeclTree, module_decl_at, core_at}
-use Rattle.comp_types.specs.Definitions.{DeclTree, decl_at, definition_at}
+use Rattle.warg_values.specs.Reading.{◌>>=◌}
+use Rattle.comp_format.specs.Fault.{Fault, TooDeep}
+use Rattle.comp_format.specs.Items.{ItemTree}
+use Rattle.comp_format.specs.Sections.{items_in, content_at, sections_at, component_at}
+use Rattle.comp_format.specs.Vectors.{ReaderOf, vector_at}
+use Rattle.comp_format.specs.CoreTypes.{ModuleDeclTree, module_decl_at, core_at}
+use Rattle.comp_format.specs.Definitions.{DeclTree, decl_at, definition_at}
 
 unfoldable pub module_decls_at : ℕ → ReaderOf (List ModuleDeclTree)
 module_decls_at zero bytes = Err TooDeep

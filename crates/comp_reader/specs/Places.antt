@@ -1,16 +1,16 @@
 -- Where items stand in the bytes of a component.
 use Rattle.std.specs.Prelude.{◌≡◌, ℕ, ◌+◌, ◌<◌, Bool, true, List, [], ◌++◌, length, take, drop, Result, Ok, Err, ◌==◌, if◌then◌else◌}
 use Rattle.std.specs.List.{flat_map}
-use Rattle.warg_base.specs.Reading.{◌>>=◌}
-use Rattle.comp_types.specs.Fault.{Fault, Form}
-use Rattle.comp_types.specs.Numbers.{FormOf, Number, number_at}
-use Rattle.comp_types.specs.Vectors.{ReaderOf, Many, many_at}
-use Rattle.comp_types.specs.CoreTypes.{CoreForm, core_at}
-use Rattle.comp_types.specs.Definitions.{DefForm, definition_at}
-use Rattle.comp_types.specs.Canons.{CanonForm, canon_at}
-use Rattle.comp_types.specs.Parts.{CoreInstanceForm, InstanceForm, AliasForm, core_instance_at, instance_at, alias_at}
-use Rattle.comp_types.specs.Items.{ImportForm, ExportForm, import_at, export_at}
-use Rattle.comp_types.specs.Sections.{Section, Named, CoreModules, CoreInstances, CoreTypes, Nested, Instances, Aliases, Types, Canons, Imports, Exports, Sections, Framed, ContentForm, SectionsForm, header, section_id, section_items}
+use Rattle.warg_values.specs.Reading.{◌>>=◌}
+use Rattle.comp_format.specs.Fault.{Fault, Form}
+use Rattle.comp_format.specs.Numbers.{FormOf, Number, number_at}
+use Rattle.comp_format.specs.Vectors.{ReaderOf, Many, many_at}
+use Rattle.comp_format.specs.CoreTypes.{CoreForm, core_at}
+use Rattle.comp_format.specs.Definitions.{DefForm, definition_at}
+use Rattle.comp_format.specs.Canons.{CanonForm, canon_at}
+use Rattle.comp_format.specs.Parts.{CoreInstanceForm, InstanceForm, AliasForm, core_instance_at, instance_at, alias_at}
+use Rattle.comp_format.specs.Items.{ImportForm, ExportForm, import_at, export_at}
+use Rattle.comp_format.specs.Sections.{Section, Named, CoreModules, CoreInstances, CoreTypes, Nested, Instances, Aliases, Types, Canons, Imports, Exports, Sections, Framed, ContentForm, SectionsForm, header, section_id, section_items}
 use Rattle.comp_reader.specs.declared.places.ItemPlace.{ItemPlace}
 
 -- a section's bytes, and the rest behind it

@@ -1,8 +1,8 @@
 -- What a reader answers, against the reading of its bytes.
 use Rattle.std.specs.Prelude.{◌≡◌, ◌++◌, ℕ, List, Result, Ok, Err}
-use Rattle.comp_types.specs.Fault.{Fault, Form, NotCarried}
-use Rattle.comp_types.specs.Items.{ItemTree}
-use Rattle.comp_types.specs.Sections.{Section, section_items}
+use Rattle.comp_format.specs.Fault.{Fault, Form, NotCarried}
+use Rattle.comp_format.specs.Items.{ItemTree}
+use Rattle.comp_format.specs.Sections.{Section, section_items}
 use Rattle.comp_reader.specs.declared.error.ReadError.{ReadError}
 use Rattle.comp_reader.specs.declared.error.ReadError.TheVariants as errors
 

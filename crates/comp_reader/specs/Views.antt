@@ -1,6 +1,6 @@
 -- What is read, wherever it lies in memory.
-use Rattle.comp_types.specs.declared.types.Arg.{Arg}
-use Rattle.comp_types.specs.Items.{ImportTree, ExportTree}
+use Rattle.comp_format.specs.declared.types.Arg.{Arg}
+use Rattle.comp_format.specs.Items.{ImportTree, ExportTree}
 use Rattle.comp_reader.specs.declared.parts.Member.{Member}
 use Rattle.comp_reader.specs.declared.parts.ReadImport.{ReadImport}
 use Rattle.comp_reader.specs.declared.parts.ReadExport.{ReadExport}

@@ -1,16 +1,16 @@
 //! Readers of canonical definitions.
 
 ghost use Rattle.std.specs.Prelude.{Result, Ok};
-ghost use Rattle.comp_types.specs.declared.types.Canon.{Canon as canonical};
-ghost use Rattle.comp_types.specs.declared.types.CanonOption.{CanonOption as canonical_option};
-ghost use Rattle.comp_types.specs.Canons.{option_at, lift_at, lower_at, canon_at};
+ghost use Rattle.comp_format.specs.declared.types.Canon.{Canon as canonical};
+ghost use Rattle.comp_format.specs.declared.types.CanonOption.{CanonOption as canonical_option};
+ghost use Rattle.comp_format.specs.Canons.{option_at, lift_at, lower_at, canon_at};
 ghost use Rattle.comp_reader.specs.Refusal.{Gives};
 
 use crate::error::ReadError;
 use crate::read::{Field, byte_of, mark_of, number_of, vector_of};
-use comp_types::{Canon, CanonOption};
+use comp_format::{Canon, CanonOption};
 use std::alloc::Global;
-use warg_base::Sequence;
+use warg_values::Sequence;
 
 impl Field for CanonOption {
     ghost Tree = { canonical_option };
@@ -19,7 +19,7 @@ impl Field for CanonOption {
 
     ghost tree_at = { λ scopes. option_at };
 
-    #[tactic(auto, unfolding(comp_types::specs::Canons::option_at))]
+    #[tactic(auto, unfolding(comp_format::specs::Canons::option_at))]
     fn read(_alloc: Global, _scopes: u8, bytes: &[u8]) -> Result<(Self, &[u8]), ReadError> {
         let (byte, rest) = byte_of(bytes)?;
         if byte < 3 {
@@ -48,7 +48,7 @@ impl Field for CanonOption {
     }
 }
 
-#[tactic(auto, unfolding(comp_types::specs::Canons::lift_at))]
+#[tactic(auto, unfolding(comp_format::specs::Canons::lift_at))]
 fn lift_of(alloc: Global, bytes: &[u8]) -> Result<(Canon, &[u8]), ReadError>
     ensures { Gives (λ x. (x.0, x.1.now)) result (lift_at bytes.now) }
 {
@@ -59,7 +59,7 @@ fn lift_of(alloc: Global, bytes: &[u8]) -> Result<(Canon, &[u8]), ReadError>
     Ok((Canon::Lift { func, options, ty }, rest))
 }
 
-#[tactic(auto, unfolding(comp_types::specs::Canons::lower_at))]
+#[tactic(auto, unfolding(comp_format::specs::Canons::lower_at))]
 fn lower_of(alloc: Global, bytes: &[u8]) -> Result<(Canon, &[u8]), ReadError>
     ensures { Gives (λ x. (x.0, x.1.now)) result (lower_at bytes.now) }
 {
@@ -76,7 +76,7 @@ impl Field for Canon {
 
     ghost tree_at = { λ scopes. canon_at };
 
-    #[tactic(auto, unfolding(comp_types::specs::Canons::canon_at))]
+    #[tactic(auto, unfolding(comp_format::specs::Canons::canon_at))]
     fn read(alloc: Global, _scopes: u8, bytes: &[u8]) -> Result<(Self, &[u8]), ReadError> {
         let (byte, rest) = byte_of(bytes)?;
         match byte {

@@ -1,18 +1,18 @@
 //! Readers of core types.
 
 ghost use Rattle.std.specs.Prelude.{◌≡◌, Result, Option, map, Ok, true, false};
-ghost use Rattle.comp_types.specs.declared.core_types.CoreVal.{CoreVal as core_value};
-ghost use Rattle.comp_types.specs.Vectors.{many_at};
-ghost use Rattle.comp_types.specs.CoreTypes.{CoreTree, core_value_of, core_value_at, is_reference, limits_at, table_at, mutable_at, global_at, core_desc_at, module_import_at, module_alias_at, module_export_at, module_decl_at, core_func_at, core_at};
-ghost use Rattle.comp_types.specs.Views.{core_tree, module_decl_tree};
+ghost use Rattle.comp_format.specs.declared.core_types.CoreVal.{CoreVal as core_value};
+ghost use Rattle.comp_format.specs.Vectors.{many_at};
+ghost use Rattle.comp_format.specs.CoreTypes.{CoreTree, core_value_of, core_value_at, is_reference, limits_at, table_at, mutable_at, global_at, core_desc_at, module_import_at, module_alias_at, module_export_at, module_decl_at, core_func_at, core_at};
+ghost use Rattle.comp_format.specs.Views.{core_tree, module_decl_tree};
 ghost use Rattle.comp_reader.specs.Nested.{module_decls_at};
 ghost use Rattle.comp_reader.specs.Refusal.{Gives};
 
 use crate::error::ReadError;
 use crate::read::{Field, any_name_of, byte_of, carried_of, number_of, vector_of};
-use comp_types::{CoreDesc, CoreType, CoreVal, Limits, ModuleDecl, ModuleType};
+use comp_format::{CoreDesc, CoreType, CoreVal, Limits, ModuleDecl, ModuleType};
 use std::alloc::Global;
-use warg_base::Sequence;
+use warg_values::Sequence;
 
 /// The core value type of a byte.
 fn core_value_of_byte(byte: u8) -> Option<CoreVal>
@@ -30,7 +30,7 @@ fn core_value_of_byte(byte: u8) -> Option<CoreVal>
     }
 }
 
-#[tactic(auto, unfolding(comp_types::specs::CoreTypes::core_value_at))]
+#[tactic(auto, unfolding(comp_format::specs::CoreTypes::core_value_at))]
 fn core_value_of(bytes: &[u8]) -> Result<(CoreVal, &[u8]), ReadError>
     ensures { Gives (λ x. (x.0, x.1.now)) result (core_value_at bytes.now) }
 {
@@ -64,7 +64,7 @@ fn is_reference(value: CoreVal) -> bool
     }
 }
 
-#[tactic(auto, unfolding(comp_types::specs::CoreTypes::limits_at))]
+#[tactic(auto, unfolding(comp_format::specs::CoreTypes::limits_at))]
 fn limits_of(bytes: &[u8]) -> Result<(Limits, &[u8]), ReadError>
     ensures { Gives (λ x. (x.0, x.1.now)) result (limits_at bytes.now) }
 {
@@ -84,7 +84,7 @@ fn limits_of(bytes: &[u8]) -> Result<(Limits, &[u8]), ReadError>
     }
 }
 
-#[tactic(auto, unfolding(comp_types::specs::CoreTypes::table_at))]
+#[tactic(auto, unfolding(comp_format::specs::CoreTypes::table_at))]
 fn table_of(bytes: &[u8]) -> Result<(CoreDesc, &[u8]), ReadError>
     ensures { Gives (λ x. (x.0, x.1.now)) result (table_at bytes.now) }
 {
@@ -96,7 +96,7 @@ fn table_of(bytes: &[u8]) -> Result<(CoreDesc, &[u8]), ReadError>
     Ok((CoreDesc::Table { element, limits }, rest))
 }
 
-#[tactic(auto, unfolding(comp_types::specs::CoreTypes::mutable_at))]
+#[tactic(auto, unfolding(comp_format::specs::CoreTypes::mutable_at))]
 fn mutable_of(bytes: &[u8]) -> Result<(bool, &[u8]), ReadError>
     ensures { Gives (λ x. (x.0, x.1.now)) result (mutable_at bytes.now) }
 {
@@ -108,7 +108,7 @@ fn mutable_of(bytes: &[u8]) -> Result<(bool, &[u8]), ReadError>
     }
 }
 
-#[tactic(auto, unfolding(comp_types::specs::CoreTypes::global_at))]
+#[tactic(auto, unfolding(comp_format::specs::CoreTypes::global_at))]
 fn global_of(bytes: &[u8]) -> Result<(CoreDesc, &[u8]), ReadError>
     ensures { Gives (λ x. (x.0, x.1.now)) result (global_at bytes.now) }
 {
@@ -117,7 +117,7 @@ fn global_of(bytes: &[u8]) -> Result<(CoreDesc, &[u8]), ReadError>
     Ok((CoreDesc::Global { value, mutable }, rest))
 }
 
-#[tactic(auto, unfolding(comp_types::specs::CoreTypes::core_desc_at))]
+#[tactic(auto, unfolding(comp_format::specs::CoreTypes::core_desc_at))]
 fn core_desc_of(bytes: &[u8]) -> Result<(CoreDesc, &[u8]), ReadError>
     ensures { Gives (λ x. (x.0, x.1.now)) result (core_desc_at bytes.now) }
 {
@@ -137,7 +137,7 @@ fn core_desc_of(bytes: &[u8]) -> Result<(CoreDesc, &[u8]), ReadError>
     }
 }
 
-#[tactic(auto, unfolding(comp_types::specs::CoreTypes::module_import_at))]
+#[tactic(auto, unfolding(comp_format::specs::CoreTypes::module_import_at))]
 fn module_import_of(alloc: Global, bytes: &[u8]) -> Result<(ModuleDecl, &[u8]), ReadError>
     ensures { Gives (λ x. (module_decl_tree x.0, x.1.now)) result (module_import_at bytes.now) }
 {
@@ -147,7 +147,7 @@ fn module_import_of(alloc: Global, bytes: &[u8]) -> Result<(ModuleDecl, &[u8]), 
     Ok((ModuleDecl::Import { module, name, desc }, rest))
 }
 
-#[tactic(auto, unfolding(comp_types::specs::CoreTypes::module_alias_at))]
+#[tactic(auto, unfolding(comp_format::specs::CoreTypes::module_alias_at))]
 fn module_alias_of(bytes: &[u8]) -> Result<(ModuleDecl, &[u8]), ReadError>
     ensures { Gives (λ x. (module_decl_tree x.0, x.1.now)) result (module_alias_at bytes.now) }
 {
@@ -157,7 +157,7 @@ fn module_alias_of(bytes: &[u8]) -> Result<(ModuleDecl, &[u8]), ReadError>
     Ok((ModuleDecl::OuterAlias { count, index }, rest))
 }
 
-#[tactic(auto, unfolding(comp_types::specs::CoreTypes::module_export_at))]
+#[tactic(auto, unfolding(comp_format::specs::CoreTypes::module_export_at))]
 fn module_export_of(alloc: Global, bytes: &[u8]) -> Result<(ModuleDecl, &[u8]), ReadError>
     ensures { Gives (λ x. (module_decl_tree x.0, x.1.now)) result (module_export_at bytes.now) }
 {
@@ -166,7 +166,7 @@ fn module_export_of(alloc: Global, bytes: &[u8]) -> Result<(ModuleDecl, &[u8]), 
     Ok((ModuleDecl::Export { name, desc }, rest))
 }
 
-#[tactic(auto, unfolding(comp_types::specs::CoreTypes::core_func_at))]
+#[tactic(auto, unfolding(comp_format::specs::CoreTypes::core_func_at))]
 fn core_func_of(alloc: Global, bytes: &[u8]) -> Result<(CoreType, &[u8]), ReadError>
     ensures { Gives (λ x. (core_tree x.0, x.1.now)) result (core_func_at bytes.now) }
 {
@@ -181,7 +181,7 @@ fn core_func_of(alloc: Global, bytes: &[u8]) -> Result<(CoreType, &[u8]), ReadEr
 
 /// A core type in which at most so many scopes are open at one place.
 #[cycle(core_reading)]
-#[tactic(auto, using(crate::proofs::NestedLaws::core_is), unfolding(comp_types::specs::CoreTypes::core_with, comp_types::specs::CoreTypes::module_at))]
+#[tactic(auto, using(crate::proofs::NestedLaws::core_is), unfolding(comp_format::specs::CoreTypes::core_with, comp_format::specs::CoreTypes::module_at))]
 pub fn core_of(alloc: Global, scopes: u8, bytes: &[u8]) -> Result<(CoreType, &[u8]), ReadError>
     ensures { Gives (λ x. (core_tree x.0, x.1.now)) result (core_at scopes bytes.now) }
 {
@@ -198,7 +198,7 @@ pub fn core_of(alloc: Global, scopes: u8, bytes: &[u8]) -> Result<(CoreType, &[u
 
 /// The declarations of a module type, which opens a scope.
 #[cycle(core_reading)]
-#[tactic(auto, using(crate::proofs::NestedLaws::module_decls_are), unfolding(comp_types::specs::Vectors::vector_at))]
+#[tactic(auto, using(crate::proofs::NestedLaws::module_decls_are), unfolding(comp_format::specs::Vectors::vector_at))]
 fn module_decls_of(
     alloc: Global,
     scopes: u8,
@@ -235,7 +235,7 @@ fn many_module_decls_of(
 
 /// A declaration of a module type.
 #[cycle(core_reading)]
-#[tactic(auto, unfolding(comp_types::specs::CoreTypes::module_decl_at))]
+#[tactic(auto, unfolding(comp_format::specs::CoreTypes::module_decl_at))]
 fn module_decl_of(alloc: Global, scopes: u8, bytes: &[u8]) -> Result<(ModuleDecl, &[u8]), ReadError>
     ensures { Gives (λ x. (module_decl_tree x.0, x.1.now)) result (module_decl_at (core_at scopes) bytes.now) }
 {

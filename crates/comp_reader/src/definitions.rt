@@ -1,11 +1,11 @@
 //! Readers of types that components define.
 
 ghost use Rattle.std.specs.Prelude.{◌≡◌, Result, Option, map, Ok, true, false};
-ghost use Rattle.comp_types.specs.Vectors.{optional_at, many_at};
-ghost use Rattle.comp_types.specs.Numbers.{number_at};
-ghost use Rattle.comp_types.specs.CoreTypes.{core_at};
-ghost use Rattle.comp_types.specs.Definitions.{TypeTree, Import, Export, is_exported_sort, is_outer_type, is_declared, described_at, inner_type_at, inner_alias_at, decl_at, resource_at, definition_at};
-ghost use Rattle.comp_types.specs.Views.{type_tree, decl_tree};
+ghost use Rattle.comp_format.specs.Vectors.{optional_at, many_at};
+ghost use Rattle.comp_format.specs.Numbers.{number_at};
+ghost use Rattle.comp_format.specs.CoreTypes.{core_at};
+ghost use Rattle.comp_format.specs.Definitions.{TypeTree, Import, Export, is_exported_sort, is_outer_type, is_declared, described_at, inner_type_at, inner_alias_at, decl_at, resource_at, definition_at};
+ghost use Rattle.comp_format.specs.Views.{type_tree, decl_tree};
 ghost use Rattle.comp_reader.specs.Nested.{decls_at};
 ghost use Rattle.comp_reader.specs.Refusal.{Gives};
 
@@ -14,7 +14,7 @@ use crate::error::ReadError;
 use crate::parts::{alias_of, description_of, export_name_of};
 use crate::read::{Field, byte_of, mark_of, number_of};
 use crate::values::{defined_of, func_of};
-use comp_types::{Alias, ComponentType, CoreSort, Decl, DefType, InstanceType, Sort};
+use comp_format::{Alias, ComponentType, CoreSort, Decl, DefType, InstanceType, Sort};
 use std::alloc::Global;
 
 /// Whether a declaration may be an alias of an export of this sort.
@@ -50,7 +50,7 @@ fn is_declared(alias: &Alias) -> bool
     }
 }
 
-#[tactic(auto, unfolding(comp_types::specs::Definitions::inner_alias_at))]
+#[tactic(auto, unfolding(comp_format::specs::Definitions::inner_alias_at))]
 fn inner_alias_of(alloc: Global, bytes: &[u8]) -> Result<(Decl, &[u8]), ReadError>
     ensures { Gives (λ x. (decl_tree x.0, x.1.now)) result (inner_alias_at bytes.now) }
 {
@@ -61,7 +61,7 @@ fn inner_alias_of(alloc: Global, bytes: &[u8]) -> Result<(Decl, &[u8]), ReadErro
     Ok((Decl::Alias(alias), rest))
 }
 
-#[tactic(auto, unfolding(comp_types::specs::Definitions::described_at))]
+#[tactic(auto, unfolding(comp_format::specs::Definitions::described_at))]
 fn import_of(alloc: Global, bytes: &[u8]) -> Result<(Decl, &[u8]), ReadError>
     ensures { Gives (λ x. (decl_tree x.0, x.1.now)) result (described_at Import bytes.now) }
 {
@@ -70,7 +70,7 @@ fn import_of(alloc: Global, bytes: &[u8]) -> Result<(Decl, &[u8]), ReadError>
     Ok((Decl::Import { name, ty }, rest))
 }
 
-#[tactic(auto, unfolding(comp_types::specs::Definitions::described_at))]
+#[tactic(auto, unfolding(comp_format::specs::Definitions::described_at))]
 fn export_of(alloc: Global, bytes: &[u8]) -> Result<(Decl, &[u8]), ReadError>
     ensures { Gives (λ x. (decl_tree x.0, x.1.now)) result (described_at Export bytes.now) }
 {
@@ -80,7 +80,7 @@ fn export_of(alloc: Global, bytes: &[u8]) -> Result<(Decl, &[u8]), ReadError>
 }
 
 /// A flag, and the index where there is one.
-#[tactic(auto, unfolding(comp_types::specs::Vectors::optional_at))]
+#[tactic(auto, unfolding(comp_format::specs::Vectors::optional_at))]
 fn optional_of(bytes: &[u8]) -> Result<(Option<u32>, &[u8]), ReadError>
     ensures { Gives (λ x. (x.0, x.1.now)) result (optional_at number_at bytes.now) }
 {
@@ -95,7 +95,7 @@ fn optional_of(bytes: &[u8]) -> Result<(Option<u32>, &[u8]), ReadError>
     }
 }
 
-#[tactic(auto, unfolding(comp_types::specs::Definitions::resource_at))]
+#[tactic(auto, unfolding(comp_format::specs::Definitions::resource_at))]
 fn resource_of(bytes: &[u8]) -> Result<(DefType, &[u8]), ReadError>
     ensures { Gives (λ x. (type_tree x.0, x.1.now)) result (resource_at bytes.now) }
 {
@@ -105,7 +105,7 @@ fn resource_of(bytes: &[u8]) -> Result<(DefType, &[u8]), ReadError>
 
 /// A type in which at most so many scopes are open at one place.
 #[cycle(reading)]
-#[tactic(auto, using(crate::proofs::NestedLaws::definition_is, crate::proofs::ViewLaws::tree_defined), unfolding(comp_types::specs::Definitions::type_with))]
+#[tactic(auto, using(crate::proofs::NestedLaws::definition_is, crate::proofs::ViewLaws::tree_defined), unfolding(comp_format::specs::Definitions::type_with))]
 pub fn type_of(alloc: Global, scopes: u8, bytes: &[u8]) -> Result<(DefType, &[u8]), ReadError>
     ensures { Gives (λ x. (type_tree x.0, x.1.now)) result (definition_at scopes bytes.now) }
 {
@@ -133,7 +133,7 @@ pub fn type_of(alloc: Global, scopes: u8, bytes: &[u8]) -> Result<(DefType, &[u8
 
 /// The declarations of a type, which opens a scope.
 #[cycle(reading)]
-#[tactic(auto, using(crate::proofs::NestedLaws::decls_are), unfolding(comp_types::specs::Vectors::vector_at))]
+#[tactic(auto, using(crate::proofs::NestedLaws::decls_are), unfolding(comp_format::specs::Vectors::vector_at))]
 fn decls_of(
     alloc: Global,
     scopes: u8,
@@ -172,7 +172,7 @@ fn many_decls_of(
 
 /// A declaration, where there may be imports, or not.
 #[cycle(reading)]
-#[tactic(auto, unfolding(comp_types::specs::Definitions::decl_at))]
+#[tactic(auto, unfolding(comp_format::specs::Definitions::decl_at))]
 fn decl_of(
     alloc: Global,
     scopes: u8,
@@ -202,7 +202,7 @@ fn decl_of(
 
 /// A type in a declaration, which is no resource.
 #[cycle(reading)]
-#[tactic(auto, unfolding(comp_types::specs::Definitions::inner_type_at))]
+#[tactic(auto, unfolding(comp_format::specs::Definitions::inner_type_at))]
 fn inner_type_of(alloc: Global, scopes: u8, bytes: &[u8]) -> Result<(Decl, &[u8]), ReadError>
     ensures { Gives (λ x. (decl_tree x.0, x.1.now)) result (inner_type_at (definition_at scopes) bytes.now) }
 {

@@ -6,7 +6,7 @@ ghost use Rattle.comp_reader.specs.declared.error.ReadError.TheVariants.{Memory 
 
 use std::alloc::{AllocError, AllocFailed};
 use thiserror::Error;
-use warg_base::Memory;
+use warg_values::Memory;
 
 /// Why bytes could not be read as a component. The number is the place of the fault, in bytes from the start.
 #[derive(Clone, Copy, Debug, PartialEq, Eq, Error)]

@@ -1,16 +1,16 @@
 //! The items of a component.
 
 ghost use Rattle.std.specs.Prelude.{◌≡◌, ◌≢◌, ◌++◌, ℕ, List, Result, map, OnOk, IfOk, IfErr, MatchResult, Ok, Err};
-ghost use Rattle.comp_types.specs.declared.types.Alias.{Alias as alias_item};
-ghost use Rattle.comp_types.specs.declared.types.Canon.{Canon as canonical};
-ghost use Rattle.comp_types.specs.declared.types.CoreInstance.{CoreInstance as core_instance};
-ghost use Rattle.comp_types.specs.declared.types.InstanceItem.{InstanceItem as instance_item};
-ghost use Rattle.comp_types.specs.Fault.{Form as no_form, NotCarried as not_carried};
-ghost use Rattle.comp_types.specs.CoreTypes.{CoreTree};
-ghost use Rattle.comp_types.specs.Definitions.{TypeTree};
-ghost use Rattle.comp_types.specs.Items.{ImportTree, ExportTree, ItemTree, CoreMade, CoreTy, Instance, Aliased, Ty, Canonical, Import, Export, item_tree};
-ghost use Rattle.comp_types.specs.Sections.{Reads, frame_at, content_at, component_at};
-ghost use Rattle.comp_types.specs.Views.{core_tree, type_tree};
+ghost use Rattle.comp_format.specs.declared.types.Alias.{Alias as alias_item};
+ghost use Rattle.comp_format.specs.declared.types.Canon.{Canon as canonical};
+ghost use Rattle.comp_format.specs.declared.types.CoreInstance.{CoreInstance as core_instance};
+ghost use Rattle.comp_format.specs.declared.types.InstanceItem.{InstanceItem as instance_item};
+ghost use Rattle.comp_format.specs.Fault.{Form as no_form, NotCarried as not_carried};
+ghost use Rattle.comp_format.specs.CoreTypes.{CoreTree};
+ghost use Rattle.comp_format.specs.Definitions.{TypeTree};
+ghost use Rattle.comp_format.specs.Items.{ImportTree, ExportTree, ItemTree, CoreMade, CoreTy, Instance, Aliased, Ty, Canonical, Import, Export, item_tree};
+ghost use Rattle.comp_format.specs.Sections.{Reads, frame_at, content_at, component_at};
+ghost use Rattle.comp_format.specs.Views.{core_tree, type_tree};
 ghost use Rattle.comp_reader.specs.Nested.{sections_items, component_items};
 ghost use Rattle.comp_reader.specs.Refusal.{Gives, Adds};
 ghost use Rattle.comp_reader.specs.Views.{import_tree, export_tree};
@@ -18,7 +18,7 @@ ghost use Rattle.comp_reader.specs.Views.{import_tree, export_tree};
 use crate::error::ReadError;
 use crate::parts::{ReadExport, ReadImport};
 use crate::read::{any_name_of, front_of, number_of, whole_of};
-use comp_types::{Alias, Canon, CoreInstance, CoreType, DefType, InstanceItem, Item};
+use comp_format::{Alias, Canon, CoreInstance, CoreType, DefType, InstanceItem, Item};
 use std::alloc::Global;
 
 /// The magic bytes, the version and the layer of a component.
@@ -167,7 +167,7 @@ fn push_all<T: Listed>(items: &mut Vec<Item<'_>>, values: Vec<T>) -> Result<(), 
 }
 
 /// A section's id and content, and the bytes behind it.
-#[tactic(auto, unfolding(comp_types::specs::Sections::frame_at))]
+#[tactic(auto, unfolding(comp_format::specs::Sections::frame_at))]
 pub fn frame_of(bytes: &[u8]) -> Result<((u8, &[u8]), &[u8]), ReadError>
     ensures { Gives (λ x. ((x.0.0, x.0.1.now), x.1.now)) result (frame_at bytes.now) }
 {
@@ -182,7 +182,7 @@ pub fn frame_of(bytes: &[u8]) -> Result<((u8, &[u8]), &[u8]), ReadError>
 }
 
 /// Adds the items of a section that holds no component. `at` bytes are left where the section begins.
-#[tactic(auto, unfolding(comp_types::specs::Sections::content_at, comp_types::specs::Sections::content_with, comp_types::specs::Sections::behind_at))]
+#[tactic(auto, unfolding(comp_format::specs::Sections::content_at, comp_format::specs::Sections::content_with, comp_format::specs::Sections::behind_at))]
 fn push_section<'a>(
     alloc: Global,
     scopes: u8,
@@ -231,7 +231,7 @@ pub fn no_header(bytes: &[u8]) -> ReadError
 
 /// The items of a component in which at most so many scopes are open at one place, itself among them.
 #[cycle(reading_items)]
-#[tactic(auto, using(crate::proofs::ItemLaws::component_is), unfolding(comp_types::specs::Sections::headed_at, comp_types::specs::Sections::behind_at))]
+#[tactic(auto, using(crate::proofs::ItemLaws::component_is), unfolding(comp_format::specs::Sections::headed_at, comp_format::specs::Sections::behind_at))]
 fn items_of(alloc: Global, scopes: u8, bytes: &[u8]) -> Result<Vec<Item<'_>>, ReadError>
     ensures { Gives (λ items. map item_tree items.items) result (component_items scopes bytes.now) }
 {

@@ -1,7 +1,7 @@
 //! Readers of WebAssembly components: the items of a component, as its bytes have them.
 //!
 //! The binary format is that of the Component Model's `Binary.md`. What its items and types are, and what their bytes
-//! are, stands in the crate `comp_types`.
+//! are, stands in the crate `comp_format`.
 #![tactic(auto)]
 
 mod canons;

@@ -1,22 +1,22 @@
 //! Readers of sorts, descriptions, aliases, instances, imports and exports.
 
 ghost use Rattle.std.specs.Prelude.{◌≡◌, ℕ, List, Result, Option, map, Ok, true};
-ghost use Rattle.comp_types.specs.declared.types.Arg.{Arg as argument};
-ghost use Rattle.comp_types.specs.declared.types.InstanceItem.{InstanceItem as instance_item};
-ghost use Rattle.comp_types.specs.declared.types.CoreInstance.{CoreInstance as core_instance};
-ghost use Rattle.comp_types.specs.declared.types.CoreSort.{CoreSort as core_sort};
-ghost use Rattle.comp_types.specs.declared.types.Alias.{Alias as alias_item};
-ghost use Rattle.comp_types.specs.Vectors.{optional_at};
-ghost use Rattle.comp_types.specs.Parts.{core_sort_of, core_sort_at, sort_at, type_at, description_at, export_name_at, arg_at, member_at, instantiate_at, instance_at, is_outer, alias_export_at, core_export_at, outer_at, of_core, target_at, alias_at, core_arg_at, core_member_at, core_instantiate_at, core_instance_at};
-ghost use Rattle.comp_types.specs.Items.{ImportTree, ExportTree, import_at, export_at};
+ghost use Rattle.comp_format.specs.declared.types.Arg.{Arg as argument};
+ghost use Rattle.comp_format.specs.declared.types.InstanceItem.{InstanceItem as instance_item};
+ghost use Rattle.comp_format.specs.declared.types.CoreInstance.{CoreInstance as core_instance};
+ghost use Rattle.comp_format.specs.declared.types.CoreSort.{CoreSort as core_sort};
+ghost use Rattle.comp_format.specs.declared.types.Alias.{Alias as alias_item};
+ghost use Rattle.comp_format.specs.Vectors.{optional_at};
+ghost use Rattle.comp_format.specs.Parts.{core_sort_of, core_sort_at, sort_at, type_at, description_at, export_name_at, arg_at, member_at, instantiate_at, instance_at, is_outer, alias_export_at, core_export_at, outer_at, of_core, target_at, alias_at, core_arg_at, core_member_at, core_instantiate_at, core_instance_at};
+ghost use Rattle.comp_format.specs.Items.{ImportTree, ExportTree, import_at, export_at};
 ghost use Rattle.comp_reader.specs.Refusal.{Gives};
 ghost use Rattle.comp_reader.specs.Views.{import_tree, export_tree, member_tree};
 
 use crate::error::ReadError;
 use crate::read::{Field, any_name_of, byte_of, mark_of, name_of, number_of, vector_of};
-use comp_types::{Alias, Arg, CoreInstance, CoreSort, InstanceItem, Sort, TypeRef};
+use comp_format::{Alias, Arg, CoreInstance, CoreSort, InstanceItem, Sort, TypeRef};
 use std::alloc::Global;
-use warg_base::{Sequence, Text};
+use warg_values::{Sequence, Text};
 
 /// The core sort of a byte.
 fn core_sort_of_byte(byte: u8) -> Option<CoreSort>
@@ -34,7 +34,7 @@ fn core_sort_of_byte(byte: u8) -> Option<CoreSort>
     }
 }
 
-#[tactic(auto, unfolding(comp_types::specs::Parts::core_sort_at))]
+#[tactic(auto, unfolding(comp_format::specs::Parts::core_sort_at))]
 fn core_sort_of(bytes: &[u8]) -> Result<(CoreSort, &[u8]), ReadError>
     ensures { Gives (λ x. (x.0, x.1.now)) result (core_sort_at bytes.now) }
 {
@@ -45,7 +45,7 @@ fn core_sort_of(bytes: &[u8]) -> Result<(CoreSort, &[u8]), ReadError>
     }
 }
 
-#[tactic(auto, unfolding(comp_types::specs::Parts::sort_at))]
+#[tactic(auto, unfolding(comp_format::specs::Parts::sort_at))]
 fn sort_of(bytes: &[u8]) -> Result<(Sort, &[u8]), ReadError>
     ensures { Gives (λ x. (x.0, x.1.now)) result (sort_at bytes.now) }
 {
@@ -65,7 +65,7 @@ fn sort_of(bytes: &[u8]) -> Result<(Sort, &[u8]), ReadError>
 }
 
 /// The description of a type, behind its byte.
-#[tactic(auto, unfolding(comp_types::specs::Parts::type_at))]
+#[tactic(auto, unfolding(comp_format::specs::Parts::type_at))]
 fn type_of(bytes: &[u8]) -> Result<(TypeRef, &[u8]), ReadError>
     ensures { Gives (λ x. (x.0, x.1.now)) result (type_at bytes.now) }
 {
@@ -80,7 +80,7 @@ fn type_of(bytes: &[u8]) -> Result<(TypeRef, &[u8]), ReadError>
     }
 }
 
-#[tactic(auto, unfolding(comp_types::specs::Parts::description_at))]
+#[tactic(auto, unfolding(comp_format::specs::Parts::description_at))]
 pub fn description_of(bytes: &[u8]) -> Result<(TypeRef, &[u8]), ReadError>
     ensures { Gives (λ x. (x.0, x.1.now)) result (description_at bytes.now) }
 {
@@ -109,7 +109,7 @@ pub fn description_of(bytes: &[u8]) -> Result<(TypeRef, &[u8]), ReadError>
 }
 
 /// A flag, and the description where there is one.
-#[tactic(auto, unfolding(comp_types::specs::Vectors::optional_at))]
+#[tactic(auto, unfolding(comp_format::specs::Vectors::optional_at))]
 fn optional_of(bytes: &[u8]) -> Result<(Option<TypeRef>, &[u8]), ReadError>
     ensures { Gives (λ x. (x.0, x.1.now)) result (optional_at description_at bytes.now) }
 {
@@ -125,7 +125,7 @@ fn optional_of(bytes: &[u8]) -> Result<(Option<TypeRef>, &[u8]), ReadError>
 }
 
 /// The name of an import or export, behind one of its two prefixes.
-#[tactic(auto, unfolding(comp_types::specs::Parts::export_name_at))]
+#[tactic(auto, unfolding(comp_format::specs::Parts::export_name_at))]
 pub fn export_name_of(alloc: Global, bytes: &[u8]) -> Result<(Text, &[u8]), ReadError>
     ensures { Gives (λ x. (x.0, x.1.now)) result (export_name_at bytes.now) }
 {
@@ -144,7 +144,7 @@ impl Field for Arg {
 
     ghost tree_at = { λ scopes. arg_at };
 
-    #[tactic(auto, unfolding(comp_types::specs::Parts::arg_at))]
+    #[tactic(auto, unfolding(comp_format::specs::Parts::arg_at))]
     fn read(alloc: Global, _scopes: u8, bytes: &[u8]) -> Result<(Self, &[u8]), ReadError> {
         let (name, rest) = name_of(alloc, bytes)?;
         let (sort, rest) = sort_of(rest)?;
@@ -166,7 +166,7 @@ impl Field for Member {
 
     ghost tree_at = { λ scopes. member_at };
 
-    #[tactic(auto, unfolding(comp_types::specs::Parts::member_at))]
+    #[tactic(auto, unfolding(comp_format::specs::Parts::member_at))]
     fn read(alloc: Global, _scopes: u8, bytes: &[u8]) -> Result<(Self, &[u8]), ReadError> {
         let (name, rest) = export_name_of(alloc, bytes)?;
         let (sort, rest) = sort_of(rest)?;
@@ -187,7 +187,7 @@ fn args_of(alloc: Global, members: Vec<Member>) -> Result<Sequence<Arg>, ReadErr
     Ok(args)
 }
 
-#[tactic(auto, unfolding(comp_types::specs::Parts::instantiate_at))]
+#[tactic(auto, unfolding(comp_format::specs::Parts::instantiate_at))]
 fn instantiate_of(alloc: Global, bytes: &[u8]) -> Result<(InstanceItem, &[u8]), ReadError>
     ensures { Gives (λ x. (x.0, x.1.now)) result (instantiate_at bytes.now) }
 {
@@ -204,7 +204,7 @@ impl Field for InstanceItem {
 
     ghost tree_at = { λ scopes. instance_at };
 
-    #[tactic(auto, unfolding(comp_types::specs::Parts::instance_at))]
+    #[tactic(auto, unfolding(comp_format::specs::Parts::instance_at))]
     fn read(alloc: Global, _scopes: u8, bytes: &[u8]) -> Result<(Self, &[u8]), ReadError> {
         let (byte, rest) = byte_of(bytes)?;
         match byte {
@@ -231,7 +231,7 @@ fn is_outer(sort: Sort) -> bool
     }
 }
 
-#[tactic(auto, unfolding(comp_types::specs::Parts::alias_export_at))]
+#[tactic(auto, unfolding(comp_format::specs::Parts::alias_export_at))]
 fn alias_export_of(alloc: Global, sort: Sort, bytes: &[u8]) -> Result<(Alias, &[u8]), ReadError>
     ensures { Gives (λ x. (x.0, x.1.now)) result (alias_export_at sort bytes.now) }
 {
@@ -245,7 +245,7 @@ fn alias_export_of(alloc: Global, sort: Sort, bytes: &[u8]) -> Result<(Alias, &[
     Ok((alias, rest))
 }
 
-#[tactic(auto, unfolding(comp_types::specs::Parts::core_export_at))]
+#[tactic(auto, unfolding(comp_format::specs::Parts::core_export_at))]
 fn core_export_of(alloc: Global, sort: CoreSort, bytes: &[u8]) -> Result<(Alias, &[u8]), ReadError>
     ensures { Gives (λ x. (x.0, x.1.now)) result (core_export_at sort bytes.now) }
 {
@@ -259,7 +259,7 @@ fn core_export_of(alloc: Global, sort: CoreSort, bytes: &[u8]) -> Result<(Alias,
     Ok((alias, rest))
 }
 
-#[tactic(auto, unfolding(comp_types::specs::Parts::outer_at))]
+#[tactic(auto, unfolding(comp_format::specs::Parts::outer_at))]
 fn outer_of(sort: Sort, bytes: &[u8]) -> Result<(Alias, &[u8]), ReadError>
     ensures { Gives (λ x. (x.0, x.1.now)) result (outer_at sort bytes.now) }
 {
@@ -279,7 +279,7 @@ fn of_core(alloc: Global, sort: Sort, bytes: &[u8]) -> Result<(Alias, &[u8]), Re
 }
 
 /// An alias, behind its sort.
-#[tactic(auto, unfolding(comp_types::specs::Parts::target_at))]
+#[tactic(auto, unfolding(comp_format::specs::Parts::target_at))]
 fn target_of(alloc: Global, sort: Sort, bytes: &[u8]) -> Result<(Alias, &[u8]), ReadError>
     ensures { Gives (λ x. (x.0, x.1.now)) result (target_at sort bytes.now) }
 {
@@ -297,7 +297,7 @@ fn target_of(alloc: Global, sort: Sort, bytes: &[u8]) -> Result<(Alias, &[u8]), 
     }
 }
 
-#[tactic(auto, unfolding(comp_types::specs::Parts::alias_at))]
+#[tactic(auto, unfolding(comp_format::specs::Parts::alias_at))]
 pub fn alias_of(alloc: Global, bytes: &[u8]) -> Result<(Alias, &[u8]), ReadError>
     ensures { Gives (λ x. (x.0, x.1.now)) result (alias_at bytes.now) }
 {
@@ -324,7 +324,7 @@ impl Field for (Text, u32) {
 
     ghost tree_at = { λ scopes. core_arg_at };
 
-    #[tactic(auto, unfolding(comp_types::specs::Parts::core_arg_at))]
+    #[tactic(auto, unfolding(comp_format::specs::Parts::core_arg_at))]
     fn read(alloc: Global, _scopes: u8, bytes: &[u8]) -> Result<(Self, &[u8]), ReadError> {
         let (name, rest) = any_name_of(alloc, bytes)?;
         let rest = mark_of(0x12, rest)?;
@@ -340,7 +340,7 @@ impl Field for (Text, CoreSort, u32) {
 
     ghost tree_at = { λ scopes. core_member_at };
 
-    #[tactic(auto, unfolding(comp_types::specs::Parts::core_member_at))]
+    #[tactic(auto, unfolding(comp_format::specs::Parts::core_member_at))]
     fn read(alloc: Global, _scopes: u8, bytes: &[u8]) -> Result<(Self, &[u8]), ReadError> {
         let (name, rest) = any_name_of(alloc, bytes)?;
         let (sort, rest) = core_sort_of(rest)?;
@@ -349,7 +349,7 @@ impl Field for (Text, CoreSort, u32) {
     }
 }
 
-#[tactic(auto, unfolding(comp_types::specs::Parts::core_instantiate_at))]
+#[tactic(auto, unfolding(comp_format::specs::Parts::core_instantiate_at))]
 fn core_instantiate_of(alloc: Global, bytes: &[u8]) -> Result<(CoreInstance, &[u8]), ReadError>
     ensures { Gives (λ x. (x.0, x.1.now)) result (core_instantiate_at bytes.now) }
 {
@@ -366,7 +366,7 @@ impl Field for CoreInstance {
 
     ghost tree_at = { λ scopes. core_instance_at };
 
-    #[tactic(auto, unfolding(comp_types::specs::Parts::core_instance_at))]
+    #[tactic(auto, unfolding(comp_format::specs::Parts::core_instance_at))]
     fn read(alloc: Global, _scopes: u8, bytes: &[u8]) -> Result<(Self, &[u8]), ReadError> {
         let (byte, rest) = byte_of(bytes)?;
         match byte {
@@ -394,7 +394,7 @@ impl Field for ReadImport {
 
     ghost tree_at = { λ scopes. import_at };
 
-    #[tactic(auto, unfolding(comp_types::specs::Items::import_at))]
+    #[tactic(auto, unfolding(comp_format::specs::Items::import_at))]
     fn read(alloc: Global, _scopes: u8, bytes: &[u8]) -> Result<(Self, &[u8]), ReadError> {
         let (name, rest) = export_name_of(alloc, bytes)?;
         let (ty, rest) = description_of(rest)?;
@@ -418,7 +418,7 @@ impl Field for ReadExport {
 
     ghost tree_at = { λ scopes. export_at };
 
-    #[tactic(auto, unfolding(comp_types::specs::Items::export_at))]
+    #[tactic(auto, unfolding(comp_format::specs::Items::export_at))]
     fn read(alloc: Global, _scopes: u8, bytes: &[u8]) -> Result<(Self, &[u8]), ReadError> {
         let (name, rest) = export_name_of(alloc, bytes)?;
         let (sort, rest) = sort_of(rest)?;

@@ -2,8 +2,8 @@
 //! looked up anew, so that items need not keep them.
 
 ghost use Rattle.std.specs.Prelude.{◌≡◌, ◌≤◌, ◌<◌, ℕ, List, Result, length, Ok, IfOk, IfErr, MatchResult, MatchOption};
-ghost use Rattle.comp_types.specs.Items.{ItemTree};
-ghost use Rattle.comp_types.specs.Sections.{Section, Sections, Framed, ContentForm, SectionsForm, Reads, section_id, section_items, items_in, frame_at};
+ghost use Rattle.comp_format.specs.Items.{ItemTree};
+ghost use Rattle.comp_format.specs.Sections.{Section, Sections, Framed, ContentForm, SectionsForm, Reads, section_id, section_items, items_in, frame_at};
 ghost use Rattle.comp_reader.specs.Refusal.{Gives};
 ghost use Rattle.comp_reader.specs.Places.{SectionForm, InSection, ItemFirst, StandsAt, is_one_item, count_at, behind_many_at, behind_items_at, items_from_at};
 
@@ -11,7 +11,7 @@ use crate::error::ReadError;
 use crate::items::{HEADER, SCOPES, frame_of, no_header};
 use crate::parts::{ReadExport, ReadImport};
 use crate::read::{Field, number_of};
-use comp_types::{Alias, Canon, CoreInstance, CoreType, DefType, InstanceItem};
+use comp_format::{Alias, Canon, CoreInstance, CoreType, DefType, InstanceItem};
 use std::alloc::Global;
 
 /// A section that is not read yet: its id, its content, and the bytes behind it.

@@ -3,18 +3,18 @@
 
 ghost use Rattle.std.specs.Prelude.{◌≡◌, ◌≤◌, ◌<◌, ◌^◌, ◌+◌, ◌*◌, [], ℕ, List, Result, map, Ok, IfOk, true, false, MatchOption};
 ghost use Rattle.std.specs.Str.{is_utf8};
-ghost use Rattle.comp_types.specs.Numbers.{leb_at, signed_leb_at, number_at, signed_index_at};
-ghost use Rattle.comp_types.specs.Vectors.{ReaderOf, front_at, name_at, any_name_at, byte_at, mark_at, carried_at, many_at, vector_at, labelled_at, labelled_vector_at};
-ghost use Rattle.comp_types.specs.Sections.{whole_at};
+ghost use Rattle.comp_format.specs.Numbers.{leb_at, signed_leb_at, number_at, signed_index_at};
+ghost use Rattle.comp_format.specs.Vectors.{ReaderOf, front_at, name_at, any_name_at, byte_at, mark_at, carried_at, many_at, vector_at, labelled_at, labelled_vector_at};
+ghost use Rattle.comp_format.specs.Sections.{whole_at};
 ghost use Rattle.comp_reader.specs.Refusal.{Gives};
 
 use crate::error::ReadError;
 use std::alloc::Global;
 use std::collections::BTreeSet;
-use warg_base::Text;
+use warg_values::Text;
 
 /// LEB128 in at most so many bytes. `at` bytes are left where the number begins.
-#[tactic(auto, unfolding(comp_types::specs::Numbers::leb_at))]
+#[tactic(auto, unfolding(comp_format::specs::Numbers::leb_at))]
 fn leb_of(left: u8, at: usize, bytes: &[u8]) -> Result<(u64, &[u8]), ReadError>
     requires { left ≤ 5 }
     ensures exact { Gives (λ x. (x.0, x.1.now)) result (leb_at left bytes.now) }
@@ -36,7 +36,7 @@ fn leb_of(left: u8, at: usize, bytes: &[u8]) -> Result<(u64, &[u8]), ReadError>
 }
 
 /// A number below 2^32.
-#[tactic(auto, unfolding(comp_types::specs::Numbers::number_at))]
+#[tactic(auto, unfolding(comp_format::specs::Numbers::number_at))]
 pub fn number_of(bytes: &[u8]) -> Result<(u32, &[u8]), ReadError>
     ensures { Gives (λ x. (x.0, x.1.now)) result (number_at bytes.now) }
 {
@@ -48,7 +48,7 @@ pub fn number_of(bytes: &[u8]) -> Result<(u32, &[u8]), ReadError>
 }
 
 /// Signed LEB128, from 0 on, in at most so many bytes. `at` bytes are left where the number begins.
-#[tactic(auto, unfolding(comp_types::specs::Numbers::signed_leb_at))]
+#[tactic(auto, unfolding(comp_format::specs::Numbers::signed_leb_at))]
 fn signed_leb_of(left: u8, at: usize, bytes: &[u8]) -> Result<(u64, &[u8]), ReadError>
     requires { left ≤ 5 }
     ensures exact { Gives (λ x. (x.0, x.1.now)) result (signed_leb_at left bytes.now) }
@@ -73,7 +73,7 @@ fn signed_leb_of(left: u8, at: usize, bytes: &[u8]) -> Result<(u64, &[u8]), Read
 }
 
 /// The index of a type, as a value type has it.
-#[tactic(auto, unfolding(comp_types::specs::Numbers::signed_index_at))]
+#[tactic(auto, unfolding(comp_format::specs::Numbers::signed_index_at))]
 pub fn signed_index_of(bytes: &[u8]) -> Result<(u32, &[u8]), ReadError>
     ensures { Gives (λ x. (x.0, x.1.now)) result (signed_index_at bytes.now) }
 {
@@ -85,7 +85,7 @@ pub fn signed_index_of(bytes: &[u8]) -> Result<(u32, &[u8]), ReadError>
 }
 
 /// So many bytes, and the bytes behind them.
-#[tactic(auto, unfolding(comp_types::specs::Vectors::front_at))]
+#[tactic(auto, unfolding(comp_format::specs::Vectors::front_at))]
 pub fn front_of(count: u32, bytes: &[u8]) -> Result<(&[u8], &[u8]), ReadError>
     ensures { Gives (λ x. (x.0.now, x.1.now)) result (front_at count bytes.now) }
 {
@@ -107,7 +107,7 @@ fn text_of(bytes: &[u8]) -> Option<&str>
 }
 
 /// A name, which is not empty.
-#[tactic(auto, unfolding(comp_types::specs::Vectors::name_at))]
+#[tactic(auto, unfolding(comp_format::specs::Vectors::name_at))]
 fn str_of(bytes: &[u8]) -> Result<(&str, &[u8]), ReadError>
     ensures { Gives (λ x. (x.0.now, x.1.now)) result (name_at bytes.now) }
 {
@@ -131,7 +131,7 @@ pub fn name_of(alloc: Global, bytes: &[u8]) -> Result<(Text, &[u8]), ReadError>
 }
 
 /// A name that may be empty.
-#[tactic(auto, unfolding(comp_types::specs::Vectors::any_name_at))]
+#[tactic(auto, unfolding(comp_format::specs::Vectors::any_name_at))]
 pub fn any_name_of(alloc: Global, bytes: &[u8]) -> Result<(Text, &[u8]), ReadError>
     ensures { Gives (λ x. (x.0, x.1.now)) result (any_name_at bytes.now) }
 {
@@ -154,7 +154,7 @@ pub fn byte_of(bytes: &[u8]) -> Result<(u8, &[u8]), ReadError>
 }
 
 /// The bytes behind this one byte.
-#[tactic(auto, unfolding(comp_types::specs::Vectors::mark_at))]
+#[tactic(auto, unfolding(comp_format::specs::Vectors::mark_at))]
 pub fn mark_of(mark: u8, bytes: &[u8]) -> Result<&[u8], ReadError>
     ensures { Gives (λ x. x.now) result (mark_at mark bytes.now) }
 {
@@ -167,7 +167,7 @@ pub fn mark_of(mark: u8, bytes: &[u8]) -> Result<&[u8], ReadError>
 }
 
 /// The bytes behind this one byte, where others stand for forms that are not carried.
-#[tactic(auto, unfolding(comp_types::specs::Vectors::carried_at))]
+#[tactic(auto, unfolding(comp_format::specs::Vectors::carried_at))]
 pub fn carried_of(mark: u8, bytes: &[u8]) -> Result<&[u8], ReadError>
     ensures { Gives (λ x. x.now) result (carried_at mark bytes.now) }
 {
@@ -212,7 +212,7 @@ fn many_of<T: Field>(
 }
 
 /// How many values there are, and the values.
-#[tactic(auto, unfolding(comp_types::specs::Vectors::vector_at))]
+#[tactic(auto, unfolding(comp_format::specs::Vectors::vector_at))]
 pub fn vector_of<T: Field>(
     alloc: Global,
     scopes: u8,
@@ -225,7 +225,7 @@ pub fn vector_of<T: Field>(
 }
 
 /// A vector that is all of the bytes.
-#[tactic(auto, unfolding(comp_types::specs::Sections::whole_at))]
+#[tactic(auto, unfolding(comp_format::specs::Sections::whole_at))]
 pub fn whole_of<T: Field>(alloc: Global, scopes: u8, bytes: &[u8]) -> Result<Vec<T>, ReadError>
     ensures { Gives (λ values. map T.tree values.items) result (whole_at (T.tree_at scopes) bytes.now) }
 {
@@ -271,7 +271,7 @@ fn labelled_many_of<T: Labelled>(
 }
 
 /// How many values under labels that differ there are, and the values.
-#[tactic(auto, unfolding(comp_types::specs::Vectors::labelled_vector_at))]
+#[tactic(auto, unfolding(comp_format::specs::Vectors::labelled_vector_at))]
 pub fn labelled_of<T: Labelled>(alloc: Global, bytes: &[u8]) -> Result<(Vec<T>, &[u8]), ReadError>
     ensures { Gives (λ x. (x.0.items, x.1.now)) result (labelled_vector_at T.behind_at bytes.now) }
 {

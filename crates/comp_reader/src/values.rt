@@ -1,18 +1,18 @@
 //! Readers of value types, types of values and types of functions.
 
 ghost use Rattle.std.specs.Prelude.{◌≡◌, Result, Option, Ok};
-ghost use Rattle.comp_types.specs.declared.types.ValType.{ValType as value_type};
-ghost use Rattle.comp_types.specs.Vectors.{optional_at, label_alone};
-ghost use Rattle.comp_types.specs.Types.{primitive_of, value_at, field_at, case_at, record_at, variant_at, tuple_at, flags_at, enum_at, result_at, defined_of, result_type_at, func_at};
+ghost use Rattle.comp_format.specs.declared.types.ValType.{ValType as value_type};
+ghost use Rattle.comp_format.specs.Vectors.{optional_at, label_alone};
+ghost use Rattle.comp_format.specs.Types.{primitive_of, value_at, field_at, case_at, record_at, variant_at, tuple_at, flags_at, enum_at, result_at, defined_of, result_type_at, func_at};
 ghost use Rattle.comp_reader.specs.Refusal.{Gives};
 
 use crate::error::ReadError;
 use crate::read::{
     Field, Labelled, byte_of, labelled_of, mark_of, number_of, signed_index_of, vector_of,
 };
-use comp_types::{DefinedType, FuncType, Primitive, ValType};
+use comp_format::{DefinedType, FuncType, Primitive, ValType};
 use std::alloc::Global;
-use warg_base::{Sequence, Text};
+use warg_values::{Sequence, Text};
 
 /// The primitive of a byte.
 fn primitive_of_byte(byte: u8) -> Option<Primitive>
@@ -39,7 +39,7 @@ fn primitive_of_byte(byte: u8) -> Option<Primitive>
 /// The byte of error contexts, which are not carried.
 const ERROR_CONTEXT: u8 = 0x64;
 
-#[tactic(auto, unfolding(comp_types::specs::Types::value_at))]
+#[tactic(auto, unfolding(comp_format::specs::Types::value_at))]
 pub fn value_of(bytes: &[u8]) -> Result<(ValType, &[u8]), ReadError>
     ensures { Gives (λ x. (x.0, x.1.now)) result (value_at bytes.now) }
 {
@@ -71,7 +71,7 @@ impl Field for ValType {
 }
 
 /// A flag, and the value type where there is one.
-#[tactic(auto, unfolding(comp_types::specs::Vectors::optional_at))]
+#[tactic(auto, unfolding(comp_format::specs::Vectors::optional_at))]
 fn optional_of(bytes: &[u8]) -> Result<(Option<ValType>, &[u8]), ReadError>
     ensures { Gives (λ x. (x.0, x.1.now)) result (optional_at value_at bytes.now) }
 {
@@ -89,7 +89,7 @@ fn optional_of(bytes: &[u8]) -> Result<(Option<ValType>, &[u8]), ReadError>
 impl Labelled for (Text, ValType) {
     ghost behind_at = { field_at };
 
-    #[tactic(auto, unfolding(comp_types::specs::Types::field_at, comp_types::specs::Vectors::under_label))]
+    #[tactic(auto, unfolding(comp_format::specs::Types::field_at, comp_format::specs::Vectors::under_label))]
     fn read_behind(_alloc: Global, label: Text, bytes: &[u8]) -> Result<(Self, &[u8]), ReadError> {
         let (ty, rest) = value_of(bytes)?;
         Ok(((label, ty), rest))
@@ -99,7 +99,7 @@ impl Labelled for (Text, ValType) {
 impl Labelled for (Text, Option<ValType>) {
     ghost behind_at = { case_at };
 
-    #[tactic(auto, unfolding(comp_types::specs::Types::case_at))]
+    #[tactic(auto, unfolding(comp_format::specs::Types::case_at))]
     fn read_behind(_alloc: Global, label: Text, bytes: &[u8]) -> Result<(Self, &[u8]), ReadError> {
         let (ty, rest) = optional_of(bytes)?;
         let rest = mark_of(0, rest)?;
@@ -110,13 +110,13 @@ impl Labelled for (Text, Option<ValType>) {
 impl Labelled for Text {
     ghost behind_at = { label_alone };
 
-    #[tactic(auto, unfolding(comp_types::specs::Vectors::label_alone))]
+    #[tactic(auto, unfolding(comp_format::specs::Vectors::label_alone))]
     fn read_behind(_alloc: Global, label: Text, bytes: &[u8]) -> Result<(Self, &[u8]), ReadError> {
         Ok((label, bytes))
     }
 }
 
-#[tactic(auto, unfolding(comp_types::specs::Types::record_at))]
+#[tactic(auto, unfolding(comp_format::specs::Types::record_at))]
 fn record_of(alloc: Global, bytes: &[u8]) -> Result<(DefinedType, &[u8]), ReadError>
     ensures { Gives (λ x. (x.0, x.1.now)) result (record_at bytes.now) }
 {
@@ -127,7 +127,7 @@ fn record_of(alloc: Global, bytes: &[u8]) -> Result<(DefinedType, &[u8]), ReadEr
     Ok((DefinedType::RecordOf(Sequence::from_vec(fields)), rest))
 }
 
-#[tactic(auto, unfolding(comp_types::specs::Types::variant_at))]
+#[tactic(auto, unfolding(comp_format::specs::Types::variant_at))]
 fn variant_of(alloc: Global, bytes: &[u8]) -> Result<(DefinedType, &[u8]), ReadError>
     ensures { Gives (λ x. (x.0, x.1.now)) result (variant_at bytes.now) }
 {
@@ -138,7 +138,7 @@ fn variant_of(alloc: Global, bytes: &[u8]) -> Result<(DefinedType, &[u8]), ReadE
     Ok((DefinedType::VariantOf(Sequence::from_vec(cases)), rest))
 }
 
-#[tactic(auto, unfolding(comp_types::specs::Types::tuple_at))]
+#[tactic(auto, unfolding(comp_format::specs::Types::tuple_at))]
 fn tuple_of(alloc: Global, bytes: &[u8]) -> Result<(DefinedType, &[u8]), ReadError>
     ensures { Gives (λ x. (x.0, x.1.now)) result (tuple_at bytes.now) }
 {
@@ -149,7 +149,7 @@ fn tuple_of(alloc: Global, bytes: &[u8]) -> Result<(DefinedType, &[u8]), ReadErr
     Ok((DefinedType::TupleOf(Sequence::from_vec(parts)), rest))
 }
 
-#[tactic(auto, unfolding(comp_types::specs::Types::flags_at))]
+#[tactic(auto, unfolding(comp_format::specs::Types::flags_at))]
 fn flags_of(alloc: Global, bytes: &[u8]) -> Result<(DefinedType, &[u8]), ReadError>
     ensures { Gives (λ x. (x.0, x.1.now)) result (flags_at bytes.now) }
 {
@@ -163,7 +163,7 @@ fn flags_of(alloc: Global, bytes: &[u8]) -> Result<(DefinedType, &[u8]), ReadErr
     Ok((DefinedType::FlagsOf(Sequence::from_vec(labels)), rest))
 }
 
-#[tactic(auto, unfolding(comp_types::specs::Types::enum_at))]
+#[tactic(auto, unfolding(comp_format::specs::Types::enum_at))]
 fn enum_of(alloc: Global, bytes: &[u8]) -> Result<(DefinedType, &[u8]), ReadError>
     ensures { Gives (λ x. (x.0, x.1.now)) result (enum_at bytes.now) }
 {
@@ -174,7 +174,7 @@ fn enum_of(alloc: Global, bytes: &[u8]) -> Result<(DefinedType, &[u8]), ReadErro
     Ok((DefinedType::EnumOf(Sequence::from_vec(labels)), rest))
 }
 
-#[tactic(auto, unfolding(comp_types::specs::Types::result_at))]
+#[tactic(auto, unfolding(comp_format::specs::Types::result_at))]
 fn result_of(bytes: &[u8]) -> Result<(DefinedType, &[u8]), ReadError>
     ensures { Gives (λ x. (x.0, x.1.now)) result (result_at bytes.now) }
 {
@@ -184,7 +184,7 @@ fn result_of(bytes: &[u8]) -> Result<(DefinedType, &[u8]), ReadError>
 }
 
 /// A type of values that has parts, behind its byte, where the byte is one of such a type.
-#[tactic(auto, unfolding(comp_types::specs::Types::defined_of))]
+#[tactic(auto, unfolding(comp_format::specs::Types::defined_of))]
 pub fn defined_of(alloc: Global, byte: u8, rest: &[u8]) -> Result<(DefinedType, &[u8]), ReadError>
     ensures { Gives (λ x. (x.0, x.1.now)) result (defined_of byte rest.now) }
 {
@@ -219,7 +219,7 @@ pub fn defined_of(alloc: Global, byte: u8, rest: &[u8]) -> Result<(DefinedType, 
 }
 
 /// The result of a function.
-#[tactic(auto, unfolding(comp_types::specs::Types::result_type_at))]
+#[tactic(auto, unfolding(comp_format::specs::Types::result_type_at))]
 fn result_type_of(bytes: &[u8]) -> Result<(Option<ValType>, &[u8]), ReadError>
     ensures { Gives (λ x. (x.0, x.1.now)) result (result_type_at bytes.now) }
 {
@@ -235,7 +235,7 @@ fn result_type_of(bytes: &[u8]) -> Result<(Option<ValType>, &[u8]), ReadError>
 }
 
 /// A type of functions, behind its byte.
-#[tactic(auto, unfolding(comp_types::specs::Types::func_at))]
+#[tactic(auto, unfolding(comp_format::specs::Types::func_at))]
 pub fn func_of(alloc: Global, bytes: &[u8]) -> Result<(FuncType, &[u8]), ReadError>
     ensures { Gives (λ x. (x.0, x.1.now)) result (func_at bytes.now) }
 {

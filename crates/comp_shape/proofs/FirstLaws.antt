@@ -3,11 +3,11 @@ use Rattle.std.proofs.Common.{◌≡◌, ℕ, ◌+◌, ◌&&◌, Bool, true, fal
 use Rattle.std.specs.List.{list_all}
 use Rattle.std.proofs.lemmas.List.{length-map, take-map, take_more, take-append-drop}
 use Rattle.std.proofs.lemmas.List.Folds.{list_all-append, list_all-map}
-use Rattle.warg_base.proofs.ReadingLaws.{ok_is}
-use Rattle.comp_types.specs.declared.types.Item.{Item}
-use Rattle.comp_types.specs.Items.{ItemTree, Ty, Export, item_tree}
-use Rattle.comp_types.specs.Sections.{Section, Named, CoreModules, CoreInstances, CoreTypes, Nested, Instances, Aliases, Types, Canons, Imports, Exports, Sections, none, more, SectionsForm, ComponentForm, Reads, header, section_id, section_items, items_in, frame_at}
-use Rattle.comp_types.proofs.SectionLaws.{reads_once, frame_form, frame_again, framed_shorter}
+use Rattle.warg_values.specs.ReadingLaws.{ok_is}
+use Rattle.comp_format.specs.declared.types.Item.{Item}
+use Rattle.comp_format.specs.Items.{ItemTree, Ty, Export, item_tree}
+use Rattle.comp_format.specs.Sections.{Section, Named, CoreModules, CoreInstances, CoreTypes, Nested, Instances, Aliases, Types, Canons, Imports, Exports, Sections, none, more, SectionsForm, ComponentForm, Reads, header, section_id, section_items, items_in, frame_at}
+use Rattle.comp_format.proofs.SectionLaws.{reads_once, frame_form, frame_again, framed_shorter}
 use Rattle.comp_shape.specs.FirstForm.{is_plain_item, is_plain_id, have_plain_ids, is_first_form, are_first_form, InFirstForm, IsFirstOther}
 
 pub section_is : (s : Section) → is_first_form s ≡ (is_plain_id (section_id s) && list_all is_plain_item (section_items s))

@@ -3,10 +3,10 @@ use Rattle.std.proofs.Common.{◌≡◌, ℕ, ◌<◌, Bool, true, false, cond, 
 use Rattle.std.specs.Prelude.{slice_get, option_map, option_and_then}
 use Rattle.std.specs.List.{AllByRecursion}
 use Rattle.std.proofs.lemmas.List.Elements.{All-from_recursion}
-use Rattle.comp_types.specs.Vectors.{Many}
-use Rattle.comp_types.specs.Definitions.{TypeTree}
-use Rattle.comp_types.specs.Items.{ExportTree, ItemTree, Ty, Export, ExportName, ExportForm}
-use Rattle.comp_types.specs.Sections.{Section, Types, Exports, Sections, none, more, ContentForm, SectionsForm, section_items, items_in}
+use Rattle.comp_format.specs.Vectors.{Many}
+use Rattle.comp_format.specs.Definitions.{TypeTree}
+use Rattle.comp_format.specs.Items.{ExportTree, ItemTree, Ty, Export, ExportName, ExportForm}
+use Rattle.comp_format.specs.Sections.{Section, Types, Exports, Sections, none, more, ContentForm, SectionsForm, section_items, items_in}
 use Rattle.comp_shape.specs.declared.shape.Entity.{Entity}
 use Rattle.comp_shape.specs.FirstForm.{is_first_form, are_first_form, InFirstForm}
 use Rattle.comp_shape.specs.Shape.{ValueTree, Value, EntityTree, IsType, ShapeTree, Known, definition_tree, is_taken, with_export, after, after_all, nothing_known, shape}

@@ -6,12 +6,12 @@ use Rattle.std.proofs.lemmas.List.{append_assoc, take-append-le}
 use Rattle.std.proofs.lemmas.List.Concat.{flat_map-cons}
 use Rattle.std.proofs.lemmas.List.Folds.{list_all-append}
 use Rattle.std.proofs.Math.Seq.{take-append-add}
-use Rattle.warg_base.proofs.ReadingLaws.{ok_is}
-use Rattle.comp_types.specs.Items.{ItemTree}
-use Rattle.comp_types.specs.Vectors.{Many}
-use Rattle.comp_types.specs.Sections.{Section, Sections, none, more, SectionsForm, Reads, header, section_id, section_items, items_in, frame_at, content_at}
-use Rattle.comp_types.proofs.SectionLaws.{frame_again, framed_shorter, section_again, section_scopes, reads_once}
-use Rattle.comp_types.proofs.ScopeLaws.{many_used}
+use Rattle.warg_values.specs.ReadingLaws.{ok_is}
+use Rattle.comp_format.specs.Items.{ItemTree}
+use Rattle.comp_format.specs.Vectors.{Many}
+use Rattle.comp_format.specs.Sections.{Section, Sections, none, more, SectionsForm, Reads, header, section_id, section_items, items_in, frame_at, content_at}
+use Rattle.comp_format.proofs.SectionLaws.{frame_again, framed_shorter, section_again, section_scopes, reads_once}
+use Rattle.comp_format.proofs.ScopeLaws.{many_used}
 use Rattle.comp_reader.specs.declared.places.ItemPlace.{ItemPlace}
 use Rattle.comp_reader.specs.Places.{SectionForm, StandsAt}
 use Rattle.comp_reader.proofs.PlaceLaws.{same_frame, behind_header}

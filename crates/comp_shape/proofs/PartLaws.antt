@@ -2,8 +2,8 @@
 use Rattle.std.proofs.Common.{◌≡◌, ℕ, suc, ◌+◌, ◌<◌, List, [], ◌∷◌, ◌++◌, length, take, drop, get_or, drop-cons, Option, Some, None, refl, sym, ap, ◌∙◌}
 use Rattle.std.specs.Prelude.{option_map, option_and_then}
 use Rattle.std.proofs.lemmas.List.{take_more, take-append-drop}
-use Rattle.comp_types.specs.declared.types.ValType.{ValType}
-use Rattle.comp_types.specs.declared.types.Primitive.{Primitive as PrimitiveType}
+use Rattle.comp_format.specs.declared.types.ValType.{ValType}
+use Rattle.comp_format.specs.declared.types.Primitive.{Primitive as PrimitiveType}
 use Rattle.comp_shape.specs.declared.shape.ValueShape.{fold-roll-ValueShape}
 use Rattle.comp_shape.specs.declared.shape.ValueShape.TheVariants as made
 use Rattle.comp_shape.specs.declared.shape.ValueShape.TheOpen as layer

@@ -10,15 +10,15 @@ use Rattle.std.specs.Str.{str_to_ascii_lowercase}
 use Rattle.std.proofs.lemmas.Option.{slice_get-map, slice_get-get_or}
 use Rattle.std.proofs.lemmas.List.{map_push, map-append, take_more, take-map, take-append-drop}
 use Rattle.std.proofs.lemmas.List.Elements.{All-from_recursion}
-use Rattle.comp_types.specs.declared.types.Item.{Item}
-use Rattle.comp_types.specs.declared.types.DefType.{DefType}
-use Rattle.comp_types.specs.declared.types.DefinedType.TheVariants as defined
-use Rattle.comp_types.specs.declared.types.ValType.{ValType}
-use Rattle.comp_types.specs.declared.types.ValType.TheVariants as value
-use Rattle.comp_types.specs.Definitions as definition
-use Rattle.comp_types.specs.Items.{ExportTree, ItemTree, Ty, Export, item_tree}
-use Rattle.comp_types.specs.Views as types
-use Rattle.comp_reader.proofs.TextSets.{no_texts, more_texts}
+use Rattle.comp_format.specs.declared.types.Item.{Item}
+use Rattle.comp_format.specs.declared.types.DefType.{DefType}
+use Rattle.comp_format.specs.declared.types.DefinedType.TheVariants as defined
+use Rattle.comp_format.specs.declared.types.ValType.{ValType}
+use Rattle.comp_format.specs.declared.types.ValType.TheVariants as value
+use Rattle.comp_format.specs.Definitions as definition
+use Rattle.comp_format.specs.Items.{ExportTree, ItemTree, Ty, Export, item_tree}
+use Rattle.comp_format.specs.Views as types
+use Rattle.comp_reader.proofs.TextSets.{no_texts, more_texts, was_there, was_missing}
 use Rattle.comp_shape.specs.FirstForm.{InFirstForm, is_primitive, is_plain_type, is_plain_item}
 use Rattle.comp_shape.specs.declared.shape.Entity.{Entity}
 use Rattle.comp_shape.specs.Shape.{ValueTree, Primitive, Value, EntityTree, IsType, Known, part_trees, definition_tree, is_taken, with_export, after, after_all, nothing_known, BreaksFirst}
@@ -43,26 +43,18 @@ pub after_own : (k : Known) (e : ExportTree) (t : ValueTree) → slice_get k.typ
 unfolding after
 after_own k e t here own = rw here refl
 
--- whether a name is taken, by the names that are kept in lower case
-taken_from : (exports : List (List ℕ × Entity)) (names : BTreeSet (List ℕ)) (name lower : List ℕ) → lower ≡ str_to_ascii_lowercase name → AreNamesOf exports names → has_name names lower ≡ is_taken name (entries exports)
-taken_from exports names name lower l kept = ap (has_name names) l ∙ kept (str_to_ascii_lowercase name) ∙ taken_is exports name
-
--- so it is, where the set does not take it in, and else it is not
+-- a name is taken where the names that are kept in lower case do not take it in, and else it is not
 pub was_taken : (exports : List (List ℕ × Entity)) (names : BTreeSet (List ℕ)) (name lower : List ℕ) (added : Bool) → lower ≡ str_to_ascii_lowercase name → AreNamesOf exports names → added ≡ not (has_name names lower) → added ≡ false
     → is_taken name (entries exports) ≡ true
-was_taken exports names name lower added l kept is not_added = sym (taken_from exports names name lower l kept) ∙ found (has_name names lower) (sym is ∙ not_added)
-  where
-    found : (b : Bool) → not b ≡ false → b ≡ true
-    found true e = refl
-    found false e = absurd cc
+was_taken exports names name lower added l kept is not_added =
+    let lowers = map (λ (e : List ℕ × Entity). str_to_ascii_lowercase e.0) exports in
+    sym (taken_is exports name) ∙ ap (λ (n : List ℕ). list_any (bytes_eq n) lowers) (sym l) ∙ was_there (λ (n : List ℕ). n) lowers names lower added kept is not_added
 
 pub is_own : (exports : List (List ℕ × Entity)) (names : BTreeSet (List ℕ)) (name lower : List ℕ) (added : Bool) → lower ≡ str_to_ascii_lowercase name → AreNamesOf exports names → added ≡ not (has_name names lower) → added ≡ true
     → is_taken name (entries exports) ≡ false
-is_own exports names name lower added l kept is was_added = sym (taken_from exports names name lower l kept) ∙ missing (has_name names lower) (sym is ∙ was_added)
-  where
-    missing : (b : Bool) → not b ≡ true → b ≡ false
-    missing true e = absurd cc
-    missing false e = refl
+is_own exports names name lower added l kept is was_added =
+    let lowers = map (λ (e : List ℕ × Entity). str_to_ascii_lowercase e.0) exports in
+    sym (taken_is exports name) ∙ ap (λ (n : List ℕ). list_any (bytes_eq n) lowers) (sym l) ∙ was_missing (λ (n : List ℕ). n) lowers names lower added kept is was_added
 
 -- no names, and one more
 pub none_named : (names : BTreeSet (List ℕ)) → names.keys ≡ [] → AreNamesOf [] names

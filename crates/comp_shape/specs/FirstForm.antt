@@ -2,16 +2,16 @@
 -- description.
 use Rattle.std.specs.Prelude.{◌≡◌, ℕ, ◌+◌, ◌<◌, Bool, true, false, ◌&&◌, ◌||◌, List, ◌++◌, length, take, is_none, ◌==◌}
 use Rattle.std.specs.List.{list_all}
-use Rattle.comp_types.specs.declared.types.ValType.{ValType}
-use Rattle.comp_types.specs.declared.types.ValType.TheVariants as value
-use Rattle.comp_types.specs.declared.types.DefinedType.{DefinedType}
-use Rattle.comp_types.specs.declared.types.DefinedType.TheVariants as defined
-use Rattle.comp_types.specs.declared.types.Sort.{Sort}
-use Rattle.comp_types.specs.declared.types.Sort.TheVariants as sort
-use Rattle.comp_types.specs.Definitions.{TypeTree, Defined}
-use Rattle.comp_types.specs.Items.{ExportTree, ItemTree, Ty, Export}
-use Rattle.comp_types.specs.Sections.{Section, Types, Exports, Sections, none, more, ComponentForm, header, section_items, items_in, section_id}
-use Rattle.comp_types.specs.Vectors.{Many}
+use Rattle.comp_format.specs.declared.types.ValType.{ValType}
+use Rattle.comp_format.specs.declared.types.ValType.TheVariants as value
+use Rattle.comp_format.specs.declared.types.DefinedType.{DefinedType}
+use Rattle.comp_format.specs.declared.types.DefinedType.TheVariants as defined
+use Rattle.comp_format.specs.declared.types.Sort.{Sort}
+use Rattle.comp_format.specs.declared.types.Sort.TheVariants as sort
+use Rattle.comp_format.specs.Definitions.{TypeTree, Defined}
+use Rattle.comp_format.specs.Items.{ExportTree, ItemTree, Ty, Export}
+use Rattle.comp_format.specs.Sections.{Section, Types, Exports, Sections, none, more, ComponentForm, header, section_items, items_in, section_id}
+use Rattle.comp_format.specs.Vectors.{Many}
 use Rattle.comp_reader.specs.Places.{SectionForm}
 
 abbrev pub is_primitive : ValType → Bool

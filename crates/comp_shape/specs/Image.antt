@@ -2,14 +2,14 @@
 -- which export of which instance each of its exports is, all indices followed through aliases and earlier exports.
 use Rattle.std.specs.Prelude.{ℕ, List, [], ◌∷◌, ◌++◌, length, map, Option, Some, None, slice_get, option_map, option_and_then, ◌==◌}
 use Rattle.std.specs.List.{filter}
-use Rattle.comp_types.specs.declared.types.Sort.{Sort}
-use Rattle.comp_types.specs.declared.types.Sort.TheVariants as sort
-use Rattle.comp_types.specs.declared.types.TypeRef.{TypeRef}
-use Rattle.comp_types.specs.declared.types.Arg.{Arg}
-use Rattle.comp_types.specs.declared.types.InstanceItem.TheVariants as instance
-use Rattle.comp_types.specs.declared.types.Alias.TheVariants as alias
-use Rattle.comp_types.specs.Items.{ItemTree, Custom, CoreModule, CoreMade, CoreTy, Component, Instance, Aliased, Ty, Canonical, Import, Export}
-use Rattle.comp_types.specs.Spaces.{space_of}
+use Rattle.comp_format.specs.declared.types.Sort.{Sort}
+use Rattle.comp_format.specs.declared.types.Sort.TheVariants as sort
+use Rattle.comp_format.specs.declared.types.TypeRef.{TypeRef}
+use Rattle.comp_format.specs.declared.types.Arg.{Arg}
+use Rattle.comp_format.specs.declared.types.InstanceItem.TheVariants as instance
+use Rattle.comp_format.specs.declared.types.Alias.TheVariants as alias
+use Rattle.comp_format.specs.Items.{ItemTree, Custom, CoreModule, CoreMade, CoreTy, Component, Instance, Aliased, Ty, Canonical, Import, Export}
+use Rattle.comp_format.specs.Spaces.{space_of}
 use Rattle.comp_shape.specs.Shape.{EntityTree}
 
 -- what an argument is: a whole instance, or an export of one

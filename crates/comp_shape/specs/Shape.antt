@@ -3,13 +3,13 @@
 use Rattle.std.specs.Prelude.{◌≡◌, ℕ, Bool, List, [], ◌∷◌, ◌++◌, take, Option, Some, None, slice_get, option_map, option_and_then, if◌then◌else◌}
 use Rattle.std.specs.List.{list_any}
 use Rattle.std.specs.Str.{str_eq_ignore_ascii_case}
-use Rattle.comp_types.specs.declared.types.Primitive.{Primitive as PrimitiveType}
-use Rattle.comp_types.specs.declared.types.ValType.{ValType}
-use Rattle.comp_types.specs.declared.types.ValType.TheVariants as value
-use Rattle.comp_types.specs.declared.types.DefinedType.{DefinedType}
-use Rattle.comp_types.specs.declared.types.DefinedType.TheVariants as defined
-use Rattle.comp_types.specs.Definitions as definition
-use Rattle.comp_types.specs.Items.{ExportTree, ItemTree, Ty, Export}
+use Rattle.comp_format.specs.declared.types.Primitive.{Primitive as PrimitiveType}
+use Rattle.comp_format.specs.declared.types.ValType.{ValType}
+use Rattle.comp_format.specs.declared.types.ValType.TheVariants as value
+use Rattle.comp_format.specs.declared.types.DefinedType.{DefinedType}
+use Rattle.comp_format.specs.declared.types.DefinedType.TheVariants as defined
+use Rattle.comp_format.specs.Definitions as definition
+use Rattle.comp_format.specs.Items.{ExportTree, ItemTree, Ty, Export}
 use Rattle.comp_reader.specs.declared.places.ItemPlace.{ItemPlace}
 use Rattle.comp_reader.specs.Places.{StandsAt}
 

@@ -5,8 +5,8 @@ use Rattle.std.specs.Cmp.Lexicographic.{slice_cmp}
 use Rattle.std.specs.List.{list_any}
 use Rattle.std.specs.Ordering.{nat_cmp}
 use Rattle.std.specs.Str.{bytes_eq, str_to_ascii_lowercase}
-use Rattle.comp_types.specs.declared.types.DefType.{DefType}
-use Rattle.comp_types.specs.Views as types
+use Rattle.comp_format.specs.declared.types.DefType.{DefType}
+use Rattle.comp_format.specs.Views as types
 use Rattle.comp_shape.specs.FirstForm.{is_plain_type}
 use Rattle.comp_shape.specs.declared.shape.ValueShape.{ValueShape, fold-ValueShape}
 use Rattle.comp_shape.specs.declared.shape.ValueShape.TheOpen.{ValueShape-F}

@@ -7,7 +7,7 @@ ghost use Rattle.comp_shape.specs.declared.error.ShapeError.TheVariants.{Memory 
 use comp_reader::ReadError;
 use std::alloc::{AllocError, AllocFailed};
 use thiserror::Error;
-use warg_base::Memory;
+use warg_values::Memory;
 
 /// Why a component could not be read. The number is the place of the fault, in bytes from the start.
 #[derive(Clone, Copy, Debug, PartialEq, Eq, Error)]

@@ -2,16 +2,16 @@
 
 ghost use Rattle.std.specs.Prelude.{◌≡◌, ℕ, List, true, false, map, OnOk, IfOk, IfErr, Ok, Err, Some, None, MatchOption};
 ghost use Rattle.std.specs.List.{list_all};
-ghost use Rattle.comp_types.specs.Items.{ItemTree, item_tree};
-ghost use Rattle.comp_types.specs.Sections.{Sections, SectionsForm, Reads};
-ghost use Rattle.comp_types.specs.Views.{type_tree};
+ghost use Rattle.comp_format.specs.Items.{ItemTree, item_tree};
+ghost use Rattle.comp_format.specs.Sections.{Sections, SectionsForm, Reads};
+ghost use Rattle.comp_format.specs.Views.{type_tree};
 ghost use Rattle.comp_shape.specs.FirstForm.{InFirstForm, IsFirstOther, FirstNot, StandsFirstOther, has_plain_id, have_plain_ids, is_plain_id, is_plain_item, is_plain_type, is_primitive};
 ghost use Rattle.comp_reader.specs.Places.{StandsAt};
 ghost use Rattle.comp_shape.specs.Refusal.{IsNotBuiltOrMemory};
 
 use crate::error::ShapeError;
+use comp_format::{DefType, DefinedType, Item, Sort, ValType};
 use comp_reader::{ItemPlace, item_place, read_section};
-use comp_types::{DefType, DefinedType, Item, Sort, ValType};
 use std::alloc::Global;
 
 /// How many bytes the header of a component has.

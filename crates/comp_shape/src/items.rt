@@ -1,12 +1,12 @@
 //! The items of a component.
 
 ghost use Rattle.std.specs.Prelude.{◌≡◌, ℕ, List, map, IfOk, MatchResult, Err};
-ghost use Rattle.comp_types.specs.Fault.{Form as no_form, NotCarried as not_carried};
-ghost use Rattle.comp_types.specs.Items.{ItemTree, item_tree};
-ghost use Rattle.comp_types.specs.Sections.{Reads, component_at};
+ghost use Rattle.comp_format.specs.Fault.{Form as no_form, NotCarried as not_carried};
+ghost use Rattle.comp_format.specs.Items.{ItemTree, item_tree};
+ghost use Rattle.comp_format.specs.Sections.{Reads, component_at};
 
 use crate::error::ShapeError;
-use comp_types::Item;
+use comp_format::Item;
 use std::alloc::Global;
 
 /// The items of a component, in the order of its bytes. A custom section's bytes, a core module and a nested component

@@ -8,12 +8,12 @@
 mod error;
 mod first_form;
 mod items;
+mod read;
 mod shape;
 mod space;
 mod values;
-mod walk;
 
 pub use error::ShapeError;
 pub use items::read_items;
+pub use read::{read_component, read_shape};
 pub use shape::{Entity, Shape, TypeShape, ValueShape};
-pub use walk::{read_component, read_shape};

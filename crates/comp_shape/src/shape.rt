@@ -1,7 +1,7 @@
 //! Shapes: what a component imports and exports.
 
-use comp_types::Primitive;
-use warg_base::Text;
+use comp_format::Primitive;
+use warg_values::Text;
 
 /// A value type, with all indices followed.
 #[derive(Debug, Drop)]

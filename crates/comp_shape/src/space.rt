@@ -1,9 +1,9 @@
 //! What is known after some items: the index space of types, and the exports.
 
 use crate::shape::Entity;
-use comp_types::DefType;
+use comp_format::DefType;
 use std::collections::BTreeSet;
-use warg_base::Text;
+use warg_values::Text;
 
 /// The types so far, the names of exports so far in lower case, and the exports.
 #[derive(Drop)]

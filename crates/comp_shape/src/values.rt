@@ -1,14 +1,14 @@
 //! Value types, with all indices followed.
 
 ghost use Rattle.std.specs.Prelude.{◌≡◌, map, IfOk, option_map};
-ghost use Rattle.comp_types.specs.Views.{type_tree};
+ghost use Rattle.comp_format.specs.Views.{type_tree};
 ghost use Rattle.comp_shape.specs.Shape.{definition_tree, part_trees};
 ghost use Rattle.comp_shape.specs.Views.{value_tree};
 
 use crate::shape::ValueShape;
-use comp_types::{DefType, DefinedType, ValType};
+use comp_format::{DefType, DefinedType, ValType};
 use std::alloc::Global;
-use warg_base::Memory;
+use warg_values::Memory;
 
 /// The parts of a tuple, where all are primitives.
 fn parts_of(alloc: Global, parts: &[ValType]) -> Result<Option<Vec<ValueShape>>, Memory>

@@ -2,7 +2,7 @@
 -- repeated one counts at last.
 use Rattle.std.specs.Prelude.{ℕ, List, [], ◌∷◌, Bool, true, false, cond, Option, Some, None, Result, Ok, Err, bytes_eq, codes, unwrap_or}
 use Rattle.indexmap.specs.IndexMap.{insert_entry}
-use Rattle.warg_base.specs.Reading.{◌>>=◌}
+use Rattle.warg_values.specs.Reading.{◌>>=◌}
 use Rattle.yaml_small.specs.declared.schema.Resolved.{Resolved}
 use Rattle.yaml_small.specs.declared.schema.Resolved.TheVariants as resolved
 use Rattle.yaml_small.specs.Schema as schema

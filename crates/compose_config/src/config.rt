@@ -12,7 +12,7 @@ use crate::index::index_map;
 use crate::parts::{Dependency, Instantiation};
 use indexmap::IndexMap;
 use std::alloc::Global;
-use warg_base::Text;
+use warg_values::Text;
 use yaml_read::{DeError, MapFill, ReadYaml, YamlDeserializer, from_str};
 
 /// How a component is composed of others.

@@ -12,7 +12,7 @@ ghost use Rattle.compose_config.specs.PlanLaws as laws;
 
 use indexmap::IndexMap;
 use std::alloc::Global;
-use warg_base::{Memory, Text};
+use warg_values::{Memory, Text};
 use yaml_read::{DeError, MapFill, ReadYaml, YamlDeserializer};
 use yaml_small::{Resolved, resolve};
 

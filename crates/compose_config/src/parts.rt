@@ -10,7 +10,7 @@ ghost use Rattle.compose_config.specs.PlanLaws as laws;
 use crate::index::{FromText, index_map};
 use indexmap::IndexMap;
 use std::alloc::Global;
-use warg_base::{Memory, Text};
+use warg_values::{Memory, Text};
 use yaml_read::{DeError, MapFill, ReadYaml, YamlDeserializer};
 
 /// A component that a composition depends on.

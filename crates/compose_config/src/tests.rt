@@ -3,7 +3,7 @@
 use crate::Config;
 use std::alloc::Global;
 use std::test::Fail;
-use warg_base::Text;
+use warg_values::Text;
 use yaml_read::DeError;
 use yaml_small::Marker;
 

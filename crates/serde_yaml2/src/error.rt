@@ -5,7 +5,7 @@ ghost use Rattle.serde_yaml2.specs.declared.error.Errors.TheVariants.{Memory};
 
 use std::alloc::AllocError;
 use thiserror::Error;
-use warg_base::{Memory as OutOfMemory, Text};
+use warg_values::{Memory as OutOfMemory, Text};
 
 /// Why a value was not written.
 #[derive(Debug, Drop, PartialEq, Eq, Error)]

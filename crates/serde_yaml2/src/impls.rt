@@ -7,7 +7,7 @@ ghost use Rattle.serde_yaml2.specs.Values.{character_of, optional, pair_of, trip
 use crate::error::Errors;
 use crate::serializer::YamlSerializer;
 use crate::write::WriteYaml;
-use warg_base::Text;
+use warg_values::Text;
 
 /// A value that is lent is written as it is.
 impl<T: WriteYaml> WriteYaml for &T {

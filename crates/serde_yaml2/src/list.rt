@@ -6,7 +6,7 @@ use crate::error::Errors;
 use crate::serializer::YamlSerializer;
 use crate::write::WriteYaml;
 use indexmap::IndexMap;
-use warg_base::Text;
+use warg_values::Text;
 
 impl<T: WriteYaml> WriteYaml for Vec<T> {
     ghost written = { λ v. list_of T.written v.items };

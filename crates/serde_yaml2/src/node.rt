@@ -12,7 +12,7 @@ ghost use Rattle.serde_yaml2.specs.Nodes.{data_written, node_written};
 use crate::error::Errors;
 use crate::serializer::YamlSerializer;
 use crate::write::WriteYaml;
-use warg_base::Text;
+use warg_values::Text;
 use yaml_read::YamlNodeWrapper;
 use yaml_small::Yaml;
 

@@ -13,7 +13,7 @@ ghost use Rattle.serde_yaml2.specs.NodeReturnLaws as node_laws;
 
 use crate::write::WriteYaml;
 use indexmap::IndexMap;
-use warg_base::Text;
+use warg_values::Text;
 use yaml_read::{ReadYaml, YamlNodeWrapper};
 
 /// A type that is read and written, and says which of its values come back.

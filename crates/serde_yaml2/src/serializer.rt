@@ -14,7 +14,7 @@ use crate::level::Level;
 use crate::write::WriteYaml;
 use itoa::Buffer;
 use std::alloc::Global;
-use warg_base::Text;
+use warg_values::Text;
 use yaml_text::{push_indentation, push_key, push_text};
 
 /// Writes values as YAML behind a text.

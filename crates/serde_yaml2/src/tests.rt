@@ -4,7 +4,7 @@ use crate::{Errors, WriteYaml, YamlNodeWrapper, YamlSerializer, to_string};
 use indexmap::IndexMap;
 use std::alloc::Global;
 use std::test::Fail;
-use warg_base::Text;
+use warg_values::Text;
 use yaml_small::{Yaml, YamlList, YamlPairs};
 
 /// The text of a value.

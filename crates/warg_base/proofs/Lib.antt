@@ -1,2 +1,1 @@
 pub mod FileMaps
-pub mod ReadingLaws

@@ -4,7 +4,7 @@ use Rattle.std.specs.Coded.{Coded, code_by, coded×, coded_list, coded_ℕ}
 use Rattle.std.specs.Ordering.{nat_cmp}
 use Rattle.std.specs.Cmp.Lexicographic.{slice_cmp}
 use Rattle.std.specs.FinMap as map
-use Rattle.warg_base.specs.Faults.{Schedule, schedule_code}
+use Rattle.warg_values.specs.Faults.{Schedule, schedule_code}
 
 -- the files that are there: the bytes of each path that has a file
 abbrev pub FileMap : Type 0

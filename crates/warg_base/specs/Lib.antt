@@ -1,4 +1,3 @@
-pub mod Faults
+pub use Rattle.warg_values.specs.Faults
 pub mod Files
 pub mod Out
-pub mod Reading

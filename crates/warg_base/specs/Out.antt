@@ -1,6 +1,6 @@
 -- What was written to an output so far.
 use Rattle.std.specs.Prelude.{◌≡◌, ℕ, List, ◌++◌, take}
-use Rattle.warg_base.specs.Faults.{Schedule}
+use Rattle.warg_values.specs.Faults.{Schedule}
 
 -- what a refused write may leave: a front of its bytes was written
 abbrev pub PartlyAdded : List ℕ → List ℕ → List ℕ → Type 0

@@ -1,13 +1,13 @@
 //! Files, as the outside gives and takes them.
 
 ghost use Rattle.std.specs.Prelude.{◌≡◌, ◌≤◌, ℕ, Option, Some, None, IfOk, IfSome, IsErrOf, OnOk, OnErr};
-ghost use Rattle.warg_base.specs.Faults.{Rose};
+ghost use Rattle.warg_values.specs.Faults.{Rose};
 ghost use Rattle.warg_base.specs.Files.{FileMap, PartlyWritten, file_at, with_file};
 ghost use Rattle.warg_base.specs.declared.files.FileError.TheVariants.{Memory as no_memory};
 
-use crate::memory::Memory;
 use std::alloc::{AllocError, AllocFailed, Global};
 use thiserror::Error;
+use warg_values::Memory;
 
 /// Why a file could not be read or written.
 #[derive(Clone, Copy, Debug, PartialEq, Eq, Error)]

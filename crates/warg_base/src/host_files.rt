@@ -1,7 +1,7 @@
 //! The host's files. No clause says what a disk holds: this is the trusted edge.
 
 ghost use Rattle.std.specs.Prelude.{◌≡◌, ◌≤◌, None};
-ghost use Rattle.warg_base.specs.Faults.{Rose};
+ghost use Rattle.warg_values.specs.Faults.{Rose};
 
 use crate::files::{FileError, Files};
 use std::alloc::Global;

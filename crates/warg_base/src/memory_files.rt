@@ -2,17 +2,15 @@
 
 ghost use Rattle.std.specs.Prelude.{◌≡◌, ◌≤◌, ◌++◌, ◌∷◌, [], ◌↔◌, Some, None, IfOk, IsErrOf, OnOk, OnErr, Contains};
 ghost use Rattle.std.specs.FinMap as map;
-ghost use Rattle.warg_base.specs.Faults.{Rose, one_more};
+ghost use Rattle.warg_values.specs.Faults.{Rose, one_more};
 ghost use Rattle.warg_base.specs.Files.{file_at, with_file};
 
-use crate::faults::FaultSchedule;
 use crate::files::{FileError, Files};
-use crate::memory::Memory;
-use crate::text::Text;
 use bytes::Bytes;
 use std::alloc::Global;
 use std::collections::BTreeMap;
 use std::marker::Model;
+use warg_values::{FaultSchedule, Memory, Text};
 
 /// Files in memory, which tell what they hold.
 #[derive(Debug, Drop)]

@@ -1,13 +1,12 @@
 //! An output in memory.
 
 ghost use Rattle.std.specs.Prelude.{◌≡◌, ◌≤◌, ◌+◌, ◌++◌, ◌∷◌, [], ◌↔◌, Some, IsErrOf, OnOk, OnErr, Contains};
-ghost use Rattle.warg_base.specs.Faults.{Rose, one_more};
+ghost use Rattle.warg_values.specs.Faults.{Rose, one_more};
 
-use crate::faults::FaultSchedule;
-use crate::memory::Memory;
 use crate::out::{Out, OutError};
 use std::alloc::Global;
 use std::marker::Model;
+use warg_values::{FaultSchedule, Memory};
 
 /// An output in memory, which tells what was written.
 #[derive(Debug, Drop)]

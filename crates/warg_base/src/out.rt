@@ -1,13 +1,13 @@
 //! Where printed lines go.
 
 ghost use Rattle.std.specs.Prelude.{◌≡◌, ◌≤◌, ◌++◌, ℕ, List, Option, Some, IfSome, IsErrOf, OnOk, OnErr};
-ghost use Rattle.warg_base.specs.Faults.{Rose};
+ghost use Rattle.warg_values.specs.Faults.{Rose};
 ghost use Rattle.warg_base.specs.Out.{PartlyAdded};
 ghost use Rattle.warg_base.specs.declared.out.OutError.TheVariants.{Memory as no_memory};
 
-use crate::memory::Memory;
 use std::alloc::{AllocError, Global};
 use thiserror::Error;
+use warg_values::Memory;
 
 /// Why bytes could not be written.
 #[derive(Clone, Copy, Debug, PartialEq, Eq, Error)]

@@ -10,7 +10,7 @@ use sha2::{Digest, Sha256};
 use std::alloc::Global;
 use std::fmt;
 use std::marker::Model;
-use warg_base::{Memory, Text};
+use warg_values::{Memory, Text};
 
 /// A SHA-256 digest (FIPS 180-4), written as `sha256:` and 64 lower-case hex digits.
 ///

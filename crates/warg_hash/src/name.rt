@@ -17,7 +17,7 @@ use std::fmt;
 use std::hash::{Hash, Hasher};
 use std::marker::Model;
 use thiserror::Error;
-use warg_base::{Memory, Text};
+use warg_values::{Memory, Text};
 
 /// Why a text names nothing.
 #[derive(Clone, Copy, Debug, PartialEq, Eq, Error)]

@@ -5,7 +5,7 @@ use Rattle.std.specs.List.{list_any}
 use Rattle.std.specs.Ordering.{ordering_then, nat_cmp}
 use Rattle.std.specs.declared.cmp.Ordering.{Ordering}
 use Rattle.sha2.specs.Sha256.{sha256}
-use Rattle.warg_base.specs.Faults.{Schedule, one_more}
+use Rattle.warg_values.specs.Faults.{Schedule, one_more}
 
 -- ---- a key, the digest of a text, and a signature
 

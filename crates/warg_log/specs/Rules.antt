@@ -2,7 +2,7 @@
 use Rattle.std.specs.Prelude.{ℕ, ◌==◌, ◌&&◌, ◌||◌, nat_lt, not, Bool, true, false, if◌then◌else◌, List, [], ◌∷◌, ◌++◌, bytes_eq, codes, is_some, Option, Some, None, option_map, option_and_then}
 use Rattle.std.specs.Option.{option_eq, option_or}
 use Rattle.std.specs.List.{flat_map}
-use Rattle.warg_base.specs.declared.moment.Moment.{Moment}
+use Rattle.warg_values.specs.declared.moment.Moment.{Moment}
 use Rattle.semver.specs.Parse.{Parts}
 use Rattle.sha2.specs.Sha256.{sha256}
 use Rattle.warg_record.specs.Record.{Kind, Package, Operator, PlainEntry, Init, GrantFlat, RevokeFlat, Release, Yank, DefineNamespace, ImportNamespace, PlainRecord}

@@ -6,8 +6,8 @@ ghost use Rattle.warg_log.specs.declared.error.ValidationError.TheVariants.{Memo
 use semver::Version;
 use std::alloc::{AllocError, AllocFailed};
 use thiserror::Error;
-use warg_base::{Memory, Moment, Text};
 use warg_hash::{KeyId, RecordId};
+use warg_values::{Memory, Moment, Text};
 
 /// The first rule that a record breaks, with the values that differ.
 #[derive(Debug, Drop, Error)]

@@ -8,9 +8,9 @@ use crate::release::copy_of;
 use crate::releases::Releases;
 use semver::Version;
 use std::alloc::Global;
-use warg_base::Text;
 use warg_hash::{AnyHash, KeyId};
 use warg_record::{LogPermission, PublicKey};
+use warg_values::Text;
 
 /// What is known after the entries of a log: its keys, and its releases or namespaces.
 #[derive(Debug, Drop)]

@@ -1,7 +1,7 @@
 //! The heads of logs.
 
-use warg_base::Moment;
 use warg_hash::RecordId;
+use warg_values::Moment;
 
 /// The last record of a log.
 #[derive(Clone, Copy, Debug, PartialEq, Eq)]

@@ -9,9 +9,9 @@ ghost use Rattle.sha2.specs.Sha256.{sha256};
 use crate::permissions::PermissionSet;
 use std::alloc::Global;
 use std::collections::BTreeMap;
-use warg_base::Memory;
 use warg_hash::KeyId;
 use warg_record::PublicKey;
+use warg_values::Memory;
 
 /// A key, and the permissions that it holds.
 #[derive(Debug, Drop)]

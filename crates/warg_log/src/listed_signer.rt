@@ -3,15 +3,15 @@
 ghost use Rattle.std.specs.Prelude.{◌≡◌, ◌≤◌, ◌↔◌, ◌⊎◌, ◌++◌, ◌∷◌, [], List, ℕ, Some, true, false, IfOk, IfSome, IfNone, IsErrOf, OnOk, OnErr};
 ghost use Rattle.std.specs.List.{list_any};
 ghost use Rattle.std.specs.List.Sorted.{IsPermutation};
-ghost use Rattle.warg_base.specs.Faults.{Rose, one_more};
+ghost use Rattle.warg_values.specs.Faults.{Rose, one_more};
 ghost use Rattle.warg_log.specs.Listed.{is_signature_of, is_signature_listed, IsDue, IsUnlisted};
 
 use crate::signer::{SignError, Signer};
 use std::alloc::Global;
 use std::marker::Model;
-use warg_base::{FaultSchedule, Memory};
 use warg_hash::AnyHash;
 use warg_record::{PublicKey, Signature};
+use warg_values::{FaultSchedule, Memory};
 
 /// Gives the listed signatures, each for the text of its digest, and fails at any other text.
 ///

@@ -5,7 +5,7 @@ ghost use Rattle.warg_log.specs.Namespaces.{space, namespace_view};
 
 use std::alloc::Global;
 use std::collections::BTreeMap;
-use warg_base::{Memory, Text};
+use warg_values::{Memory, Text};
 
 /// What an operator's log says of a namespace.
 #[derive(Debug, Drop)]

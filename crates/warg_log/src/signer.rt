@@ -5,8 +5,8 @@ ghost use Rattle.warg_log.specs.declared.signer.SignError.TheVariants.{Memory as
 
 use std::alloc::{AllocError, Global};
 use thiserror::Error;
-use warg_base::Memory;
 use warg_record::{PublicKey, Signature};
+use warg_values::Memory;
 
 /// Why a text was not signed.
 #[derive(Clone, Copy, Debug, PartialEq, Eq, Error)]
@@ -41,7 +41,7 @@ impl From<Memory> for SignError {
 /// each has a count of faults, by which a caller knows that the signer failed.
 pub trait Signer {
     ghost use Rattle.std.specs.Prelude.{◌≤◌, ℕ, List, Bool, Option, true, false, IfOk, IfSome, IsErrOf};
-    ghost use Rattle.warg_base.specs.Faults.{Rose};
+    ghost use Rattle.warg_values.specs.Faults.{Rose};
 
     /// How many calls failed so far.
     ghost faults: { Self → ℕ };

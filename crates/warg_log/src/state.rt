@@ -23,9 +23,9 @@ use crate::verifier::Verifier;
 use semver::{Version, VersionReq};
 use std::alloc::Global;
 use std::marker::PhantomData;
-use warg_base::Memory;
 use warg_hash::{KeyId, RecordId};
 use warg_record::{Envelope, PublicKey, Record};
+use warg_values::Memory;
 
 /// What the accepted records of a log say.
 #[derive(Debug, Drop)]

@@ -10,7 +10,7 @@ use crate::{
 use semver::{Version, VersionReq};
 use std::alloc::Global;
 use std::test::Fail;
-use warg_base::{Moment, Text};
+use warg_values::{Moment, Text};
 
 const FIRST_ID: &str = "sha256:96821d936df6b0494b21fac7f5ef251be58d55d1f6198e13ba57f64a778d05c5";
 

@@ -1,13 +1,13 @@
 -- Bytes that are refused have no shape.
 use Rattle.std.proofs.Common.{◌≡◌, ◌∙◌, ◌⊎◌, inl, inr, ap, map, ◌≤◌, ◌<◌, arith, refl, length, get_or, sym, subst, ℕ, List, [], ◌∷◌, Some, None, Option, Result, Ok, Err, IfSome}
 use Rattle.std.proofs.lemmas.Option.{same_Some}
-use Rattle.warg_base.specs.Faults.{Rose}
+use Rattle.warg_values.specs.Faults.{Rose}
 use Rattle.warg_base.specs.Files.{FileMap, file_at}
-use Rattle.comp_types.specs.Fault.{Fault, Form, NotCarried, TooDeep}
-use Rattle.comp_types.specs.Items.{ItemTree}
-use Rattle.comp_types.specs.Sections.{Sections, ComponentForm, component_at}
-use Rattle.comp_types.proofs.SectionLaws.{reads_once}
-use Rattle.comp_types.proofs.DepthLaws.{component_within}
+use Rattle.comp_format.specs.Fault.{Fault, Form, NotCarried, TooDeep}
+use Rattle.comp_format.specs.Items.{ItemTree}
+use Rattle.comp_format.specs.Sections.{Sections, ComponentForm, component_at}
+use Rattle.comp_format.proofs.SectionLaws.{reads_once}
+use Rattle.comp_format.proofs.DepthLaws.{component_within}
 use Rattle.comp_shape.specs.declared.error.ShapeError.{ShapeError}
 use Rattle.comp_shape.specs.declared.error.ShapeError.TheVariants as errors
 use Rattle.comp_shape.specs.FirstForm.{InFirstForm}

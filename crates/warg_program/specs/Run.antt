@@ -1,8 +1,8 @@
 -- What a run of the program does.
 use Rattle.std.specs.Prelude.{◌≡◌, ◌⊎◌, ℕ, List, [], ◌∷◌, ◌++◌, map, codes, Option, Some, None, IfSome}
-use Rattle.warg_base.specs.Faults.{Rose}
+use Rattle.warg_values.specs.Faults.{Rose}
 use Rattle.warg_base.specs.Files.{FileMap, PartlyWritten, file_at, with_file}
-use Rattle.comp_types.specs.Items.{ItemTree}
+use Rattle.comp_format.specs.Items.{ItemTree}
 use Rattle.comp_shape.specs.FirstForm.{InFirstForm}
 use Rattle.comp_shape.specs.Shape.{ShapeTree, shape}
 use Rattle.wasm_compose.specs.Link.{IsLinked, LinkFits}

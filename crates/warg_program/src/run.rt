@@ -1,7 +1,7 @@
 //! A run of the program.
 
 ghost use Rattle.std.specs.Prelude.{◌≡◌, ◌≤◌, ◌⊎◌, ℕ, List, Some, map, IfErr, OnOk, string_bytes};
-ghost use Rattle.warg_base.specs.Faults.{Rose};
+ghost use Rattle.warg_values.specs.Faults.{Rose};
 ghost use Rattle.warg_base.specs.Files.{FileMap, file_at};
 ghost use Rattle.wasm_compose.specs.Link.{LinkFits};
 ghost use Rattle.warg_program.specs.declared.stop.Stop.{Stop};

@@ -2,8 +2,8 @@
 //! hashes are those of `sha256sum`.
 
 use crate::run::run;
+use comp_format::Sort;
 use comp_shape::{ShapeError, read_items, read_shape};
-use comp_types::Sort;
 use std::alloc::Global;
 use std::rt::HostRuntime;
 use std::test::Fail;

@@ -4,8 +4,8 @@ use Rattle.std.specs.List.{flat_map}
 use Rattle.std.proofs.lemmas.Bool.{eqb-true}
 use Rattle.std.proofs.lemmas.List.{append-nil, nil_from_length}
 use Rattle.hex.specs.Hex.{IsBytes}
-use Rattle.warg_base.specs.Reading.{◌>>=◌}
-use Rattle.warg_base.proofs.ReadingLaws.{bind_ok, ok_is, wanted_ok, never}
+use Rattle.warg_values.specs.Reading.{◌>>=◌}
+use Rattle.warg_values.specs.ReadingLaws.{bind_ok, ok_is, wanted_ok, never}
 use Rattle.warg_hash.specs.Hash.{IsDigest}
 use Rattle.warg_proof.specs.declared.fault.ProofFault.{ProofFault}
 use Rattle.warg_proof.specs.declared.fault.ProofFault.TheVariants.{Form, Memory, WrongCount, WrongLeaf, WrongLength, MissingHash, OtherRoot}

@@ -4,8 +4,8 @@ ghost use Rattle.std.specs.Prelude.{◌≡◌, IfOk};
 ghost use Rattle.warg_proof.specs.Leaves.{log_entry, map_value};
 
 use std::alloc::Global;
-use warg_base::Memory;
 use warg_hash::{LogId, RecordId};
+use warg_values::Memory;
 
 /// An entry of a registry's log: a record, and the log that it belongs to.
 #[derive(Clone, Copy, Debug, PartialEq, Eq)]

@@ -3,7 +3,7 @@ use Rattle.std.proofs.Common.{◌≡◌, ℕ, ◌*◌, ◌^◌, ◌<◌, ◌==�
 use Rattle.std.specs.Prelude.{IfSome, Result, Ok, Err, IfOk, IfErr}
 use Rattle.std.proofs.lemmas.Bool.{cases_Bool, and_parts, eqb-true, lt-ltb, ltb-true}
 use Rattle.std.proofs.lemmas.List.{length-append, append-nil, nil_from_length}
-use Rattle.warg_base.specs.declared.moment.Moment.{Moment}
+use Rattle.warg_values.specs.declared.moment.Moment.{Moment}
 use Rattle.warg_hash.specs.Hash.{hash_text, IsDigest}
 use Rattle.warg_hash.proofs.HashLaws.{length-hash_text}
 use Rattle.warg_record.specs.Wire.{field, fields, optional_field, number_field}

@@ -1,7 +1,7 @@
 -- Records as plain values, the form that they have, and their bytes.
 use Rattle.std.specs.Prelude.{ℕ, ◌<◌, ◌^◌, Bool, List, [], ◌∷◌, ◌++◌, length, map, codes, bytes_eq, Option, IfSome, option_map, IsTrue, IsUtf8}
 use Rattle.std.specs.List.{AllByRecursion, list_any}
-use Rattle.warg_base.specs.declared.moment.Moment.{Moment}
+use Rattle.warg_values.specs.declared.moment.Moment.{Moment}
 use Rattle.semver.specs.Parse.{Parts}
 use Rattle.semver.specs.Identifiers.{parts_text}
 use Rattle.semver.specs.Grammar.{IsValid}

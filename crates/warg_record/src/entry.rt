@@ -7,7 +7,7 @@ ghost use Rattle.warg_record.specs.Answer.{Gives};
 
 use crate::error::EnvelopeError;
 use std::alloc::Global;
-use warg_base::Memory;
+use warg_values::Memory;
 
 /// A permission that a key can hold in one kind of log.
 pub trait LogPermission: Copy + PartialEq {

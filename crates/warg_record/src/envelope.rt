@@ -15,8 +15,8 @@ use crate::key::Signature;
 use crate::record::{Record, record_of};
 use crate::writing::{push_field, push_number};
 use std::alloc::Global;
-use warg_base::{Memory, Moment};
 use warg_hash::{KeyId, NameError};
+use warg_values::{Memory, Moment};
 
 /// A record, its message, and who signed it.
 #[derive(Debug, Drop)]

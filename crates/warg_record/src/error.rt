@@ -5,7 +5,7 @@ ghost use Rattle.warg_record.specs.declared.error.EnvelopeError.TheVariants.{Mem
 
 use std::alloc::{AllocError, AllocFailed};
 use thiserror::Error;
-use warg_base::Memory;
+use warg_values::Memory;
 
 /// Why an envelope was not read.
 #[derive(Clone, Copy, Debug, PartialEq, Eq, Error)]

@@ -13,8 +13,8 @@ use crate::key::PublicKey;
 use crate::wire::{counted_of, field_of};
 use semver::Version;
 use std::alloc::{AllocError, Global};
-use warg_base::Text;
 use warg_hash::{AnyHash, KeyId, NameError};
+use warg_values::Text;
 
 /// The text that the bytes are, if they are UTF-8.
 fn as_text(bytes: &[u8]) -> Option<&str>

@@ -17,8 +17,8 @@ use std::alloc::Global;
 use std::fmt;
 use std::hash::{Hash, Hasher};
 use std::marker::Model;
-use warg_base::{Memory, Text};
 use warg_hash::{KeyId, NameError};
+use warg_values::{Memory, Text};
 
 // The word that names a kind of key: lower-case letters, digits and hyphens, one or more.
 fn is_kind(text: &[u8]) -> bool

@@ -14,8 +14,8 @@ use crate::fields::{
 use crate::key::PublicKey;
 use crate::writing;
 use std::alloc::Global;
-use warg_base::{Memory, Text};
 use warg_hash::KeyId;
+use warg_values::{Memory, Text};
 
 /// What a key may do in a registry operator's log.
 #[derive(Clone, Copy, Debug, PartialEq, Eq, PartialOrd, Ord, Hash)]

@@ -16,8 +16,8 @@ use crate::key::PublicKey;
 use crate::writing;
 use semver::Version;
 use std::alloc::Global;
-use warg_base::{Memory, Text};
 use warg_hash::{AnyHash, KeyId};
+use warg_values::{Memory, Text};
 
 /// What a key may do in a package's log.
 #[derive(Clone, Copy, Debug, PartialEq, Eq, PartialOrd, Ord, Hash)]

@@ -12,8 +12,8 @@ use crate::operator::OperatorEntry;
 use crate::package::PackageEntry;
 use crate::wire::{field_of, number_of, optional_of};
 use std::alloc::Global;
-use warg_base::Moment;
 use warg_hash::RecordId;
+use warg_values::Moment;
 
 /// One record of a log.
 #[derive(Debug, Drop)]

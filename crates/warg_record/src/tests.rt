@@ -6,7 +6,7 @@ use crate::{
 };
 use std::alloc::Global;
 use std::test::Fail;
-use warg_base::Moment;
+use warg_values::Moment;
 
 const ID: &str = "sha256:e3b0c44298fc1c149afbf4c8996fb92427ae41e4649b934ca495991b7852b855";
 

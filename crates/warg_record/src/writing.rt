@@ -7,8 +7,8 @@ ghost use Rattle.warg_record.specs.Wire.{varint_in, field, fields, number_field}
 use crate::entry::LogPermission;
 use crate::key::PublicKey;
 use std::alloc::Global;
-use warg_base::Memory;
 use warg_hash::KeyId;
+use warg_values::Memory;
 
 // A number in groups of seven bits, in at most `left` bytes.
 #[tactic(auto, unfolding(crate::specs::Wire::varint_in))]

@@ -2,10 +2,10 @@
 use Rattle.std.proofs.Common.{◌≡◌, ◌∙◌, subst, take, get_or, sym, ap, refl, ℕ, ◌+◌, ◌*◌, ◌^◌, ◌<◌, List, [], ◌∷◌, ◌++◌, length, map, Option, Some, None, slice_get, filter, option_map, option_and_then, arith}
 use Rattle.std.proofs.lemmas.List.{append-nil, map-append, map_push, take_more, get_or-map, length-map, append_assoc, length-append, length-take}
 use Rattle.std.proofs.lemmas.List.Elements.{filter-append, All-append, All-nil, All-cons}
-use Rattle.comp_types.specs.declared.types.Sort.{Sort}
-use Rattle.comp_types.specs.declared.types.Sort.TheVariants as sort
-use Rattle.comp_types.specs.declared.types.Alias.TheVariants as alias
-use Rattle.comp_types.specs.Items.{ItemTree, Aliased, Export}
+use Rattle.comp_format.specs.declared.types.Sort.{Sort}
+use Rattle.comp_format.specs.declared.types.Sort.TheVariants as sort
+use Rattle.comp_format.specs.declared.types.Alias.TheVariants as alias
+use Rattle.comp_format.specs.Items.{ItemTree, Aliased, Export}
 use Rattle.comp_encoder.specs.Writing.{Entry, Single, items_of, next_index}
 use Rattle.comp_encoder.proofs.CountLaws.{next_append}
 use Rattle.comp_shape.specs.Image.{Image, Exported, Progress, Standing, Part, Made, image, seen, seen_all, space, stands, as_made, as_part}

@@ -1,13 +1,13 @@
 -- What components show.
 use Rattle.std.proofs.Common.{◌≡◌, ◌&&◌, sym, ap, arith, ℕ, Bool, List, [], ◌∷◌, Result, Ok, Err, is_ok, true, false, true≢false, refl}
 use Rattle.std.specs.List.{list_all}
-use Rattle.comp_types.specs.Items.{ItemTree}
-use Rattle.comp_types.specs.Fits.{IsComponent}
-use Rattle.comp_types.specs.Fault.{Fault}
-use Rattle.comp_types.specs.Definitions.{TypeTree, Defined}
-use Rattle.comp_types.specs.Sections.{Section, Types, Exports, Sections, none, more, component_at, items_in}
-use Rattle.comp_types.proofs.DefinitionLaws.{type_scopes}
-use Rattle.comp_types.proofs.SectionLaws.{total, section_scopes, sections_scopes, component_again, component_form}
+use Rattle.comp_format.specs.Items.{ItemTree}
+use Rattle.comp_format.specs.Fits.{IsComponent}
+use Rattle.comp_format.specs.Fault.{Fault}
+use Rattle.comp_format.specs.Definitions.{TypeTree, Defined}
+use Rattle.comp_format.specs.Sections.{Section, Types, Exports, Sections, none, more, component_at, items_in}
+use Rattle.comp_format.proofs.DefinitionLaws.{type_scopes}
+use Rattle.comp_format.proofs.SectionLaws.{total, section_scopes, sections_scopes, component_again, component_form}
 use Rattle.comp_shape.specs.FirstForm.{InFirstForm, is_plain_type, is_first_form, are_first_form}
 
 -- no section of the first form opens a scope

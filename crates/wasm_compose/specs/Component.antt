@@ -2,9 +2,9 @@
 use Rattle.std.specs.Prelude.{◌≡◌, ℕ, List, [], ◌∷◌, map, Option, Some, None, Err, IfSome}
 use Rattle.std.specs.List.{flat_map}
 use Rattle.warg_base.specs.Files.{FileMap, file_at}
-use Rattle.comp_types.specs.Fault.{Form, NotCarried}
-use Rattle.comp_types.specs.Items.{ItemTree, Export}
-use Rattle.comp_types.specs.Sections.{Reads, component_at}
+use Rattle.comp_format.specs.Fault.{Form, NotCarried}
+use Rattle.comp_format.specs.Items.{ItemTree, Export}
+use Rattle.comp_format.specs.Sections.{Reads, component_at}
 use Rattle.comp_shape.specs.declared.shape.Shape.{Shape}
 use Rattle.comp_shape.specs.declared.error.ShapeError.{ShapeError}
 use Rattle.comp_shape.specs.declared.error.ShapeError.TheVariants as errors

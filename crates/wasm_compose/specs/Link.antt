@@ -1,11 +1,11 @@
 -- The component that makes one instance of another and exports its exports.
 use Rattle.std.specs.Prelude.{◌≡◌, ℕ, ◌+◌, ◌*◌, ◌<◌, ◌^◌, List, [], ◌∷◌, length, map, All, Some, None}
 use Rattle.std.specs.List.{AllByRecursion}
-use Rattle.comp_types.specs.declared.types.Sort.TheVariants as sort
-use Rattle.comp_types.specs.declared.types.InstanceItem.TheVariants as instance
-use Rattle.comp_types.specs.declared.types.Alias.TheVariants as alias
-use Rattle.comp_types.specs.Items.{ItemTree, Component, Instance, Aliased, Export}
-use Rattle.comp_types.specs.Sections.{Reads}
+use Rattle.comp_format.specs.declared.types.Sort.TheVariants as sort
+use Rattle.comp_format.specs.declared.types.InstanceItem.TheVariants as instance
+use Rattle.comp_format.specs.declared.types.Alias.TheVariants as alias
+use Rattle.comp_format.specs.Items.{ItemTree, Component, Instance, Aliased, Export}
+use Rattle.comp_format.specs.Sections.{Reads}
 use Rattle.comp_encoder.specs.Writing.{Entry, Single, IsShort, groups_of}
 use Rattle.comp_shape.specs.Image.{Image, image}
 

@@ -1,6 +1,6 @@
 -- A builder's refusal as that of a link.
-use Rattle.comp_types.specs.declared.error.EncodeError.{EncodeError}
-use Rattle.comp_types.specs.declared.error.EncodeError.TheVariants as encode_error
+use Rattle.comp_format.specs.declared.error.EncodeError.{EncodeError}
+use Rattle.comp_format.specs.declared.error.EncodeError.TheVariants as encode_error
 use Rattle.wasm_compose.specs.declared.error.ComposeError.{ComposeError}
 use Rattle.wasm_compose.specs.declared.error.ComposeError.TheVariants as compose_error
 

@@ -1,7 +1,7 @@
 //! Components: their bytes, and what these import and export.
 
 ghost use Rattle.std.specs.Prelude.{◌≡◌, ◌<◌, length, All, true, is_ok};
-ghost use Rattle.comp_types.specs.Sections.{component_at};
+ghost use Rattle.comp_format.specs.Sections.{component_at};
 ghost use Rattle.wasm_compose.specs.Content.{content_bytes};
 
 use crate::content::Content;

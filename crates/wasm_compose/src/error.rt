@@ -5,8 +5,8 @@ ghost use Rattle.wasm_compose.specs.Refusal.{as_compose};
 ghost use Rattle.wasm_compose.specs.declared.error.ComponentError.TheVariants.{Memory as no_memory};
 ghost use Rattle.wasm_compose.specs.declared.error.ComposeError.TheVariants.{Memory as no_memory_left};
 
+use comp_format::EncodeError;
 use comp_shape::ShapeError;
-use comp_types::EncodeError;
 use std::alloc::{AllocError, AllocFailed};
 use thiserror::Error;
 use warg_base::{FileError, Memory};

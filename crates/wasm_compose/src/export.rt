@@ -2,7 +2,7 @@
 
 ghost use Rattle.std.specs.Prelude.{◌≡◌, Some, decimal};
 
-use comp_types::Sort;
+use comp_format::Sort;
 use std::fmt;
 use warg_base::Text;
 

@@ -1,8 +1,8 @@
 //! The component that makes one instance of another, and exports what it exports.
 
 ghost use Rattle.std.specs.Prelude.{◌≡◌, ◌≤◌, ◌<◌, ◌+◌, ◌++◌, ◌^◌, ℕ, [], ◌∷◌, All, length, map, IfOk, OnOk, Err, None};
-ghost use Rattle.comp_types.specs.declared.types.Sort.TheVariants as sort;
-ghost use Rattle.comp_types.specs.declared.error.EncodeError.TheVariants as encode_error;
+ghost use Rattle.comp_format.specs.declared.types.Sort.TheVariants as sort;
+ghost use Rattle.comp_format.specs.declared.error.EncodeError.TheVariants as encode_error;
 ghost use Rattle.comp_encoder.specs.Builder.{entries_of};
 ghost use Rattle.comp_encoder.specs.Writing.{component_text, next_index};
 ghost use Rattle.wasm_compose.specs.Component.{bytes_of, export_names};
@@ -12,8 +12,8 @@ ghost use Rattle.wasm_compose.specs.declared.error.ComposeError.TheVariants.{Too
 use crate::component::Component;
 use crate::error::ComposeError;
 use comp_encoder::ComponentBuilder;
+use comp_format::{EncodeError, Sort};
 use comp_shape::Entity;
-use comp_types::{EncodeError, Sort};
 use std::alloc::Global;
 use warg_base::Text;
 

@@ -8,8 +8,8 @@ ghost use Rattle.wasm_compose.specs.Component.{name_of, path_of, bytes_of, shape
 use crate::component::Component;
 use crate::content::Content;
 use crate::export::{ExportIndex, Exports};
+use comp_format::Sort;
 use comp_shape::Shape;
-use comp_types::Sort;
 
 impl<'a> Component<'a> {
     /// The name.

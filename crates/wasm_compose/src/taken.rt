@@ -2,11 +2,11 @@
 
 ghost use Rattle.std.specs.Prelude.{◌≡◌, ◌≤◌, ◌↔◌, ◌<◌, [], Some, None, All, length, map, IfOk, IfErr, IfSome, Err};
 ghost use Rattle.std.specs.List.{flat_map};
-ghost use Rattle.warg_base.specs.Faults.{Rose};
+ghost use Rattle.warg_values.specs.Faults.{Rose};
 ghost use Rattle.warg_base.specs.Files.{file_at};
 ghost use Rattle.warg_base.specs.declared.files.FileError.{FileError as file_error};
 ghost use Rattle.warg_base.specs.declared.files.FileError.TheVariants as file;
-ghost use Rattle.comp_types.specs.Items.{item_tree};
+ghost use Rattle.comp_format.specs.Items.{item_tree};
 ghost use Rattle.comp_shape.specs.declared.error.ShapeError.{ShapeError as shape_error};
 ghost use Rattle.comp_shape.specs.Shape.{shape};
 ghost use Rattle.wasm_compose.specs.Component.{IsRead, IsRefused, IsReadAs, IsOfBytes, RefusedAt, name_of, path_of, bytes_of, export_in};
@@ -17,8 +17,8 @@ use crate::component::Component;
 use crate::content::Content;
 use crate::error::ComponentError;
 use crate::export::ComponentExport;
+use comp_format::Item;
 use comp_shape::{Shape, ShapeError, read_component};
-use comp_types::Item;
 use std::alloc::Global;
 use warg_base::{FileError, Files, Memory, Text};
 

@@ -1,7 +1,7 @@
 -- One item or entry more of a loop over values of any kind.
 use Rattle.std.proofs.Common.{◌≡◌, ℕ, suc, ◌+◌, ◌-◌, ◌<◌, List, Bool, true, false, cond, nat_lt, Result, Ok, Err, refl, ◌∙◌, arith, bytes_eq}
 use Rattle.indexmap.specs.IndexMap.{insert_entry}
-use Rattle.warg_base.specs.Reading.{◌>>=◌}
+use Rattle.warg_values.specs.Reading.{◌>>=◌}
 use Rattle.yaml_small.specs.declared.event.Event.{Event}
 use Rattle.yaml_small.specs.Data.{Data}
 use Rattle.yaml_read.specs.declared.bracket.Bracket.TheVariants as brackets

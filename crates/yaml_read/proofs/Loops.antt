@@ -1,6 +1,6 @@
 -- One item or entry more of a loop.
 use Rattle.std.proofs.Common.{◌≡◌, ℕ, suc, ◌+◌, ◌-◌, ◌<◌, ◌≤◌, List, cond, Result, Ok, Err, refl, arith}
-use Rattle.warg_base.specs.Reading.{◌>>=◌}
+use Rattle.warg_values.specs.Reading.{◌>>=◌}
 use Rattle.yaml_read.specs.declared.bracket.Bracket.TheVariants as brackets
 use Rattle.yaml_read.specs.Source.{Source, Refusal, Endless}
 use Rattle.yaml_read.specs.Collections.{end_at, item_at, items_at, entry_at, entries_at}

@@ -1,7 +1,7 @@
 -- Whole texts: what is read is carried, and what is carried is read.
 use Rattle.std.proofs.Common.{◌≡◌, ℕ, ◌-◌, eqb, List, [], ◌∷◌, Bool, true, false, cond, Option, Some, None, Result, Ok, Err, IfOk, refl, sym, ap, ◌∙◌, subst, ◌⊎◌, inl, inr}
-use Rattle.warg_base.specs.Reading.{◌>>=◌}
-use Rattle.warg_base.proofs.ReadingLaws.{bind_ok, ok_is}
+use Rattle.warg_values.specs.Reading.{◌>>=◌}
+use Rattle.warg_values.specs.ReadingLaws.{bind_ok, ok_is}
 use Rattle.yaml_small.specs.declared.event.Event.{Event}
 use Rattle.yaml_small.specs.declared.event.Event.TheVariants as events
 use Rattle.yaml_small.specs.Trees.{Tree, Leaf, Seq, Map, told, stream_told, ends_again}

@@ -1,7 +1,7 @@
 -- Values of any kind, and values that are passed over.
 use Rattle.std.specs.Prelude.{ℕ, zero, suc, List, [], Option, Some, None, option_map, option_and_then, Result, Ok, Err, bytes_eq}
 use Rattle.indexmap.specs.IndexMap.{insert_entry}
-use Rattle.warg_base.specs.Reading.{◌>>=◌}
+use Rattle.warg_values.specs.Reading.{◌>>=◌}
 use Rattle.yaml_small.specs.declared.event.Event.{Event}
 use Rattle.yaml_small.specs.declared.event.Event.TheVariants as events
 use Rattle.yaml_small.specs.declared.schema.Resolved.{Resolved}

@@ -1,8 +1,8 @@
 -- Reads of values of any kind, against the nodes that are told.
 use Rattle.std.proofs.Common.{◌≡◌, ℕ, zero, suc, ◌+◌, List, [], Option, Some, None, option_map, option_and_then, Result, Ok, Err, refl, sym, ap, ◌∙◌, bytes_eq}
 use Rattle.indexmap.specs.IndexMap.{insert_entry}
-use Rattle.warg_base.specs.Reading.{◌>>=◌}
-use Rattle.warg_base.proofs.ReadingLaws.{bind_ok}
+use Rattle.warg_values.specs.Reading.{◌>>=◌}
+use Rattle.warg_values.specs.ReadingLaws.{bind_ok}
 use Rattle.yaml_small.specs.declared.event.Event.{Event}
 use Rattle.yaml_small.specs.declared.event.Event.TheVariants as events
 use Rattle.yaml_small.specs.declared.event.Style.{Style}

@@ -1,6 +1,6 @@
 -- Reads of scalars, against the nodes that are told.
 use Rattle.std.proofs.Common.{◌≡◌, ℕ, List, [], ◌∷◌, Bool, true, false, cond, Option, Some, None, Result, Ok, Err, refl, ap, ◌∙◌, subst}
-use Rattle.warg_base.proofs.ReadingLaws.{bind_ok, ok_is}
+use Rattle.warg_values.specs.ReadingLaws.{bind_ok, ok_is}
 use Rattle.yaml_small.specs.declared.event.Event.{Event}
 use Rattle.yaml_small.specs.declared.event.Event.TheVariants as events
 use Rattle.yaml_small.specs.declared.event.Style.{Style}

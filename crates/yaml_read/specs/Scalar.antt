@@ -5,7 +5,7 @@ use Rattle.yaml_small.specs.declared.event.Event.{Event}
 use Rattle.yaml_small.specs.declared.event.Event.TheVariants as events
 use Rattle.yaml_small.specs.declared.event.Style.TheVariants as styles
 use Rattle.yaml_small.specs.Schema.{is_numeral}
-use Rattle.warg_base.specs.Reading.{◌>>=◌}
+use Rattle.warg_values.specs.Reading.{◌>>=◌}
 use Rattle.yaml_read.specs.Source.{Source, Refusal, WrongScalar, WrongEvent, WrongNumber, taken}
 
 -- a scalar's text, in any style, and in the plain style alone

@@ -1,6 +1,6 @@
 -- What typed reads take from: a parser's state, and how many events may still be taken.
 use Rattle.std.specs.Prelude.{ℕ, ◌-◌, ◌==◌, List, cond, Result, Ok, Err}
-use Rattle.warg_base.specs.Reading.{◌>>=◌}
+use Rattle.warg_values.specs.Reading.{◌>>=◌}
 use Rattle.yaml_small.specs.declared.event.Event.{Event}
 use Rattle.yaml_small.specs.Scalars.{Fault}
 use Rattle.yaml_small.specs.Stream.{State, next}

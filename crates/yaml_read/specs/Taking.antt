@@ -1,7 +1,7 @@
 -- What a read takes and what it gets, step by step.
 use Rattle.std.proofs.Common.{◌≡◌, ℕ, zero, suc, ◌-◌, ◌<◌, ◌≤◌, Bool, true, false, cond, eqb, Result, Ok, Err, refl, sym, ap, subst, arith}
-use Rattle.warg_base.specs.Reading.{◌>>=◌}
-use Rattle.warg_base.proofs.ReadingLaws.{ok_is}
+use Rattle.warg_values.specs.Reading.{◌>>=◌}
+use Rattle.warg_values.specs.ReadingLaws.{ok_is}
 use Rattle.yaml_small.specs.declared.event.Event.{Event}
 use Rattle.yaml_small.specs.Scalars.{Fault}
 use Rattle.yaml_small.specs.Stream.{State, next}

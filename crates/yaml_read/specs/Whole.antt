@@ -1,6 +1,6 @@
 -- A text from its start to its end.
 use Rattle.std.specs.Prelude.{◌≡◌, ◌^◌, ◌-◌, ℕ, List, Bool, true, false, Option, Some, Result, Ok, Err}
-use Rattle.warg_base.specs.Reading.{◌>>=◌}
+use Rattle.warg_values.specs.Reading.{◌>>=◌}
 use Rattle.yaml_small.specs.declared.event.Event.{Event}
 use Rattle.yaml_small.specs.declared.event.Event.TheVariants as events
 use Rattle.yaml_small.specs.Trees.{Tree}

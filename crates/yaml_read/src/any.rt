@@ -12,7 +12,7 @@ use crate::deserializer::{YamlDeserializer, is_stream_end, wrong_event};
 use crate::error::DeError;
 use indexmap::IndexMap;
 use std::alloc::Global;
-use warg_base::Text;
+use warg_values::Text;
 use yaml_small::{Event, Resolved, Yaml, YamlList, YamlPairs, resolve};
 
 /// How many levels a value has: the parser tells lists and maps of 64, and scalars within.

@@ -9,7 +9,7 @@ use crate::deserializer::{YamlDeserializer, is_null, is_stream_end, wrong_event}
 use crate::error::DeError;
 use crate::read::{MapFill, ReadYaml, SeqFill};
 use std::alloc::Global;
-use warg_base::Text;
+use warg_values::Text;
 use yaml_small::Event;
 
 impl<'de> YamlDeserializer<'de> {

@@ -10,7 +10,7 @@ ghost use Rattle.yaml_read.specs.Answers.{source_of, Gives, IsRefusal};
 
 use crate::error::DeError;
 use std::alloc::Global;
-use warg_base::Text;
+use warg_values::Text;
 use yaml_small::{Event, Marker, Parser, Style};
 
 /// Reads typed values from the events of one YAML document.

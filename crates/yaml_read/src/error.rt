@@ -6,7 +6,7 @@ ghost use Rattle.yaml_read.specs.Conversions.{from_scan};
 
 use std::alloc::{AllocError, AllocFailed};
 use thiserror::Error;
-use warg_base::{Memory as OutOfMemory, Text};
+use warg_values::{Memory as OutOfMemory, Text};
 use yaml_small::{Event, Marker, ScanError};
 
 /// Why a value was not read.

@@ -11,7 +11,7 @@ use crate::deserializer::YamlDeserializer;
 use crate::error::DeError;
 use crate::read::ReadYaml;
 use std::alloc::Global;
-use warg_base::Text;
+use warg_values::Text;
 
 impl ReadYaml for bool {
     ghost Seen = { Bool };

@@ -13,7 +13,7 @@ use crate::error::DeError;
 use crate::read::{MapFill, ReadYaml, SeqFill};
 use indexmap::IndexMap;
 use std::alloc::Global;
-use warg_base::Text;
+use warg_values::Text;
 
 /// The items of a vector so far.
 #[derive(Drop)]

@@ -9,7 +9,7 @@ ghost use Rattle.yaml_read.specs.Answers.{source_of, Gives};
 use crate::deserializer::YamlDeserializer;
 use crate::error::DeError;
 use std::alloc::Global;
-use warg_base::Text;
+use warg_values::Text;
 
 /// A type whose values are read from YAML.
 pub trait ReadYaml: Sized + Drop {

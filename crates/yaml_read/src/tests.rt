@@ -4,7 +4,7 @@ use crate::{DeError, ReadYaml, YamlDeserializer, YamlNodeWrapper, from_str};
 use indexmap::IndexMap;
 use std::alloc::Global;
 use std::test::Fail;
-use warg_base::Text;
+use warg_values::Text;
 use yaml_small::{Event, Marker, ScanError, Yaml, YamlList, YamlPairs};
 
 /// Whether a text is refused with this error, whatever was expected.

@@ -2,7 +2,7 @@
 use Rattle.std.specs.Prelude.{ℕ, ◌+◌, ◌*◌, ◌-◌, List, [], ◌∷◌, ◌++◌, Bool, false, nat_lt, ◌==◌, cond, Option, Some, None, Result, Ok, Err}
 use Rattle.std.specs.Char.{encode_utf8, digit_value, is_digit}
 use lib.Utf8.{scalar}
-use Rattle.warg_base.specs.Reading.{◌>>=◌}
+use Rattle.warg_values.specs.Reading.{◌>>=◌}
 use Rattle.yaml_scan.specs.Bytes.{is_control}
 use Rattle.yaml_scan.specs.declared.quoted.Inside.{Inside}
 use Rattle.yaml_scan.specs.declared.quoted.Inside.TheVariants.{Text, Backslash, Hex}

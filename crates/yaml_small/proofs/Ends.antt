@@ -1,6 +1,6 @@
 -- Each step before the stream's end leaves less to tell, so each text is told to the end or refused.
 use Rattle.std.proofs.Common.{◌≡◌, ℕ, zero, suc, ◌+◌, ◌-◌, ◌*◌, ◌<◌, ◌≤◌, ◌⊎◌, List, [], ◌∷◌, drop, take, length, Bool, true, false, not, cond, ◌&&◌, ◌||◌, eqb, ltb, Option, Some, None, Result, Ok, Err, refl, sym, ap, ◌∙◌, subst, inl, inr, arith, length-drop, is_some}
-use Rattle.warg_base.specs.Reading.{◌>>=◌}
+use Rattle.warg_values.specs.Reading.{◌>>=◌}
 use Rattle.yaml_scan.specs.Bytes.{spaces, whites}
 use Rattle.yaml_scan.specs.Lines.{is_passed, ends}
 use Rattle.yaml_scan.specs.Quoted.{Found, Open as IsOpen, Bad}

@@ -1,7 +1,7 @@
 -- The stream's end is told by a step that ends the stream, and by no other.
 use Rattle.std.proofs.Common.{◌≡◌, ℕ, List, drop, length, Bool, true, false, cond, Option, Some, None, Result, Ok, Err, refl, sym, ap, ◌∙◌}
 use Rattle.yaml_scan.specs.Lines.{ends}
-use Rattle.warg_base.specs.Reading.{◌>>=◌}
+use Rattle.warg_values.specs.Reading.{◌>>=◌}
 use Rattle.yaml_small.specs.declared.event.Event.{Event}
 use Rattle.yaml_small.specs.declared.event.Event.TheVariants.{StreamEnd, DocumentStart, DocumentEnd, SequenceStart, MappingStart}
 use Rattle.yaml_small.specs.declared.state.Mode.{Mode}

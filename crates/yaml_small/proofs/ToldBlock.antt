@@ -1,7 +1,7 @@
 -- Block nodes are told.
 use Rattle.std.proofs.Common.{◌≡◌, ℕ, suc, ◌+◌, ◌≤◌, List, [], ◌∷◌, ◌++◌, length, Bool, true, false, not, cond, ◌&&◌, ◌||◌, eqb, Option, Some, Result, Ok, Err, refl, sym, ap, ◌∙◌, subst, inl, inr, arith}
 use Rattle.std.proofs.lemmas.Bool.{eqb-true}
-use Rattle.warg_base.specs.Reading.{◌>>=◌}
+use Rattle.warg_values.specs.Reading.{◌>>=◌}
 use Rattle.yaml_scan.specs.Bytes.{spaces, whites}
 use Rattle.yaml_scan.specs.Lines.{ends}
 use Rattle.yaml_small.specs.declared.event.Event.{Event}

@@ -1,6 +1,6 @@
 -- Scalars where they stand: on one line, as keys, and as blocks (YAML 1.2.2, sections 7.3, 7.4.2 and 8.1).
 use Rattle.std.specs.Prelude.{ℕ, ◌-◌, List, [], ◌∷◌, take, drop, length, Bool, true, false, not, nat_le, ◌==◌, ◌&&◌, ◌||◌, cond, Option, Some, None, Result, Ok, Err}
-use Rattle.warg_base.specs.Reading.{◌>>=◌}
+use Rattle.warg_values.specs.Reading.{◌>>=◌}
 use Rattle.yaml_scan.specs.Bytes.{is_gap}
 use Rattle.yaml_scan.specs.Lines.{ends, is_white_line, text_follows}
 use Rattle.yaml_scan.specs.Plain.{begins_plain, plain_len}

@@ -1,6 +1,6 @@
 -- One step of a parser: from where it stands, the next event, or why no carried document goes on.
 use Rattle.std.specs.Prelude.{ℕ, drop, Bool, true, false, not, nat_lt, ◌==◌, ◌&&◌, ◌||◌, cond, Option, Some, None, Result, Ok, Err}
-use Rattle.warg_base.specs.Reading.{◌>>=◌}
+use Rattle.warg_values.specs.Reading.{◌>>=◌}
 use Rattle.yaml_scan.specs.Bytes.{spaces, whites, begins_flow_mark}
 use Rattle.yaml_scan.specs.Lines.{ends}
 use Rattle.yaml_small.specs.declared.event.Event.{Event}

@@ -7,6 +7,10 @@ ghost use Rattle.yaml_small.specs.Answers.{place_at, Gives};
 ghost use Rattle.yaml_small.specs.Words.{FailsAs};
 ghost use Rattle.yaml_small.specs.Steps.{step_view};
 
+use crate::cursor::{
+    at_dash, at_dashes, at_dots, begins, flow_next, is_end, list_ends, map_ends, next_content,
+    over, past,
+};
 use crate::error::ScanError;
 use crate::event::{Event, Marker};
 use crate::flow::{open_of, paired_of, pairs_done, seq_done};
@@ -14,10 +18,6 @@ use crate::node::{Step, explicit_of, item_of, node_of, value_of};
 use crate::place::Place;
 use crate::scalar::{Word, key_of, scalar_event};
 use crate::state::{Change, Frame, Mode};
-use crate::walk::{
-    at_dash, at_dashes, at_dots, begins, flow_next, is_end, list_ends, map_ends, next_content,
-    over, past,
-};
 use std::alloc::Global;
 use yaml_scan::ends;
 

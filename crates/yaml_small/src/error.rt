@@ -6,7 +6,7 @@ ghost use Rattle.yaml_small.specs.declared.error.ScanError.TheVariants.{Memory};
 use crate::event::Marker;
 use std::alloc::{AllocError, AllocFailed};
 use thiserror::Error;
-use warg_base::Memory as OutOfMemory;
+use warg_values::Memory as OutOfMemory;
 
 /// Why no carried document goes on at a place of a text.
 #[derive(Clone, Copy, Debug, PartialEq, Eq, Error)]

@@ -1,6 +1,6 @@
 //! Events, the styles of scalars, and places in a text.
 
-use warg_base::Text;
+use warg_values::Text;
 
 /// How a scalar is written (YAML 1.2.2, chapters 7 and 8).
 #[derive(Clone, Copy, Debug, PartialEq, Eq)]

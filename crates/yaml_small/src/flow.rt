@@ -8,13 +8,13 @@ ghost use Rattle.yaml_small.specs.Answers.{place_at, Gives};
 ghost use Rattle.yaml_small.specs.Words.{FailsAs, word_view};
 ghost use Rattle.yaml_small.specs.Steps.{step_view};
 
+use crate::cursor::{at_dashes, at_dots, begins, flow_next, is_end, past};
 use crate::error::ScanError;
 use crate::event::{Event, Marker};
 use crate::node::{Step, inline_of, missing_step, settled};
 use crate::place::Place;
 use crate::scalar::{Word, goes_on, is_plain, scalar_event, word_of};
 use crate::state::{Change, Frame, Mode};
-use crate::walk::{at_dashes, at_dots, begins, flow_next, is_end, past};
 use std::alloc::Global;
 use yaml_scan::{begins_flow_mark, is_gap};
 

@@ -19,6 +19,7 @@
 #![tactic(auto)]
 
 mod collection;
+mod cursor;
 mod error;
 mod event;
 mod flow;
@@ -29,7 +30,6 @@ mod place;
 mod scalar;
 mod schema;
 mod state;
-mod walk;
 mod yaml;
 
 pub use error::ScanError;

@@ -6,14 +6,14 @@ ghost use Rattle.yaml_small.specs.Answers.{place_at, Gives};
 ghost use Rattle.yaml_small.specs.Words.{word_view};
 ghost use Rattle.yaml_small.specs.Steps.{step_view};
 
+use crate::cursor::{at_dash, begins, is_dash, is_within, next_content, over, past};
 use crate::error::ScanError;
 use crate::event::{Event, Marker};
 use crate::place::Place;
 use crate::scalar::{Word, begins_block, block_of, goes_on, is_key, scalar_event, word_of};
 use crate::state::{Change, Frame, Mode};
-use crate::walk::{at_dash, begins, is_dash, is_within, next_content, over, past};
 use std::alloc::Global;
-use warg_base::Text;
+use warg_values::Text;
 use yaml_scan::{ends, spaces, whites};
 
 /// An event and its mark; where the next step begins, and what it looks for there; and what becomes of the open

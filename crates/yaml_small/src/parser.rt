@@ -5,11 +5,11 @@ ghost use Rattle.yaml_small.specs.Stream as spec;
 ghost use Rattle.yaml_small.specs.Answers.{state_of, Gives, event_of};
 
 use crate::collection::step_of;
+use crate::cursor::content_in;
 use crate::error::ScanError;
 use crate::event::{Event, Marker};
 use crate::place::Place;
 use crate::state::{Change, Frame, Mode};
-use crate::walk::content_in;
 use std::alloc::Global;
 
 /// A parser of one text, which it tells event by event. It keeps no copy of the text, and of the text's

@@ -6,14 +6,14 @@ ghost use Rattle.yaml_small.specs.Scalars as spec;
 ghost use Rattle.yaml_small.specs.Answers.{place_at, Gives};
 ghost use Rattle.yaml_small.specs.Words.{content_bytes, word_view, FoundIn, FailsAs};
 
+use crate::cursor::{
+    at_dashes, at_dots, at_mark, begins, content_in, is_colon, is_end, mark_below, over, past,
+};
 use crate::error::ScanError;
 use crate::event::{Event, Marker, Style};
 use crate::place::Place;
-use crate::walk::{
-    at_dashes, at_dots, at_mark, begins, content_in, is_colon, is_end, mark_below, over, past,
-};
 use std::alloc::Global;
-use warg_base::Text;
+use warg_values::Text;
 use yaml_scan::{
     Block, BlockError, Head, QuoteError, Quoted, begins_plain, block_indent, block_scalar,
     double_quoted, ends, is_gap, is_white_line, plain_len, single_quoted, text_follows,

@@ -3,7 +3,7 @@
 ghost use Rattle.std.specs.Prelude.{◌≡◌, ◌≤◌, ◌^◌, IfSome, length, pos, neg_ℤ};
 ghost use Rattle.yaml_small.specs.Schema as spec;
 
-use crate::walk::begins;
+use crate::cursor::begins;
 
 /// What a scalar's text stands for, whatever its style.
 #[derive(Clone, Copy, Debug, PartialEq, Eq)]

@@ -6,7 +6,7 @@ use indexmap::IndexMap;
 use std::alloc::Global;
 use std::fmt::Write;
 use std::test::Fail;
-use warg_base::Text;
+use warg_values::Text;
 
 /// How a scalar begins in a table: with its style.
 fn sign(style: Style) -> &'static str {

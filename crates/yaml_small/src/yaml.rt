@@ -4,7 +4,7 @@ ghost use Rattle.std.specs.Prelude.{◌≡◌, IfOk};
 
 use indexmap::IndexMap;
 use std::alloc::Global;
-use warg_base::{Memory, Text};
+use warg_values::{Memory, Text};
 
 /// A value that a YAML node stands for.
 #[cycle(yaml)]

@@ -7,7 +7,7 @@ ghost use Rattle.yaml_text.specs.Output.{HoldsFront, Writes};
 ghost use Rattle.yaml_text.specs.Texts as spec;
 
 use crate::style::{is_block, is_double, is_escaped};
-use warg_base::Memory;
+use warg_values::Memory;
 
 /// Writes a text that is no key behind the output, at a level (YAML 1.2.2, sections 7.3 and 8.1.2).
 ///

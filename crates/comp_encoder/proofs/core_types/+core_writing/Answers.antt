@@ -1,6 +1,6 @@
 use Rattle.std.proofs.Common.{◌≡◌, ◌+◌, ◌∷◌, ◌++◌, [], map, take, refl, sym, ap, ◌∙◌, append_assoc, arith}
 use Rattle.std.proofs.lemmas.List.{take_more, map_push}
-use Rattle.comp_types.specs.Views.{module_decl_tree}
+use Rattle.comp_format.specs.Views.{module_decl_tree}
 use Rattle.comp_encoder.proofs.DeclLaws.{module_text_is, module_text_push, module_largest_push, module_texts_push}
 use Rattle.comp_encoder.proofs.core_types.+core_writing.Goals as goal
 

@@ -1,7 +1,7 @@
 use Rattle.std.proofs.Common.{◌≡◌, ◌++◌, length, map, max, take}
-use Rattle.comp_types.specs.Numbers.{number_text}
-use Rattle.comp_types.specs.CoreTypes.{module_decls, module_text}
-use Rattle.comp_types.specs.Views.{module_decl_tree}
+use Rattle.comp_format.specs.Numbers.{number_text}
+use Rattle.comp_format.specs.CoreTypes.{module_decls, module_text}
+use Rattle.comp_format.specs.Views.{module_decl_tree}
 use Rattle.comp_encoder.specs.Largest.{module_largest}
 use Rattle.comp_encoder.specs.Texts.{TextsOfModule}
 use Rattle.comp_encoder.proofs.core_types.+core_writing.Given as goal

@@ -1,7 +1,7 @@
 use Rattle.std.proofs.Common.{◌≡◌, ◌++◌, length, map, max, take}
-use Rattle.comp_types.specs.Numbers.{number_text}
-use Rattle.comp_types.specs.Definitions.{decls_of, decls_text}
-use Rattle.comp_types.specs.Views.{decl_tree}
+use Rattle.comp_format.specs.Numbers.{number_text}
+use Rattle.comp_format.specs.Definitions.{decls_of, decls_text}
+use Rattle.comp_format.specs.Views.{decl_tree}
 use Rattle.comp_encoder.specs.Largest.{decls_largest}
 use Rattle.comp_encoder.specs.Texts.{TextsOfDecls}
 use Rattle.comp_encoder.proofs.definitions.+writing.Given as goal

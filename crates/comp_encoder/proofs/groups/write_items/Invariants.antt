@@ -1,6 +1,6 @@
 use Rattle.std.proofs.Common.{◌≡◌, ◌++◌, length, take}
 use Rattle.std.specs.List.{flat_map}
-use Rattle.comp_types.specs.Numbers.{number_text}
+use Rattle.comp_format.specs.Numbers.{number_text}
 use Rattle.comp_encoder.specs.Builder.{kept_bytes, kepts_of}
 use Rattle.comp_encoder.proofs.groups.write_items.Given as goal
 

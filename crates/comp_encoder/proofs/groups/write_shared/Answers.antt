@@ -2,8 +2,8 @@ use Rattle.std.proofs.Common.{◌≡◌, ℕ, ◌<◌, ◌^◌, List, ◌∷◌,
 use Rattle.std.specs.Prelude.{OnOk}
 use Rattle.std.specs.List.{flat_map}
 use Rattle.std.proofs.lemmas.List.{length-map}
-use Rattle.comp_types.specs.declared.error.EncodeError.{EncodeError}
-use Rattle.comp_types.specs.Numbers.{number_text}
+use Rattle.comp_format.specs.declared.error.EncodeError.{EncodeError}
+use Rattle.comp_format.specs.Numbers.{number_text}
 use Rattle.comp_encoder.specs.Builder.{kept, kept_bytes, kepts_of, item_of, shared_group}
 use Rattle.comp_encoder.specs.Writing.{content_text}
 use Rattle.comp_encoder.proofs.GroupLaws.{shared_content}

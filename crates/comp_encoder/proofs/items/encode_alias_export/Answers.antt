@@ -1,8 +1,8 @@
 use Rattle.std.proofs.Common.{◌≡◌, refl, sym, subst, append_assoc, arith}
-use Rattle.comp_types.specs.declared.types.Alias.{Alias}
-use Rattle.comp_types.specs.declared.types.Alias.TheVariants as alias
-use Rattle.comp_types.specs.Parts.{alias_text}
-use Rattle.comp_types.specs.Items.{Aliased}
+use Rattle.comp_format.specs.declared.types.Alias.{Alias}
+use Rattle.comp_format.specs.declared.types.Alias.TheVariants as alias
+use Rattle.comp_format.specs.Parts.{alias_text}
+use Rattle.comp_format.specs.Items.{Aliased}
 use Rattle.comp_encoder.specs.Builder.{IsBytesOf}
 use Rattle.comp_encoder.proofs.KeepLaws.{bytes_alias, if_written}
 use Rattle.comp_encoder.proofs.items.encode_alias_export.Goals as goal

@@ -1,5 +1,5 @@
 use Rattle.std.proofs.Common.{subst, sym}
-use Rattle.comp_types.specs.Items.{Component}
+use Rattle.comp_format.specs.Items.{Component}
 use Rattle.comp_encoder.specs.Builder.{IsBytesOf}
 use Rattle.comp_encoder.proofs.KeepLaws.{bytes_component}
 use Rattle.comp_encoder.proofs.items.encode_component.Goals as goal

@@ -1,8 +1,8 @@
 use Rattle.std.proofs.Common.{◌≡◌, refl, sym, subst, arith}
-use Rattle.comp_types.specs.CoreTypes as tree
-use Rattle.comp_types.specs.CoreTypes.{CoreTree, core_text}
-use Rattle.comp_types.specs.Views.{module_tree}
-use Rattle.comp_types.specs.Items.{CoreTy}
+use Rattle.comp_format.specs.CoreTypes as tree
+use Rattle.comp_format.specs.CoreTypes.{CoreTree, core_text}
+use Rattle.comp_format.specs.Views.{module_tree}
+use Rattle.comp_format.specs.Items.{CoreTy}
 use Rattle.comp_encoder.specs.Builder.{IsBytesOf}
 use Rattle.comp_encoder.proofs.KeepLaws.{bytes_core, if_written}
 use Rattle.comp_encoder.proofs.TypeLaws.{core_fits}

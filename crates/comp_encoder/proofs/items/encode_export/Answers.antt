@@ -1,6 +1,6 @@
 use Rattle.std.proofs.Common.{◌≡◌, refl, sym, subst, append_assoc, arith}
-use Rattle.comp_types.specs.Items.{ExportTree, Export, export_text}
-use Rattle.comp_types.specs.Fits.{FitsType}
+use Rattle.comp_format.specs.Items.{ExportTree, Export, export_text}
+use Rattle.comp_format.specs.Fits.{FitsType}
 use Rattle.comp_encoder.specs.Builder.{IsBytesOf}
 use Rattle.comp_encoder.specs.Largest.{description_largest}
 use Rattle.comp_encoder.proofs.KeepLaws.{bytes_export, if_written}

@@ -1,5 +1,5 @@
 use Rattle.std.proofs.Common.{◌≡◌, refl, sym, subst, append_assoc, arith}
-use Rattle.comp_types.specs.Items.{ImportTree, Import, import_text}
+use Rattle.comp_format.specs.Items.{ImportTree, Import, import_text}
 use Rattle.comp_encoder.specs.Builder.{IsBytesOf}
 use Rattle.comp_encoder.proofs.KeepLaws.{bytes_import, if_written}
 use Rattle.comp_encoder.proofs.LargestLaws.{description_fits}

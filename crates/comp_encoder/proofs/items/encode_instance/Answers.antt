@@ -1,8 +1,8 @@
 use Rattle.std.proofs.Common.{◌≡◌, refl, sym, subst, append_assoc, arith}
-use Rattle.comp_types.specs.declared.types.InstanceItem.{InstanceItem}
-use Rattle.comp_types.specs.declared.types.InstanceItem.TheVariants as instance
-use Rattle.comp_types.specs.Parts.{instance_text}
-use Rattle.comp_types.specs.Items.{Instance}
+use Rattle.comp_format.specs.declared.types.InstanceItem.{InstanceItem}
+use Rattle.comp_format.specs.declared.types.InstanceItem.TheVariants as instance
+use Rattle.comp_format.specs.Parts.{instance_text}
+use Rattle.comp_format.specs.Items.{Instance}
 use Rattle.comp_encoder.specs.Builder.{IsBytesOf}
 use Rattle.comp_encoder.proofs.KeepLaws.{bytes_instance, if_written}
 use Rattle.comp_encoder.proofs.LargestLaws.{args_fit}

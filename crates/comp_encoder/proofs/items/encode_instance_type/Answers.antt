@@ -1,8 +1,8 @@
 use Rattle.std.proofs.Common.{◌≡◌, refl, sym, subst, arith}
-use Rattle.comp_types.specs.Definitions as tree
-use Rattle.comp_types.specs.Definitions.{TypeTree, definition_text}
-use Rattle.comp_types.specs.Views.{instance_type_tree}
-use Rattle.comp_types.specs.Items.{Ty}
+use Rattle.comp_format.specs.Definitions as tree
+use Rattle.comp_format.specs.Definitions.{TypeTree, definition_text}
+use Rattle.comp_format.specs.Views.{instance_type_tree}
+use Rattle.comp_format.specs.Items.{Ty}
 use Rattle.comp_encoder.specs.Builder.{IsBytesOf}
 use Rattle.comp_encoder.proofs.KeepLaws.{bytes_type, if_written}
 use Rattle.comp_encoder.proofs.TypeLaws.{definition_fits}

@@ -1,6 +1,6 @@
 use Rattle.std.proofs.Common.{◌≡◌, ◌++◌, length, take, max, All}
 use Rattle.std.specs.List.{flat_map}
-use Rattle.comp_types.specs.Numbers.{number_text}
+use Rattle.comp_format.specs.Numbers.{number_text}
 use Rattle.comp_encoder.specs.Largest.{largest_among}
 use Rattle.comp_encoder.proofs.parts.write_vector.Given as goal
 

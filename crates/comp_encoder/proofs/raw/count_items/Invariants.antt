@@ -1,8 +1,8 @@
 use Rattle.std.proofs.Common.{◌≡◌, ◌+◌, ◌<◌, ◌^◌, length, map, take}
 use Rattle.std.specs.Prelude.{count_by, slice_index}
-use Rattle.comp_types.specs.declared.types.Sort.{Sort}
-use Rattle.comp_types.specs.Items.{item_tree}
-use Rattle.comp_types.specs.Spaces.{space_of}
+use Rattle.comp_format.specs.declared.types.Sort.{Sort}
+use Rattle.comp_format.specs.Items.{item_tree}
+use Rattle.comp_format.specs.Spaces.{space_of}
 use Rattle.comp_encoder.specs.Writing.{item_sort, numbers}
 use Rattle.comp_encoder.proofs.raw.count_items.Given as goal
 

@@ -1,5 +1,5 @@
 use Rattle.std.proofs.Common.{[], refl}
-use Rattle.comp_types.specs.Sections.{none}
+use Rattle.comp_format.specs.Sections.{none}
 use Rattle.comp_encoder.proofs.tests.add_empty.Goals as goal
 
 -- a header alone is a component without sections

@@ -1,9 +1,9 @@
 use Rattle.std.proofs.Common.{[], ◌∷◌, refl, arith, inl, inr}
-use Rattle.comp_types.specs.declared.types.Primitive.TheVariants as primitive
-use Rattle.comp_types.specs.declared.types.DefinedType.TheVariants as defined
-use Rattle.comp_types.specs.Definitions as tree
-use Rattle.comp_types.specs.Items.{Ty}
-use Rattle.comp_types.specs.Sections.{Types}
+use Rattle.comp_format.specs.declared.types.Primitive.TheVariants as primitive
+use Rattle.comp_format.specs.declared.types.DefinedType.TheVariants as defined
+use Rattle.comp_format.specs.Definitions as tree
+use Rattle.comp_format.specs.Items.{Ty}
+use Rattle.comp_format.specs.Sections.{Types}
 use Rattle.comp_encoder.proofs.tests.add_padded.Goals as goal
 
 -- two types, behind their number in two bytes

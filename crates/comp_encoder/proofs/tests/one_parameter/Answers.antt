@@ -1,7 +1,7 @@
 use Rattle.std.proofs.Common.{ℕ, ◌<◌, List, [], ◌∷◌, length, arith}
 use Rattle.std.specs.List.{IsDistinct}
 use Rattle.std.proofs.lemmas.List.Elements.{All-nil, All-cons}
-use Rattle.comp_types.specs.Forms.{AreLabels}
+use Rattle.comp_format.specs.Forms.{AreLabels}
 use Rattle.comp_encoder.proofs.tests.one_parameter.Goals as goal
 
 abbrev IsNamed : List ℕ → Type 0

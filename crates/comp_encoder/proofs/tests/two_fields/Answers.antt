@@ -2,7 +2,7 @@ use Rattle.std.proofs.Common.{◌≡◌, ℕ, ◌<◌, false, List, [], ◌∷�
 use Rattle.std.specs.List.{IsDistinct}
 use Rattle.std.specs.Str.{bytes_eq}
 use Rattle.std.proofs.lemmas.List.Elements.{All-nil, All-cons}
-use Rattle.comp_types.specs.Forms.{AreLabels}
+use Rattle.comp_format.specs.Forms.{AreLabels}
 use Rattle.comp_encoder.proofs.tests.two_fields.Goals as goal
 
 abbrev IsNamed : List ℕ → Type 0

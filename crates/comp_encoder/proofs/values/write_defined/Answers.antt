@@ -1,6 +1,6 @@
 use Rattle.std.proofs.Common.{List, ℕ, All, Option, subst}
 use Rattle.std.specs.Str.{IsUtf8}
-use Rattle.comp_types.specs.declared.types.ValType.{ValType}
+use Rattle.comp_format.specs.declared.types.ValType.{ValType}
 use Rattle.comp_encoder.specs.Texts.{HasText}
 use Rattle.comp_encoder.proofs.values.write_defined.Goals as goal
 

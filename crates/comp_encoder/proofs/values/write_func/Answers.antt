@@ -1,5 +1,5 @@
 use Rattle.std.proofs.Common.{List, ℕ, All, subst}
-use Rattle.comp_types.specs.declared.types.ValType.{ValType}
+use Rattle.comp_format.specs.declared.types.ValType.{ValType}
 use Rattle.comp_encoder.specs.Texts.{HasText}
 use Rattle.comp_encoder.proofs.values.write_func.Goals as goal
 

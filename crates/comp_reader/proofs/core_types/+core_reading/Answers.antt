@@ -1,9 +1,9 @@
 use Rattle.std.proofs.Common.{◌≡◌, ◌++◌, ◌∷◌, [], map, Ok, sym, ap, ◌∙◌}
 use Rattle.std.proofs.lemmas.Result.{err_from_is_err_and}
 use Rattle.std.proofs.lemmas.List.{map_push}
-use Rattle.comp_types.specs.Vectors.{many_at}
-use Rattle.comp_types.specs.CoreTypes.{CoreTree, module_decl_at, core_at}
-use Rattle.comp_types.specs.Views.{module_decl_tree}
+use Rattle.comp_format.specs.Vectors.{many_at}
+use Rattle.comp_format.specs.CoreTypes.{CoreTree, module_decl_at, core_at}
+use Rattle.comp_format.specs.Views.{module_decl_tree}
 use Rattle.comp_reader.proofs.ManyLaws.{goes_on, ends, is_done}
 use Rattle.comp_reader.proofs.NestedLaws.{core_module}
 use Rattle.comp_reader.proofs.ViewLaws.{tree_module}

@@ -1,7 +1,7 @@
 use Rattle.std.proofs.Common.{◌≡◌, ◌+◌, ◌*◌, ◌-◌, map}
-use Rattle.comp_types.specs.Vectors.{many_at}
-use Rattle.comp_types.specs.CoreTypes.{module_decl_at, core_at}
-use Rattle.comp_types.specs.Views.{module_decl_tree}
+use Rattle.comp_format.specs.Vectors.{many_at}
+use Rattle.comp_format.specs.CoreTypes.{module_decl_at, core_at}
+use Rattle.comp_format.specs.Views.{module_decl_tree}
 use Rattle.comp_reader.proofs.ManyLaws.{with_front}
 use Rattle.comp_reader.proofs.core_types.+core_reading.Given as goal
 

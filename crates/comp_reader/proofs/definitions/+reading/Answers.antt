@@ -1,10 +1,10 @@
 use Rattle.std.proofs.Common.{◌≡◌, ◌++◌, ◌∷◌, [], map, Ok, sym, ap, ◌∙◌}
 use Rattle.std.proofs.lemmas.Result.{err_from_is_err_and}
 use Rattle.std.proofs.lemmas.List.{map_push}
-use Rattle.comp_types.specs.Vectors.{ReaderOf, many_at}
-use Rattle.comp_types.specs.CoreTypes.{core_at}
-use Rattle.comp_types.specs.Definitions.{TypeTree, DeclTree, decl_at, definition_at}
-use Rattle.comp_types.specs.Views.{decl_tree}
+use Rattle.comp_format.specs.Vectors.{ReaderOf, many_at}
+use Rattle.comp_format.specs.CoreTypes.{core_at}
+use Rattle.comp_format.specs.Definitions.{TypeTree, DeclTree, decl_at, definition_at}
+use Rattle.comp_format.specs.Views.{decl_tree}
 use Rattle.comp_reader.proofs.ManyLaws.{goes_on, ends, is_done}
 use Rattle.comp_reader.proofs.NestedLaws.{type_func, type_component, type_instance}
 use Rattle.comp_reader.proofs.ViewLaws.{tree_func, tree_component, tree_instance}

@@ -1,8 +1,8 @@
 use Rattle.std.proofs.Common.{◌≡◌, ◌+◌, ◌*◌, ◌-◌, map}
-use Rattle.comp_types.specs.Vectors.{many_at}
-use Rattle.comp_types.specs.CoreTypes.{core_at}
-use Rattle.comp_types.specs.Definitions.{decl_at, definition_at}
-use Rattle.comp_types.specs.Views.{decl_tree}
+use Rattle.comp_format.specs.Vectors.{many_at}
+use Rattle.comp_format.specs.CoreTypes.{core_at}
+use Rattle.comp_format.specs.Definitions.{decl_at, definition_at}
+use Rattle.comp_format.specs.Views.{decl_tree}
 use Rattle.comp_reader.proofs.ManyLaws.{with_front}
 use Rattle.comp_reader.proofs.definitions.+reading.Given as goal
 

@@ -2,10 +2,10 @@ use Rattle.std.proofs.Common.{◌≡◌, ℕ, ◌<◌, List, [], ◌∷◌, ◌+
 use Rattle.std.proofs.lemmas.Grind.{common_steps}
 use Rattle.std.proofs.lemmas.Result.{err_from_is_err_and}
 use Rattle.std.proofs.lemmas.List.{map_push, nil_from_length}
-use Rattle.comp_types.specs.declared.types.Item.{Item}
-use Rattle.comp_types.specs.Fault.{Fault}
-use Rattle.comp_types.specs.Items.{ItemTree, Component, item_tree}
-use Rattle.comp_types.specs.Sections.{content_at}
+use Rattle.comp_format.specs.declared.types.Item.{Item}
+use Rattle.comp_format.specs.Fault.{Fault}
+use Rattle.comp_format.specs.Items.{ItemTree, Component, item_tree}
+use Rattle.comp_format.specs.Sections.{content_at}
 use Rattle.comp_reader.specs.Refusal.{Gives}
 use Rattle.comp_reader.proofs.ItemLaws.{goes_on, no_frame, no_content, is_done, same_fails, frame_shorter, nested_adds, component_items_are}
 use Rattle.comp_reader.proofs.items.+reading_items.Goals as goal

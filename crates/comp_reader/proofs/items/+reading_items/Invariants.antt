@@ -1,6 +1,6 @@
 use Rattle.std.proofs.Common.{◌+◌, ◌*◌, length, map}
-use Rattle.comp_types.specs.Items.{item_tree}
-use Rattle.comp_types.specs.Sections.{content_at}
+use Rattle.comp_format.specs.Items.{item_tree}
+use Rattle.comp_format.specs.Sections.{content_at}
 use Rattle.comp_reader.proofs.ItemLaws.{IsUnderWay}
 use Rattle.comp_reader.proofs.items.+reading_items.Given as goal
 

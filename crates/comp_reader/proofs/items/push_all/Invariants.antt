@@ -1,5 +1,5 @@
 use Rattle.std.proofs.Common.{◌≡◌, ◌++◌, map}
-use Rattle.comp_types.specs.Items.{item_tree}
+use Rattle.comp_format.specs.Items.{item_tree}
 use Rattle.comp_reader.proofs.items.push_all.Given as goal
 
 abbrev pub invariant-loop-value : goal.invariant-loop-value

@@ -1,12 +1,12 @@
 use Rattle.std.proofs.Common.{◌≡◌, [], ◌∷◌, ◌++◌, map, sym, ◌∙◌}
 use Rattle.std.proofs.lemmas.List.{map_push}
-use Rattle.comp_types.specs.declared.types.CoreInstance.{CoreInstance}
-use Rattle.comp_types.specs.declared.types.InstanceItem.{InstanceItem}
-use Rattle.comp_types.specs.declared.types.Alias.{Alias}
-use Rattle.comp_types.specs.declared.types.Canon.{Canon}
-use Rattle.comp_types.specs.Items.{Custom, CoreModule, item_tree}
-use Rattle.comp_types.specs.Sections.{Named, CoreModules, CoreInstances, CoreTypes, Instances, Aliases, Types, Canons, Imports, Exports}
-use Rattle.comp_types.specs.Views.{core_tree, type_tree}
+use Rattle.comp_format.specs.declared.types.CoreInstance.{CoreInstance}
+use Rattle.comp_format.specs.declared.types.InstanceItem.{InstanceItem}
+use Rattle.comp_format.specs.declared.types.Alias.{Alias}
+use Rattle.comp_format.specs.declared.types.Canon.{Canon}
+use Rattle.comp_format.specs.Items.{Custom, CoreModule, item_tree}
+use Rattle.comp_format.specs.Sections.{Named, CoreModules, CoreInstances, CoreTypes, Instances, Aliases, Types, Canons, Imports, Exports}
+use Rattle.comp_format.specs.Views.{core_tree, type_tree}
 use Rattle.comp_reader.specs.Views.{import_tree, export_tree}
 use Rattle.comp_reader.proofs.ContentLaws.{custom_is, core_module_is, core_instances_are, core_types_are, instances_are, aliases_are, types_are, canons_are, imports_are, exports_are}
 use Rattle.comp_reader.proofs.items.push_section.Goals as goal

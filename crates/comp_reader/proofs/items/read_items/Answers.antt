@@ -1,5 +1,5 @@
 use Rattle.std.proofs.Common.{map}
-use Rattle.comp_types.specs.Items.{item_tree}
+use Rattle.comp_format.specs.Items.{item_tree}
 use Rattle.comp_reader.proofs.ItemLaws.{read_found, found_only, refused_only, memory_is}
 use Rattle.comp_reader.proofs.items.read_items.Goals as goal
 

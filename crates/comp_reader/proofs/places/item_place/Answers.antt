@@ -1,6 +1,6 @@
 use Rattle.std.proofs.Common.{rules, ◌≡◌, List, ℕ, length, subst, sym, ap, arith, inl, inr}
 use Rattle.std.proofs.lemmas.Bool.{cases_lt}
-use Rattle.comp_types.specs.Sections.{SectionsForm}
+use Rattle.comp_format.specs.Sections.{SectionsForm}
 use Rattle.comp_reader.specs.declared.places.ItemPlace.{ItemPlace}
 use Rattle.comp_reader.specs.Places.{InSection, StandsAt}
 use Rattle.comp_reader.proofs.ItemLaws.{memory_is}

@@ -1,7 +1,7 @@
 use Rattle.std.proofs.Common.{◌≡◌, ◌+◌, length, sym, ap, ◌∙◌, arith}
 use Rattle.std.proofs.lemmas.Grind.{common_steps}
 use Rattle.std.proofs.lemmas.Result.{err_from_is_err_and}
-use Rattle.comp_types.specs.Sections.{section_id}
+use Rattle.comp_format.specs.Sections.{section_id}
 use Rattle.comp_reader.proofs.ItemLaws.{memory_is}
 use Rattle.comp_reader.proofs.PlaceLaws.{framed_there, at_section, left_behind, not_looked_up}
 use Rattle.comp_reader.proofs.places.left_from.Goals as goal

@@ -1,7 +1,7 @@
 use Rattle.std.proofs.Common.{◌≡◌, ◌<◌, length, arith}
 use Rattle.std.proofs.lemmas.Grind.{common_steps}
 use Rattle.std.proofs.lemmas.Result.{err_from_is_err_and}
-use Rattle.comp_types.specs.Sections.{section_id}
+use Rattle.comp_format.specs.Sections.{section_id}
 use Rattle.comp_reader.proofs.ItemLaws.{frame_shorter, memory_is}
 use Rattle.comp_reader.proofs.PlaceLaws.{begins, goes_on, on_it, past_it, not_ended, front_section, framed_there, counted_there}
 use Rattle.comp_reader.proofs.places.section_of.Goals as goal

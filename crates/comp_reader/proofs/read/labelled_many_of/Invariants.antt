@@ -1,5 +1,5 @@
 use Rattle.std.proofs.Common.{◌≡◌, ◌-◌, ℕ, List, []}
-use Rattle.comp_types.specs.Vectors.{labelled_at}
+use Rattle.comp_format.specs.Vectors.{labelled_at}
 use Rattle.comp_reader.proofs.LabelLaws.{HasLabels}
 use Rattle.comp_reader.proofs.ManyLaws.{with_front}
 use Rattle.comp_reader.proofs.read.labelled_many_of.Given as goal

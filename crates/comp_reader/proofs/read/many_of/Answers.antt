@@ -1,7 +1,7 @@
 use Rattle.std.proofs.Common.{◌≡◌, ◌++◌, ◌∷◌, [], map}
 use Rattle.std.proofs.lemmas.Result.{err_from_is_err_and}
 use Rattle.std.proofs.lemmas.List.{map_push}
-use Rattle.comp_types.specs.Vectors.{many_at}
+use Rattle.comp_format.specs.Vectors.{many_at}
 use Rattle.comp_reader.proofs.ManyLaws.{goes_on, ends, is_done}
 use Rattle.comp_reader.proofs.read.many_of.Goals as goal
 

@@ -1,5 +1,5 @@
 use Rattle.std.proofs.Common.{◌≡◌, ◌-◌, map}
-use Rattle.comp_types.specs.Vectors.{many_at}
+use Rattle.comp_format.specs.Vectors.{many_at}
 use Rattle.comp_reader.proofs.ManyLaws.{with_front}
 use Rattle.comp_reader.proofs.read.many_of.Given as goal
 

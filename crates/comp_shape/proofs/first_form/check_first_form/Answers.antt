@@ -1,8 +1,8 @@
 use Rattle.std.proofs.Common.{◌≡◌, ℕ, ◌+◌, ◌-◌, min, List, true, false, Option, Ok, length, drop, map, refl, sym, ap, subst, ◌∙◌, arith}
 use Rattle.std.proofs.lemmas.Grind.{common_steps}
 use Rattle.std.proofs.lemmas.Option.{MatchOption-at_some, MatchOption-at_none}
-use Rattle.comp_types.specs.Items.{item_tree}
-use Rattle.comp_types.specs.Sections.{Sections, SectionsForm}
+use Rattle.comp_format.specs.Items.{item_tree}
+use Rattle.comp_format.specs.Sections.{Sections, SectionsForm}
 use Rattle.comp_shape.specs.FirstForm.{FirstNot, StandsFirstOther, has_plain_id, have_plain_ids, is_plain_item}
 use Rattle.comp_shape.proofs.FirstLaws.{behind_header, is_first, other_ids, other_items, not_all}
 use Rattle.comp_shape.proofs.OtherLaws.{id_alone, item_alone, either}

@@ -1,7 +1,7 @@
 use Rattle.std.proofs.Common.{◌≡◌, ℕ, ◌<◌, List, length, refl, subst, sym, arith}
 use Rattle.std.proofs.lemmas.Grind.{common_steps}
 use Rattle.std.proofs.lemmas.List.{nil_from_length}
-use Rattle.comp_types.specs.Sections.{Sections, SectionsForm}
+use Rattle.comp_format.specs.Sections.{Sections, SectionsForm}
 use Rattle.comp_shape.specs.FirstForm.{FirstNot, has_plain_id}
 use Rattle.comp_shape.proofs.OtherLaws.{none_walked, one_walked, first_id}
 use Rattle.comp_shape.proofs.FirstLaws.{IsLater, section_shorter, one_later, other_here, all_plain}

@@ -2,7 +2,7 @@ use Rattle.std.proofs.Common.{sym, ap, ◌∙◌, arith}
 use Rattle.std.specs.List.{list_all}
 use Rattle.std.proofs.lemmas.List.{take_all}
 use Rattle.std.proofs.lemmas.List.Folds.{list_all-map}
-use Rattle.comp_types.specs.Items.{item_tree}
+use Rattle.comp_format.specs.Items.{item_tree}
 use Rattle.comp_shape.specs.FirstForm.{is_plain_item}
 use Rattle.comp_shape.proofs.FirstLaws.{first_other}
 use Rattle.comp_shape.proofs.first_form.other_item.Goals as goal

@@ -1,8 +1,8 @@
 use Rattle.std.proofs.Common.{◌≡◌, ◌<◌, ◌^◌, ℕ, ◌∷◌, [], ◌++◌, List, Result, Err, length, sym, ap, subst, ◌∙◌}
 use Rattle.std.proofs.lemmas.Result.{err_from_is_err_and}
-use Rattle.comp_types.specs.declared.error.EncodeError.{EncodeError}
-use Rattle.comp_types.specs.declared.error.EncodeError.TheVariants as encode_error
-use Rattle.comp_types.specs.declared.types.Sort.TheVariants as sort
+use Rattle.comp_format.specs.declared.error.EncodeError.{EncodeError}
+use Rattle.comp_format.specs.declared.error.EncodeError.TheVariants as encode_error
+use Rattle.comp_format.specs.declared.types.Sort.TheVariants as sort
 use Rattle.comp_encoder.specs.Builder.{entries_of}
 use Rattle.comp_encoder.specs.Writing.{next_index}
 use Rattle.comp_shape.specs.declared.shape.Entity.{Entity}

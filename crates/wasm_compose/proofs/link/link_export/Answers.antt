@@ -1,7 +1,7 @@
 use Rattle.std.proofs.Common.{◌≡◌, ◌∙◌, inl, inr, ap, sym, arith, Result, Err}
 use Rattle.std.proofs.lemmas.Result.{err_from_is_err_and}
-use Rattle.comp_types.specs.declared.error.EncodeError.{EncodeError}
-use Rattle.comp_types.specs.declared.error.EncodeError.TheVariants as encode_error
+use Rattle.comp_format.specs.declared.error.EncodeError.{EncodeError}
+use Rattle.comp_format.specs.declared.error.EncodeError.TheVariants as encode_error
 use Rattle.comp_encoder.specs.Builder.{entries_of}
 use Rattle.wasm_compose.proofs.LinkLaws.{alias_counts}
 use Rattle.wasm_compose.proofs.link.link_export.Goals as goal

@@ -1,5 +1,5 @@
 use Rattle.std.proofs.Common.{◌≡◌, ap, subst, ◌∙◌}
-use Rattle.comp_types.specs.Sections.{Reads}
+use Rattle.comp_format.specs.Sections.{Reads}
 use Rattle.comp_encoder.specs.Builder.{entries_of}
 use Rattle.comp_encoder.specs.Writing.{items_of}
 use Rattle.wasm_compose.specs.Component.{bytes_of, export_names}

@@ -1,6 +1,6 @@
 use Rattle.std.proofs.Common.{◌≡◌, map}
 use Rattle.std.specs.List.{flat_map}
-use Rattle.comp_types.specs.Items.{item_tree}
+use Rattle.comp_format.specs.Items.{item_tree}
 use Rattle.wasm_compose.specs.Component.{export_in}
 use Rattle.wasm_compose.proofs.taken.exports_of.Given as goal
 

@@ -1,5 +1,5 @@
 use Rattle.std.specs.Prelude.{map}
-use Rattle.comp_types.specs.Items.{item_tree}
+use Rattle.comp_format.specs.Items.{item_tree}
 use Rattle.wasm_compose.proofs.taken.shown.Goals as goal
 
 abbrev pub returns-clause-read : goal.returns-clause-read

@@ -1,7 +1,7 @@
 use Rattle.std.proofs.Common.{◌≡◌, ℕ, List, ◌++◌, sym, ap, subst, ◌∙◌}
 use Rattle.std.specs.List.{flat_map, AllByRecursion}
-use Rattle.comp_types.specs.Sections.{Reads, header}
-use Rattle.comp_types.proofs.SectionLaws.{reads_once}
+use Rattle.comp_format.specs.Sections.{Reads, header}
+use Rattle.comp_format.proofs.SectionLaws.{reads_once}
 use Rattle.comp_encoder.specs.Builder.{Kept, IsKept, kepts_of, entries_of}
 use Rattle.comp_encoder.specs.Writing.{IsShort, items_of, groups_of, group_text, component_text}
 use Rattle.comp_encoder.proofs.GroupLaws.{entries_fit}

@@ -1,7 +1,7 @@
 use Rattle.std.proofs.Common.{◌≡◌, ◌+◌, Result, Err, sym, ap, ◌∙◌, inr}
 use Rattle.std.proofs.lemmas.Result.{err_from_is_err_and}
-use Rattle.comp_types.specs.declared.error.EncodeError.{EncodeError}
-use Rattle.comp_types.specs.declared.error.EncodeError.TheVariants as encode_error
+use Rattle.comp_format.specs.declared.error.EncodeError.{EncodeError}
+use Rattle.comp_format.specs.declared.error.EncodeError.TheVariants as encode_error
 use Rattle.comp_encoder.specs.Builder.{entries_of}
 use Rattle.comp_encoder.specs.Writing.{next_index}
 use Rattle.comp_encoder.proofs.builder.ComponentBuilder.import.Goals as goal

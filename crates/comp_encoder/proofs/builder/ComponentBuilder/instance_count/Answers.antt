@@ -1,6 +1,6 @@
 use Rattle.std.proofs.Common.{List, ap, ◌∙◌}
 use Rattle.std.specs.Prelude.{slice_index}
-use Rattle.comp_types.specs.declared.types.Sort.TheVariants as sort
+use Rattle.comp_format.specs.declared.types.Sort.TheVariants as sort
 use Rattle.comp_encoder.specs.Writing.{next_index}
 use Rattle.comp_encoder.specs.Builder.{Kept, entries_of}
 use Rattle.comp_encoder.proofs.builder.ComponentBuilder.instance_count.Goals as goal

@@ -2,12 +2,12 @@ use Rattle.std.proofs.Common.{◌≡◌, ◌+◌, ◌≤◌, ◌<◌, ◌^◌, �
 use Rattle.std.specs.Prelude.{◌⊎◌, slice_index}
 use Rattle.std.proofs.lemmas.List.{map-append}
 use Rattle.std.proofs.lemmas.Result.{err_from_is_err_and}
-use Rattle.comp_types.specs.declared.error.EncodeError.{EncodeError}
-use Rattle.comp_types.specs.declared.error.EncodeError.TheVariants as encode_error
-use Rattle.comp_types.specs.declared.types.Sort.{Sort}
-use Rattle.comp_types.specs.Items.{ItemTree}
-use Rattle.comp_types.specs.Sections.{ContentForm}
-use Rattle.comp_types.specs.Spaces.{space_of}
+use Rattle.comp_format.specs.declared.error.EncodeError.{EncodeError}
+use Rattle.comp_format.specs.declared.error.EncodeError.TheVariants as encode_error
+use Rattle.comp_format.specs.declared.types.Sort.{Sort}
+use Rattle.comp_format.specs.Items.{ItemTree}
+use Rattle.comp_format.specs.Sections.{ContentForm}
+use Rattle.comp_format.specs.Spaces.{space_of}
 use Rattle.comp_encoder.specs.Writing.{RawSection, next_index, numbered}
 use Rattle.comp_encoder.specs.Builder.{Kept, Whole, IsBuilt, kept, kepts_of, entries_of}
 use Rattle.comp_encoder.proofs.CountLaws.{section_built, entries_section}

@@ -1,0 +1,8 @@
+use Rattle.std.proofs.Common.{ap, ◌∙◌}
+use Rattle.comp_format.specs.Definitions.{DeclTree, with_decl}
+use Rattle.comp_format.specs.Views.{instance_type_tree}
+use Rattle.comp_format.proofs.ViewLaws.{instance_pushed, decl_core_ty}
+use Rattle.comp_format.proofs.types.InstanceType.core_ty.Goals as goal
+
+pub returns-clause-added : goal.returns-clause-added
+returns-clause-added c = instance_pushed c.args.self.now c.push.new.self _ c.in_ok-push.ensures.items ∙ ap (λ (d : DeclTree). with_decl (instance_type_tree c.args.self.now) d) (decl_core_ty c.args.ty)

@@ -1,5 +1,0 @@
-use Rattle.comp_types.proofs.DepthLaws.{component_within}
-use Rattle.comp_types.proofs.laws.each_component_is_read.Goals as goal
-
-pub returns : goal.returns
-returns c = λ ss scopes bytes h. component_within ss scopes bytes h

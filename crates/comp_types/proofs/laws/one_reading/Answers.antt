@@ -1,5 +1,0 @@
-use Rattle.comp_types.proofs.SectionLaws.{reads_once}
-use Rattle.comp_types.proofs.laws.one_reading.Goals as goal
-
-pub returns : goal.returns
-returns c = λ bytes a b h k. reads_once bytes a b h k

@@ -1,8 +1,0 @@
-use Rattle.std.proofs.Common.{ap, ◌∙◌}
-use Rattle.comp_types.specs.Definitions.{DeclTree, with_decl}
-use Rattle.comp_types.specs.Views.{component_type_tree}
-use Rattle.comp_types.proofs.ViewLaws.{component_pushed, decl_ty}
-use Rattle.comp_types.proofs.types.ComponentType.ty.Goals as goal
-
-pub returns-clause-added : goal.returns-clause-added
-returns-clause-added c = component_pushed c.args.self.now c.push.new.self _ c.in_ok-push.ensures.items ∙ ap (λ (d : DeclTree). with_decl (component_type_tree c.args.self.now) d) (decl_ty c.args.ty)

@@ -1,5 +1,0 @@
-use Rattle.yaml_laws.proofs.Completes.{completed}
-use Rattle.yaml_laws.proofs.laws.each_event_can_be_completed.Goals as goal
-
-pub returns : goal.returns
-returns c = λ text events s runs. completed text events s runs
