@@ -48,7 +48,11 @@ impl FaultSchedule {
     pub fn fails_now(&mut self) -> bool
         ensures listed { IsTrue result ↔ Contains self.old.failing (one_more self.old.calls) }
         ensures never_falls { self.old.faults ≤ self.new.faults }
-        ensures counted { self.new ≡ record self.old { calls = one_more self.old.calls; faults = (if result then one_more self.old.faults else self.old.faults) } }
+        ensures counted { self.new ≡ record self.old {
+          calls = one_more self.old.calls;
+          faults =
+              (if result then one_more self.old.faults else self.old.faults);
+        } }
     {
         self.calls = self.calls.saturating_add(1);
         let fails = self.failing.contains(&self.calls);
