@@ -182,9 +182,13 @@ fn each_length_of_the_reference_tree_continues_each_shorter_one(
     Ok(())
 }
 
-/// The nodes that the standard's example of an inclusion needs, and those of its example of a consistency.
+/// The nodes that the standard's example of an inclusion needs.
 const INCLUSION: [(u8, u64); 4] = [(0, 1), (0, 6), (1, 1), (1, 2)];
 
+/// The nodes that the standard's example of a consistency needs, but for one.
+const LACKING: [(u8, u64); 4] = [(0, 3), (0, 6), (1, 0), (1, 2)];
+
+/// The nodes that the standard's example of a consistency needs.
 const CONSISTENCY: [(u8, u64); 5] = [(0, 2), (0, 3), (0, 6), (1, 0), (1, 2)];
 
 #[test]
@@ -202,7 +206,7 @@ fn the_paths_of_the_standards_example_need_these_nodes(rt: HostRuntime) -> Resul
     );
     assert_eq!(rt; continued(alloc, &CONSISTENCY, (3, 7), 3)?, Ok(()));
     assert_eq!(rt;
-        continued(alloc, &CONSISTENCY[1..], (3, 7), 3)?,
+        continued(alloc, &LACKING, (3, 7), 3)?,
         Err(ProofFault::MissingHash)
     );
     Ok(())
@@ -270,33 +274,24 @@ fn is_no_bundle(alloc: Global, bytes: &[u8]) -> bool {
     matches!(LogBundle::decode(alloc, bytes), Err(ProofFault::Form))
 }
 
+/// Whether a bundle's bytes without the first one, and without the last one, are no bundle.
+fn is_no_bundle_when_cut(alloc: Global, bytes: &[u8]) -> Option<bool> {
+    let (_, behind) = bytes.split_first()?;
+    let (_, before) = bytes.split_last()?;
+    Some(is_no_bundle(alloc, behind) && is_no_bundle(alloc, before))
+}
+
 #[test]
 fn bytes_of_another_form_are_no_bundle(rt: HostRuntime) -> Result<(), Fail> {
-    let whole = bundle(rt.alloc(), &[(0, 2), (1, 0)], &[(2, 3)], &[])?;
+    let alloc = rt.alloc();
+    let whole = bundle(alloc, &[(0, 2), (1, 0)], &[(2, 3)], &[])?;
     assert_eq!(rt; whole.len(), 111);
-    assert!(rt; !is_no_bundle(rt.alloc(), &whole));
-    assert!(rt;
-        is_no_bundle(rt.alloc(), &whole[..110]),
-        "a byte is lacking"
-    );
-    assert!(rt;
-        is_no_bundle(rt.alloc(), &whole[1..]),
-        "the first byte is lacking"
-    );
-    assert!(rt;
-        is_no_bundle(
-            rt.alloc(),
-            &bundle(rt.alloc(), &[(1, 0), (0, 2)], &[(2, 3)], &[])?
-        ),
-        "the nodes descend"
-    );
-    assert!(rt;
-        is_no_bundle(
-            rt.alloc(),
-            &bundle(rt.alloc(), &[(0, 2), (0, 2)], &[(2, 3)], &[])?
-        ),
-        "a node stands twice"
-    );
+    assert!(rt; !is_no_bundle(alloc, &whole));
+    assert!(rt; is_no_bundle_when_cut(alloc, &whole) == Some(true));
+    let descending = bundle(alloc, &[(1, 0), (0, 2)], &[(2, 3)], &[])?;
+    assert!(rt; is_no_bundle(alloc, &descending), "the nodes descend");
+    let doubled = bundle(alloc, &[(0, 2), (0, 2)], &[(2, 3)], &[])?;
+    assert!(rt; is_no_bundle(alloc, &doubled), "a node stands twice");
     Ok(())
 }
 
