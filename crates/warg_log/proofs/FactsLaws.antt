@@ -14,7 +14,7 @@ use Rattle.warg_log.specs.declared.facts.Undo.TheVariants as undo
 use Rattle.warg_log.specs.History.{same_version}
 use Rattle.warg_log.specs.Keys.{given, restored}
 use Rattle.warg_log.specs.Places.{place_of, versions_of, without_last, with_content, content_at}
-use Rattle.warg_log.specs.Known.{Known, give, undone, undone_all, CanUndo, CanUndoAll, place_among}
+use Rattle.warg_log.specs.Facts.{PlainFacts, give, undone, undone_all, CanUndo, CanUndoAll, place_among}
 
 -- a known key that is changed at one id and put back
 pub given_back : (keys : List ℕ → Option KeyFacts) (id q : List ℕ) (key : List ℕ) (gained : PermissionSet) (old : Option KeyFacts) → keys id ≡ old
@@ -30,7 +30,7 @@ given_back keys id q key gained old is = elim (cases_Bool (bytes_eq id q)) [
     back None = refl
     back (Some f) = refl
 
-pub undo_give : (k : Known) (key : List ℕ) (gained : PermissionSet) → undone (undo.Key (sha256 key) (option_map (λ (f : KeyFacts). f.permissions) (k.keys (sha256 key)))) (give key gained k) ≡ k
+pub undo_give : (k : PlainFacts) (key : List ℕ) (gained : PermissionSet) → undone (undo.Key (sha256 key) (option_map (λ (f : KeyFacts). f.permissions) (k.keys (sha256 key)))) (give key gained k) ≡ k
 undo_give k key gained = ap (λ (keys : List ℕ → Option KeyFacts). record k { keys = keys }) (fun_ext (λ q. given_back k.keys (sha256 key) q key gained (k.keys (sha256 key)) refl))
 
 -- a release that is taken away again
@@ -63,15 +63,15 @@ length-with_content (r ∷ rs) zero content = refl
 length-with_content (r ∷ rs) (suc i) content = ap suc (length-with_content rs i content)
 
 -- the entries before, and one more
-pub undone_all-push : (us : List Undo) (u : Undo) (k : Known) → undone_all (us ++ u ∷ []) k ≡ undone_all us (undone u k)
+pub undone_all-push : (us : List Undo) (u : Undo) (k : PlainFacts) → undone_all (us ++ u ∷ []) k ≡ undone_all us (undone u k)
 undone_all-push [] u k = refl
 undone_all-push (v ∷ us) u k = ap (undone v) (undone_all-push us u k)
 
-pub CanUndoAll-push : (us : List Undo) (u : Undo) (k : Known) → CanUndo u k → CanUndoAll us (undone u k) → CanUndoAll (us ++ u ∷ []) k
+pub CanUndoAll-push : (us : List Undo) (u : Undo) (k : PlainFacts) → CanUndo u k → CanUndoAll us (undone u k) → CanUndoAll (us ++ u ∷ []) k
 CanUndoAll-push [] u k can all = (can, tt)
 CanUndoAll-push (v ∷ us) u k can all = (subst (CanUndo v) (sym (undone_all-push us u k)) all.0, CanUndoAll-push us u k can all.1)
 
-pub CanUndoAll-pop : (us : List Undo) (u : Undo) (k : Known) → CanUndoAll (us ++ u ∷ []) k → CanUndo u k × CanUndoAll us (undone u k)
+pub CanUndoAll-pop : (us : List Undo) (u : Undo) (k : PlainFacts) → CanUndoAll (us ++ u ∷ []) k → CanUndo u k × CanUndoAll us (undone u k)
 CanUndoAll-pop [] u k all = (all.0, tt)
 CanUndoAll-pop (v ∷ us) u k all =
     let rest = CanUndoAll-pop us u k all.1 in
