@@ -13,6 +13,7 @@ use crate::sink::Sink;
 use comp_format::{CoreDesc, CoreType, CoreVal, Limits, ModuleDecl, ModuleType};
 use warg_values::Memory;
 
+/// The byte of a core value type.
 fn code_of(value: CoreVal) -> u8
     ensures { result ≡ core_value_code value }
 {
@@ -40,6 +41,7 @@ impl Encode for CoreVal {
     }
 }
 
+/// Limits: a flag that tells whether there is a bound, the least size, and the bound.
 fn write_limits(out: &mut Sink, limits: Limits) -> Result<(), Memory>
     ensures text { OnOk result (out.new.bytes.items ≡ out.old.bytes.items ++ limits_text limits) }
     ensures largest { OnOk result (out.new.largest ≡ max out.old.largest (limits_largest limits)) }
@@ -61,6 +63,7 @@ fn mutable_code(mutable: bool) -> u8
     if mutable { 1 } else { 0 }
 }
 
+/// The description of what a core module imports or exports.
 fn write_core_desc(out: &mut Sink, desc: CoreDesc) -> Result<(), Memory>
     ensures text { OnOk result (out.new.bytes.items ≡ out.old.bytes.items ++ core_desc_text desc) }
     ensures largest { OnOk result (out.new.largest ≡ max out.old.largest (core_desc_largest desc)) }
@@ -118,8 +121,14 @@ pub fn write_module(out: &mut Sink, ty: &ModuleType) -> Result<(), Memory>
 #[cycle(core_writing)]
 #[tactic(auto, unfolding(comp_format::specs::CoreTypes::module_text, crate::specs::Largest::module_largest, crate::specs::Texts::TextsOfModule))]
 fn write_module_decls(out: &mut Sink, decls: &[ModuleDecl]) -> Result<(), Memory>
-    ensures text { OnOk result (out.new.bytes.items ≡ out.old.bytes.items ++ (number_text (length decls.now) ++ module_text (module_decls (map module_decl_tree decls.now)))) }
-    ensures largest { OnOk result (out.new.largest ≡ max out.old.largest (max (length decls.now) (module_largest (module_decls (map module_decl_tree decls.now))))) }
+    ensures text { OnOk result
+        (out.new.bytes.items
+        ≡ out.old.bytes.items
+        ++ (number_text (length decls.now) ++ module_text (module_decls (map module_decl_tree decls.now)))) }
+    ensures largest { OnOk result
+        (out.new.largest
+        ≡ max out.old.largest
+        (max (length decls.now) (module_largest (module_decls (map module_decl_tree decls.now))))) }
     ensures texts { OnOk result (TextsOfModule (module_decls (map module_decl_tree decls.now))) }
 {
     out.write_number(decls.len() as u64)?;
