@@ -94,7 +94,8 @@ impl ComponentBuilder {
         requires bytes { IsBytesOf (item_of id bytes.items) id bytes.items }
         requires kind { item_sort (item_of id bytes.items) ≡ Some sort }
         requires next { size ≡ next_index sort (entries_of self.old) + 1 }
-        ensures added { OnOk result (entries_of self.new ≡ entries_of self.old ++ Single (item_of id bytes.items) ∷ []) }
+        ensures added { OnOk result
+            (entries_of self.new ≡ entries_of self.old ++ Single (item_of id bytes.items) ∷ []) }
         ensures unchanged { OnErr result (self.new ≡ self.old) }
         ensures err { IfErr result (λ e. e ≡ EncodeError.Memory) }
     {
@@ -126,7 +127,8 @@ impl ComponentBuilder {
         ensures index { IfOk result (λ i. i ≡ next_index sort.Component (entries_of self.old)) }
         ensures added { OnOk result (entries_of self.new ≡ entries_of self.old ++ Single (Component bytes.now) ∷ []) }
         ensures unchanged { OnErr result (self.new ≡ self.old) }
-        ensures fits { OnOk result ((length bytes.now < 2 ^ 32) × (next_index sort.Component (entries_of self.old) + 1 < 2 ^ 32)) }
+        ensures fits { OnOk result
+            ((length bytes.now < 2 ^ 32) × (next_index sort.Component (entries_of self.old) + 1 < 2 ^ 32)) }
         ensures too_large { (n : ℕ) → result ≡ Err (EncodeError.TooLarge n)
             → (2 ^ 32 ≤ n) × ((n ≡ length bytes.now) ⊎ (n ≡ next_index sort.Component (entries_of self.old) + 1)) }
     {
@@ -180,8 +182,7 @@ impl ComponentBuilder {
         requires { 0 < length name.now }
         ensures index { IfOk result (λ i. i ≡ next_index sort (entries_of self.old)) }
         ensures added { OnOk result
-            (entries_of self.new
-            ≡ entries_of self.old ++ Single (Aliased (alias.Export sort instance name.now)) ∷ []) }
+            (entries_of self.new ≡ entries_of self.old ++ Single (Aliased (alias.Export sort instance name.now)) ∷ []) }
         ensures unchanged { OnErr result (self.new ≡ self.old) }
         ensures fits { OnOk result ((length name.now < 2 ^ 32) × (next_index sort (entries_of self.old) + 1 < 2 ^ 32)) }
         ensures too_large { (n : ℕ) → result ≡ Err (EncodeError.TooLarge n)
@@ -262,12 +263,8 @@ impl ComponentBuilder {
             ≡ entries_of self.old
             ++ Single
             (Export
-            (record {
-              name = name.now;
-              sort = sort;
-              index = index;
-              ty = option_map (λ t. t.now) ty.entry;
-            }))
+            (record
+            { name = name.now; sort = sort; index = index; ty = option_map (λ t. t.now) ty.entry }))
             ∷ []) }
         ensures unchanged { OnErr result (self.new ≡ self.old) }
         ensures fits { OnOk result ((length name.now < 2 ^ 32) × (next_index sort (entries_of self.old) + 1 < 2 ^ 32)) }
@@ -287,9 +284,11 @@ impl ComponentBuilder {
     pub fn type_defined(&mut self, alloc: Global, ty: &DefinedType) -> Result<u32, EncodeError>
         requires { IsDefined ty.now }
         ensures index { IfOk result (λ i. i ≡ next_index sort.Ty (entries_of self.old)) }
-        ensures added { OnOk result (entries_of self.new ≡ entries_of self.old ++ Single (Ty (tree.Defined ty.now)) ∷ []) }
+        ensures added { OnOk result
+            (entries_of self.new ≡ entries_of self.old ++ Single (Ty (tree.Defined ty.now)) ∷ []) }
         ensures unchanged { OnErr result (self.new ≡ self.old) }
-        ensures fits { OnOk result ((defined_largest ty.now < 2 ^ 32) × (next_index sort.Ty (entries_of self.old) + 1 < 2 ^ 32)) }
+        ensures fits { OnOk result
+            ((defined_largest ty.now < 2 ^ 32) × (next_index sort.Ty (entries_of self.old) + 1 < 2 ^ 32)) }
         ensures too_large { (n : ℕ) → result ≡ Err (EncodeError.TooLarge n)
             → (2 ^ 32 ≤ n) × ((n ≡ defined_largest ty.now) ⊎ (n ≡ next_index sort.Ty (entries_of self.old) + 1)) }
     {
@@ -308,7 +307,8 @@ impl ComponentBuilder {
         ensures index { IfOk result (λ i. i ≡ next_index sort.Ty (entries_of self.old)) }
         ensures added { OnOk result (entries_of self.new ≡ entries_of self.old ++ Single (Ty (tree.Func ty.now)) ∷ []) }
         ensures unchanged { OnErr result (self.new ≡ self.old) }
-        ensures fits { OnOk result ((func_largest ty.now < 2 ^ 32) × (next_index sort.Ty (entries_of self.old) + 1 < 2 ^ 32)) }
+        ensures fits { OnOk result
+            ((func_largest ty.now < 2 ^ 32) × (next_index sort.Ty (entries_of self.old) + 1 < 2 ^ 32)) }
         ensures too_large { (n : ℕ) → result ≡ Err (EncodeError.TooLarge n)
             → (2 ^ 32 ≤ n) × ((n ≡ func_largest ty.now) ⊎ (n ≡ next_index sort.Ty (entries_of self.old) + 1)) }
     {
@@ -373,7 +373,8 @@ impl ComponentBuilder {
     /// `TooLarge` has the number of types with this one, where that is above 2^32 - 1.
     pub fn type_resource(&mut self, alloc: Global) -> Result<u32, EncodeError>
         ensures index { IfOk result (λ i. i ≡ next_index sort.Ty (entries_of self.old)) }
-        ensures added { OnOk result (entries_of self.new ≡ entries_of self.old ++ Single (Ty (tree.Resource None)) ∷ []) }
+        ensures added { OnOk result
+            (entries_of self.new ≡ entries_of self.old ++ Single (Ty (tree.Resource None)) ∷ []) }
         ensures unchanged { OnErr result (self.new ≡ self.old) }
         ensures fits { OnOk result (next_index sort.Ty (entries_of self.old) + 1 < 2 ^ 32) }
         ensures too_large { (n : ℕ) → result ≡ Err (EncodeError.TooLarge n)
@@ -459,7 +460,8 @@ impl ComponentBuilder {
             (λ bytes. (items : List ItemTree) → Reads bytes.items items → items ≡ items_of (entries_of self)) }
         ensures text { IfOk result (λ bytes. bytes.items ≡ component_text (entries_of self)) }
         ensures fits { OnOk result (AllByRecursion IsShort (sections_of (entries_of self))) }
-        ensures too_large { (n : ℕ) → result ≡ Err (EncodeError.TooLarge n) → IsTooLongAmong n (sections_of (entries_of self)) }
+        ensures too_large { (n : ℕ) → result ≡ Err (EncodeError.TooLarge n)
+            → IsTooLongAmong n (sections_of (entries_of self)) }
     {
         let mut out = Vec::with_capacity(alloc, self.room())?;
         out.extend_from_slice(&HEADER)?;

@@ -108,8 +108,10 @@ pub fn write_core(out: &mut Sink, ty: &CoreType) -> Result<(), Memory>
 #[cycle(core_writing)]
 #[tactic(auto, using(comp_format::proofs::ViewLaws::module_is, comp_format::proofs::ViewLaws::modules_counted), unfolding(comp_format::specs::CoreTypes::core_text, crate::specs::Largest::core_largest, crate::specs::Texts::TextsOfCore))]
 pub fn write_module(out: &mut Sink, ty: &ModuleType) -> Result<(), Memory>
-    ensures text { OnOk result (out.new.bytes.items ≡ out.old.bytes.items ++ core_text (tree.Module (module_tree ty.now))) }
-    ensures largest { OnOk result (out.new.largest ≡ max out.old.largest (core_largest (tree.Module (module_tree ty.now)))) }
+    ensures text { OnOk result
+        (out.new.bytes.items ≡ out.old.bytes.items ++ core_text (tree.Module (module_tree ty.now))) }
+    ensures largest { OnOk result
+        (out.new.largest ≡ max out.old.largest (core_largest (tree.Module (module_tree ty.now)))) }
     ensures texts { OnOk result (TextsOfCore (tree.Module (module_tree ty.now))) }
 {
     out.write(&[0x50])?;
@@ -142,8 +144,10 @@ fn write_module_decls(out: &mut Sink, decls: &[ModuleDecl]) -> Result<(), Memory
 #[cycle(core_writing)]
 #[tactic(auto, using(comp_format::proofs::ViewLaws::module_decl_import, comp_format::proofs::ViewLaws::module_decl_core_ty, comp_format::proofs::ViewLaws::module_decl_alias, comp_format::proofs::ViewLaws::module_decl_export), unfolding(comp_format::specs::CoreTypes::module_decl_text, crate::specs::Largest::module_decl_largest, crate::specs::Texts::TextsOfModuleDecl))]
 fn write_module_decl(out: &mut Sink, decl: &ModuleDecl) -> Result<(), Memory>
-    ensures text { OnOk result (out.new.bytes.items ≡ out.old.bytes.items ++ module_decl_text (module_decl_tree decl.now)) }
-    ensures largest { OnOk result (out.new.largest ≡ max out.old.largest (module_decl_largest (module_decl_tree decl.now))) }
+    ensures text { OnOk result
+        (out.new.bytes.items ≡ out.old.bytes.items ++ module_decl_text (module_decl_tree decl.now)) }
+    ensures largest { OnOk result
+        (out.new.largest ≡ max out.old.largest (module_decl_largest (module_decl_tree decl.now))) }
     ensures texts { OnOk result (TextsOfModuleDecl (module_decl_tree decl.now)) }
 {
     match decl {

@@ -39,9 +39,11 @@ pub fn encode_component(alloc: Global, bytes: &[u8]) -> Result<Vec<u8>, EncodeEr
 /// An instance of a component.
 pub fn encode_instance(alloc: Global, component: u32, args: &[Arg]) -> Result<Vec<u8>, EncodeError>
     requires { All (λ arg. 0 < length arg.name) args.now }
-    ensures bytes { IfOk result (λ bytes. IsBytesOf (Instance (instance.Instantiate component args.now)) 5 bytes.items) }
+    ensures bytes { IfOk result
+        (λ bytes. IsBytesOf (Instance (instance.Instantiate component args.now)) 5 bytes.items) }
     ensures fits { OnOk result (vector_largest arg_largest args.now < 2 ^ 32) }
-    ensures too_large { (n : ℕ) → result ≡ Err (EncodeError.TooLarge n) → (2 ^ 32 ≤ n) × (n ≡ vector_largest arg_largest args.now) }
+    ensures too_large { (n : ℕ) → result ≡ Err (EncodeError.TooLarge n)
+        → (2 ^ 32 ≤ n) × (n ≡ vector_largest arg_largest args.now) }
 {
     let mut out = Sink::new(alloc);
     write_marked(&mut out, &[0], component)?;
@@ -110,8 +112,7 @@ pub fn encode_export(
 ) -> Result<Vec<u8>, EncodeError>
     requires { 0 < length name.now }
     ensures bytes { IfOk result
-        (λ bytes.
-        IsBytesOf (Export (record { name = name.now; sort = sort; index = index; ty = ty })) 11 bytes.items) }
+        (λ bytes. IsBytesOf (Export (record { name = name.now; sort = sort; index = index; ty = ty })) 11 bytes.items) }
     ensures fits { OnOk result (length name.now < 2 ^ 32) }
     ensures too_large { (n : ℕ) → result ≡ Err (EncodeError.TooLarge n) → (2 ^ 32 ≤ n) × (n ≡ length name.now) }
 {

@@ -19,7 +19,8 @@ use std::alloc::Global;
 
 /// The component of one section.
 fn component_of(alloc: Global, id: u8, content: &[u8]) -> Result<Vec<u8>, EncodeError>
-    ensures text { IfOk result (λ bytes. bytes.items ≡ header ++ (id ∷ (number_text (length content.now) ++ content.now))) }
+    ensures text { IfOk result
+        (λ bytes. bytes.items ≡ header ++ (id ∷ (number_text (length content.now) ++ content.now))) }
     ensures fits { OnOk result (length content.now < 2 ^ 32) }
     ensures too_large { (n : ℕ) → result ≡ Err (EncodeError.TooLarge n) → (n ≡ length content.now) × (2 ^ 32 ≤ n) }
 {

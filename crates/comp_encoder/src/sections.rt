@@ -77,7 +77,8 @@ fn section_len(items: &[Built]) -> usize
 
 /// Writes a section: its id, the length of its content, and the content.
 pub fn write_section(out: &mut Vec<u8>, id: u8, content: &[u8]) -> Result<(), EncodeError>
-    ensures text { OnOk result (out.new.items ≡ out.old.items ++ (id ∷ (number_text (length content.now) ++ content.now))) }
+    ensures text { OnOk result
+        (out.new.items ≡ out.old.items ++ (id ∷ (number_text (length content.now) ++ content.now))) }
     ensures fits { OnOk result (length content.now < 2 ^ 32) }
     ensures too_large { (n : ℕ) → result ≡ Err (EncodeError.TooLarge n) → (n ≡ length content.now) × (2 ^ 32 ≤ n) }
 {
@@ -121,9 +122,11 @@ fn write_shared(
     requires vector { is_plain id ≡ false }
     requires fit { AllByRecursion IsKept (kepts_of items.now) }
     requires alike { AllByRecursion (IsItem id) (kepts_of items.now) }
-    ensures text { OnOk result (out.new.items ≡ out.old.items ++ section_text (shared_section id (kepts_of items.now))) }
+    ensures text { OnOk result
+        (out.new.items ≡ out.old.items ++ section_text (shared_section id (kepts_of items.now))) }
     ensures fits { OnOk result (IsShort (shared_section id (kepts_of items.now))) }
-    ensures too_large { (n : ℕ) → result ≡ Err (EncodeError.TooLarge n) → IsTooLong n (shared_section id (kepts_of items.now)) }
+    ensures too_large { (n : ℕ) → result ≡ Err (EncodeError.TooLarge n)
+        → IsTooLong n (shared_section id (kepts_of items.now)) }
 {
     short(items.len())?;
     let mut content = Vec::new(alloc);
@@ -138,7 +141,8 @@ fn write_first_section(alloc: Global, out: &mut Vec<u8>, items: &[Built]) -> Res
     requires some { 0 < length items.now }
     ensures text { OnOk result (out.new.items ≡ out.old.items ++ section_text (first_section (kepts_of items.now))) }
     ensures fits { OnOk result (IsShort (first_section (kepts_of items.now))) }
-    ensures too_large { (n : ℕ) → result ≡ Err (EncodeError.TooLarge n) → IsTooLong n (first_section (kepts_of items.now)) }
+    ensures too_large { (n : ℕ) → result ≡ Err (EncodeError.TooLarge n)
+        → IsTooLong n (first_section (kepts_of items.now)) }
 {
     match &items[0] {
         Built::Section { id, content } => write_section(out, *id, content.as_slice()),

@@ -53,7 +53,8 @@ impl InstanceType {
     /// `TooLarge` has the number of declarations with this one, where that is above 2^32 - 1. A refusal adds nothing.
     #[tactic(auto, using(crate::proofs::ViewLaws::instance_pushed, crate::proofs::ViewLaws::instance_counted))]
     pub fn ty(&mut self, _alloc: Global, ty: DefType) -> Result<(), EncodeError>
-        ensures added { OnOk result (instance_type_tree self.new ≡ with_decl (instance_type_tree self.old) (tree.Ty (type_tree ty))) }
+        ensures added { OnOk result
+            (instance_type_tree self.new ≡ with_decl (instance_type_tree self.old) (tree.Ty (type_tree ty))) }
         ensures unchanged { OnErr result (instance_type_tree self.new ≡ instance_type_tree self.old) }
         ensures fits { OnOk result (decl_count (instance_type_tree self.old) + 1 < 2 ^ 32) }
         ensures too_large { (n : ℕ) → result ≡ Err (EncodeError.TooLarge n)
@@ -87,7 +88,8 @@ impl InstanceType {
     /// `TooLarge` has the number of declarations with this one, where that is above 2^32 - 1. A refusal adds nothing.
     #[tactic(auto, using(crate::proofs::ViewLaws::instance_pushed, crate::proofs::ViewLaws::instance_counted))]
     pub fn alias(&mut self, _alloc: Global, alias: Alias) -> Result<(), EncodeError>
-        ensures added { OnOk result (instance_type_tree self.new ≡ with_decl (instance_type_tree self.old) (tree.Aliased alias)) }
+        ensures added { OnOk result
+            (instance_type_tree self.new ≡ with_decl (instance_type_tree self.old) (tree.Aliased alias)) }
         ensures unchanged { OnErr result (instance_type_tree self.new ≡ instance_type_tree self.old) }
         ensures fits { OnOk result (decl_count (instance_type_tree self.old) + 1 < 2 ^ 32) }
         ensures too_large { (n : ℕ) → result ≡ Err (EncodeError.TooLarge n)
@@ -107,7 +109,8 @@ impl InstanceType {
         ensures added { OnOk result
             (instance_type_tree self.new ≡ with_decl (instance_type_tree self.old) (tree.Export name.now ty)) }
         ensures unchanged { OnErr result (instance_type_tree self.new ≡ instance_type_tree self.old) }
-        ensures fits { OnOk result ((length name.now < 2 ^ 32) × (decl_count (instance_type_tree self.old) + 1 < 2 ^ 32)) }
+        ensures fits { OnOk result
+            ((length name.now < 2 ^ 32) × (decl_count (instance_type_tree self.old) + 1 < 2 ^ 32)) }
         ensures too_large { (n : ℕ) → result ≡ Err (EncodeError.TooLarge n)
             → (2 ^ 32 ≤ n) × ((n ≡ length name.now) ⊎ (n ≡ decl_count (instance_type_tree self.old) + 1)) }
     {
@@ -168,7 +171,8 @@ impl ComponentType {
     /// `TooLarge` has the number of declarations with this one, where that is above 2^32 - 1. A refusal adds nothing.
     #[tactic(auto, using(crate::proofs::ViewLaws::component_pushed, crate::proofs::ViewLaws::component_counted))]
     pub fn alias(&mut self, _alloc: Global, alias: Alias) -> Result<(), EncodeError>
-        ensures added { OnOk result (component_type_tree self.new ≡ with_decl (component_type_tree self.old) (tree.Aliased alias)) }
+        ensures added { OnOk result
+            (component_type_tree self.new ≡ with_decl (component_type_tree self.old) (tree.Aliased alias)) }
         ensures unchanged { OnErr result (component_type_tree self.new ≡ component_type_tree self.old) }
         ensures fits { OnOk result (decl_count (component_type_tree self.old) + 1 < 2 ^ 32) }
         ensures too_large { (n : ℕ) → result ≡ Err (EncodeError.TooLarge n)
@@ -188,7 +192,8 @@ impl ComponentType {
         ensures added { OnOk result
             (component_type_tree self.new ≡ with_decl (component_type_tree self.old) (tree.Import name.now ty)) }
         ensures unchanged { OnErr result (component_type_tree self.new ≡ component_type_tree self.old) }
-        ensures fits { OnOk result ((length name.now < 2 ^ 32) × (decl_count (component_type_tree self.old) + 1 < 2 ^ 32)) }
+        ensures fits { OnOk result
+            ((length name.now < 2 ^ 32) × (decl_count (component_type_tree self.old) + 1 < 2 ^ 32)) }
         ensures too_large { (n : ℕ) → result ≡ Err (EncodeError.TooLarge n)
             → (2 ^ 32 ≤ n) × ((n ≡ length name.now) ⊎ (n ≡ decl_count (component_type_tree self.old) + 1)) }
     {
@@ -207,7 +212,8 @@ impl ComponentType {
         ensures added { OnOk result
             (component_type_tree self.new ≡ with_decl (component_type_tree self.old) (tree.Export name.now ty)) }
         ensures unchanged { OnErr result (component_type_tree self.new ≡ component_type_tree self.old) }
-        ensures fits { OnOk result ((length name.now < 2 ^ 32) × (decl_count (component_type_tree self.old) + 1 < 2 ^ 32)) }
+        ensures fits { OnOk result
+            ((length name.now < 2 ^ 32) × (decl_count (component_type_tree self.old) + 1 < 2 ^ 32)) }
         ensures too_large { (n : ℕ) → result ≡ Err (EncodeError.TooLarge n)
             → (2 ^ 32 ≤ n) × ((n ≡ length name.now) ⊎ (n ≡ decl_count (component_type_tree self.old) + 1)) }
     {
@@ -233,7 +239,8 @@ impl ModuleType {
     /// `TooLarge` has the number of declarations with this one, where that is above 2^32 - 1. A refusal adds nothing.
     #[tactic(auto, using(crate::proofs::ViewLaws::module_pushed, crate::proofs::ViewLaws::modules_counted))]
     pub fn core_ty(&mut self, _alloc: Global, ty: CoreType) -> Result<(), EncodeError>
-        ensures added { OnOk result (module_tree self.new ≡ with_module_decl (module_tree self.old) (core.CoreTy (core_tree ty))) }
+        ensures added { OnOk result
+            (module_tree self.new ≡ with_module_decl (module_tree self.old) (core.CoreTy (core_tree ty))) }
         ensures unchanged { OnErr result (module_tree self.new ≡ module_tree self.old) }
         ensures fits { OnOk result (module_count (module_tree self.old) + 1 < 2 ^ 32) }
         ensures too_large { (n : ℕ) → result ≡ Err (EncodeError.TooLarge n)
@@ -249,7 +256,8 @@ impl ModuleType {
     /// `TooLarge` has the number of declarations with this one, where that is above 2^32 - 1. A refusal adds nothing.
     #[tactic(auto, using(crate::proofs::ViewLaws::module_pushed, crate::proofs::ViewLaws::modules_counted))]
     pub fn alias(&mut self, _alloc: Global, count: u32, index: u32) -> Result<(), EncodeError>
-        ensures added { OnOk result (module_tree self.new ≡ with_module_decl (module_tree self.old) (core.OuterAlias count index)) }
+        ensures added { OnOk result
+            (module_tree self.new ≡ with_module_decl (module_tree self.old) (core.OuterAlias count index)) }
         ensures unchanged { OnErr result (module_tree self.new ≡ module_tree self.old) }
         ensures fits { OnOk result (module_count (module_tree self.old) + 1 < 2 ^ 32) }
         ensures too_large { (n : ℕ) → result ≡ Err (EncodeError.TooLarge n)
@@ -266,7 +274,8 @@ impl ModuleType {
     /// 2^32 - 1. A refusal adds nothing.
     #[tactic(auto, using(crate::proofs::ViewLaws::module_pushed, crate::proofs::ViewLaws::modules_counted))]
     pub fn export(&mut self, alloc: Global, name: &str, desc: CoreDesc) -> Result<(), EncodeError>
-        ensures added { OnOk result (module_tree self.new ≡ with_module_decl (module_tree self.old) (core.Export name.now desc)) }
+        ensures added { OnOk result
+            (module_tree self.new ≡ with_module_decl (module_tree self.old) (core.Export name.now desc)) }
         ensures unchanged { OnErr result (module_tree self.new ≡ module_tree self.old) }
         ensures fits { OnOk result ((length name.now < 2 ^ 32) × (module_count (module_tree self.old) + 1 < 2 ^ 32)) }
         ensures too_large { (n : ℕ) → result ≡ Err (EncodeError.TooLarge n)

@@ -15,7 +15,8 @@ pub fn one_reading()
 
 /// What is read as a component is one.
 pub fn what_is_read_is_a_component()
-    ensures { (scopes : ℕ) (bytes : List ℕ) (ss : Sections) → component_at scopes bytes ≡ Ok ss → ComponentForm ss bytes }
+    ensures { (scopes : ℕ) (bytes : List ℕ) (ss : Sections) → component_at scopes bytes ≡ Ok ss
+        → ComponentForm ss bytes }
 {}
 
 /// Each component is read as its sections, but where it has more open scopes than are followed.

@@ -179,7 +179,8 @@ fn many_decls_of(
 #[cycle(reading)]
 #[tactic(auto, unfolding(comp_format::specs::Definitions::decl_at))]
 fn decl_of(alloc: Global, scopes: u8, imports: bool, bytes: &[u8]) -> Result<(Decl, &[u8]), Refusal>
-    ensures { Gives (λ x. (decl_tree x.0, x.1.now)) result (decl_at imports (core_at scopes) (definition_at scopes) bytes.now) }
+    ensures { Gives (λ x. (decl_tree x.0, x.1.now)) result
+        (decl_at imports (core_at scopes) (definition_at scopes) bytes.now) }
 {
     let (byte, rest) = byte_of(bytes)?;
     match byte {

@@ -187,7 +187,8 @@ fn push_section<'a>(
     items: &mut Vec<Item<'a>>,
 ) -> Result<(), Refusal>
     requires { id ≢ 4 }
-    ensures { Adds result (content_at scopes id content.now) (map item_tree items.old.items) (map item_tree items.new.items) }
+    ensures { Adds result (content_at scopes id content.now) (map item_tree items.old.items)
+        (map item_tree items.new.items) }
 {
     match id {
         section::CUSTOM => {
@@ -276,7 +277,8 @@ fn any_section<'a>(
     content: &'a [u8],
     items: &mut Vec<Item<'a>>,
 ) -> Result<(), Refusal>
-    ensures { Adds result (content_at scopes id content.now) (map item_tree items.old.items) (map item_tree items.new.items) }
+    ensures { Adds result (content_at scopes id content.now) (map item_tree items.old.items)
+        (map item_tree items.new.items) }
 {
     if id != section::COMPONENT {
         return push_section(alloc, scopes, at, id, content, items);
@@ -298,7 +300,8 @@ pub fn read_items(alloc: Global, bytes: &[u8]) -> Result<Vec<Item<'_>>, ReadErro
     ensures only { (items : List ItemTree) → Reads bytes.now items
         → MatchResult result (λ v. map item_tree v.items ≡ items) (λ e. e ≡ ReadError.Memory) }
     ensures form { (at : ℕ) → result ≡ Err (ReadError.Form at) → component_at 200 bytes.now ≡ Err no_form }
-    ensures not_carried { (at : ℕ) → result ≡ Err (ReadError.NotCarried at) → component_at 200 bytes.now ≡ Err not_carried }
+    ensures not_carried { (at : ℕ) → result ≡ Err (ReadError.NotCarried at)
+        → component_at 200 bytes.now ≡ Err not_carried }
 {
     match items_of(alloc, SCOPES, bytes) {
         Ok(items) => Ok(items),

@@ -76,7 +76,8 @@ fn count_of(id: u8, content: &[u8]) -> Result<usize, Refusal>
 /// The section that has the item of this number among the items of sections: the item's number in it, and the bytes from
 /// its id on.
 fn section_of(sections: &[u8], number: usize) -> Result<Option<(usize, &[u8])>, Refusal>
-    ensures found { (this : Section) (within : ℕ) (section behind : List ℕ) → InSection number sections.now this within section
+    ensures found { (this : Section) (within : ℕ) (section behind : List ℕ)
+        → InSection number sections.now this within section
         → SectionForm this section behind
         → MatchResult result (λ found. MatchOption found ⊥ (λ x. (x.0 ≡ within) × (x.1.now ≡ section)))
         (λ e. e ≡ Refusal.Memory) }

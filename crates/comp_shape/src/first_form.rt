@@ -135,7 +135,10 @@ fn other_id(sections: &[u8]) -> Result<Option<usize>, ShapeError>
 pub fn check_first_form(alloc: Global, bytes: &[u8], items: &[Item<'_>]) -> Result<(), ShapeError>
     requires { Reads bytes.now (map item_tree items.now) }
     ensures first { OnOk result (InFirstForm bytes.now (map item_tree items.now)) }
-    ensures not_built { (at : ℕ) → result ≡ Err (ShapeError.NotBuilt at) → (others : List ItemTree) → InFirstForm bytes.now others → ⊥ }
+    ensures not_built { (at : ℕ) → result ≡ Err (ShapeError.NotBuilt at)
+        → (others : List ItemTree)
+        → InFirstForm bytes.now others
+        → ⊥ }
     ensures place { (at : ℕ) → result ≡ Err (ShapeError.NotBuilt at) → StandsFirstOther bytes.now at }
     ensures only { IfErr result IsNotBuiltOrMemory }
 {

@@ -21,7 +21,8 @@ pub fn read_items(alloc: Global, bytes: &[u8]) -> Result<Vec<Item<'_>>, ShapeErr
     ensures only { (items : List ItemTree) → Reads bytes.now items
         → MatchResult result (λ v. map item_tree v.items ≡ items) (λ e. e ≡ ShapeError.Memory) }
     ensures form { (at : ℕ) → result ≡ Err (ShapeError.Form at) → component_at 200 bytes.now ≡ Err no_form }
-    ensures not_carried { (at : ℕ) → result ≡ Err (ShapeError.NotCarried at) → component_at 200 bytes.now ≡ Err not_carried }
+    ensures not_carried { (at : ℕ) → result ≡ Err (ShapeError.NotCarried at)
+        → component_at 200 bytes.now ≡ Err not_carried }
     ensures no_index { (at : ℕ) → result ≡ Err (ShapeError.Index at) → ⊥ }
     ensures all_built { (at : ℕ) → result ≡ Err (ShapeError.NotBuilt at) → ⊥ }
 {

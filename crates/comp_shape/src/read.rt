@@ -27,7 +27,8 @@ use warg_values::Text;
 fn type_at<'a>(types: &[&'a DefType], index: u32) -> Option<&'a DefType>
     requires { All (λ t. IsPlain t.now) types.now }
     ensures plain { IfSome result (λ t. IsPlain t.now) }
-    ensures there { IfSome result (λ t. slice_get (map (λ t. plain_tree t.now) types.now) index ≡ Some (plain_tree t.now)) }
+    ensures there { IfSome result
+        (λ t. slice_get (map (λ t. plain_tree t.now) types.now) index ≡ Some (plain_tree t.now)) }
     ensures absent { IfNone result (slice_get (map (λ t. plain_tree t.now) types.now) index ≡ None) }
 {
     let index = index as usize;
@@ -108,7 +109,8 @@ fn add_item<'a>(
 fn space_of<'a>(alloc: Global, items: &'a [Item<'a>]) -> Result<Space<'a>, Broken>
     requires { All (λ item. is_plain_item (item_tree item) ≡ true) items.now }
     ensures known { IfOk result (λ space. after_all nothing_known (map item_tree items.now) ≡ Some (known space)) }
-    ensures index { (at : ℕ) → result ≡ Err (Broken.Item at) → after_all nothing_known (map item_tree items.now) ≡ None }
+    ensures index { (at : ℕ) → result ≡ Err (Broken.Item at)
+        → after_all nothing_known (map item_tree items.now) ≡ None }
     ensures first { (number : ℕ) → result ≡ Err (Broken.Item number) → BreaksFirst (map item_tree items.now) number }
 {
     let mut space = Space {
@@ -129,14 +131,17 @@ fn shape_of<'a>(alloc: Global, bytes: &[u8], items: &'a [Item<'a>]) -> Result<Sh
     requires { Reads bytes.now (map item_tree items.now) }
     ensures found { IfOk result
         (λ s.
-        InFirstForm bytes.now (map item_tree items.now)
-        × (shape (map item_tree items.now) ≡ Some (shape_tree s))) }
+        InFirstForm bytes.now (map item_tree items.now) × (shape (map item_tree items.now) ≡ Some (shape_tree s))) }
     ensures named { IfOk result (λ s. All (λ e. 0 < length e.0) s.exports.items) }
-    ensures not_built { (at : ℕ) → result ≡ Err (ShapeError.NotBuilt at) → (others : List ItemTree) → InFirstForm bytes.now others → ⊥ }
+    ensures not_built { (at : ℕ) → result ≡ Err (ShapeError.NotBuilt at)
+        → (others : List ItemTree)
+        → InFirstForm bytes.now others
+        → ⊥ }
     ensures index { (at : ℕ) → result ≡ Err (ShapeError.Index at)
         → InFirstForm bytes.now (map item_tree items.now) × (shape (map item_tree items.now) ≡ None) }
     ensures not_built_place { (at : ℕ) → result ≡ Err (ShapeError.NotBuilt at) → StandsFirstOther bytes.now at }
-    ensures index_place { (at : ℕ) → result ≡ Err (ShapeError.Index at) → BreaksAt bytes.now (map item_tree items.now) at }
+    ensures index_place { (at : ℕ) → result ≡ Err (ShapeError.Index at)
+        → BreaksAt bytes.now (map item_tree items.now) at }
     ensures only { IfErr result IsOfItems }
 {
     match check_first_form(alloc, bytes, items) {
@@ -170,7 +175,8 @@ pub fn read_component(alloc: Global, bytes: &[u8]) -> Result<(Vec<Item<'_>>, Sha
         × (shape (map item_tree read.0.items) ≡ Some (shape_tree read.1))) }
     ensures named { IfOk result (λ read. All (λ e. 0 < length e.0) read.1.exports.items) }
     ensures form { (at : ℕ) → result ≡ Err (ShapeError.Form at) → component_at 200 bytes.now ≡ Err no_form }
-    ensures not_carried { (at : ℕ) → result ≡ Err (ShapeError.NotCarried at) → component_at 200 bytes.now ≡ Err not_carried }
+    ensures not_carried { (at : ℕ) → result ≡ Err (ShapeError.NotCarried at)
+        → component_at 200 bytes.now ≡ Err not_carried }
     ensures not_built { (at : ℕ) → result ≡ Err (ShapeError.NotBuilt at)
         → (items : List ItemTree) × Reads bytes.now items
         × ((others : List ItemTree) → InFirstForm bytes.now others → ⊥) }
@@ -197,10 +203,12 @@ pub fn read_component(alloc: Global, bytes: &[u8]) -> Result<(Vec<Item<'_>>, Sha
 /// and an export names a type whose index is not there yet, or has the name of an earlier one, ASCII letter case set
 /// aside, with the place of that export (`Explainer.md`, "Index Spaces" and "Import and Export Definitions").
 pub fn read_shape(alloc: Global, bytes: &[u8]) -> Result<Shape, ShapeError>
-    ensures found { IfOk result (λ s. (items : List ItemTree) × InFirstForm bytes.now items × (shape items ≡ Some (shape_tree s))) }
+    ensures found { IfOk result
+        (λ s. (items : List ItemTree) × InFirstForm bytes.now items × (shape items ≡ Some (shape_tree s))) }
     ensures named { IfOk result (λ s. All (λ e. 0 < length e.0) s.exports.items) }
     ensures form { (at : ℕ) → result ≡ Err (ShapeError.Form at) → component_at 200 bytes.now ≡ Err no_form }
-    ensures not_carried { (at : ℕ) → result ≡ Err (ShapeError.NotCarried at) → component_at 200 bytes.now ≡ Err not_carried }
+    ensures not_carried { (at : ℕ) → result ≡ Err (ShapeError.NotCarried at)
+        → component_at 200 bytes.now ≡ Err not_carried }
     ensures not_built { (at : ℕ) → result ≡ Err (ShapeError.NotBuilt at)
         → (items : List ItemTree) × Reads bytes.now items
         × ((others : List ItemTree) → InFirstForm bytes.now others → ⊥) }

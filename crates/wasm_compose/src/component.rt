@@ -139,12 +139,15 @@ impl<'a> Component<'a> {
         ensures kept { F.told files.new ≡ F.told files.old }
         ensures taken { IfOk result (λ c. (name_of c ≡ name.now) × (path_of c ≡ Some path.now)) }
         ensures read { IfOk result (λ c. IsRead c (bytes_of c)) }
-        ensures found { IfOk result (λ c. IfSome (F.told files.old) (λ held. file_at held path.now ≡ Some (bytes_of c))) }
+        ensures found { IfOk result
+            (λ c. IfSome (F.told files.old) (λ held. file_at held path.now ≡ Some (bytes_of c))) }
         ensures bad_name { (result ≡ Err bad_name) ↔ (name.now ≡ []) }
-        ensures missing { result ≡ Err (bad_file file.Missing) → IfSome (F.told files.old) (λ held. file_at held path.now ≡ None) }
+        ensures missing { result ≡ Err (bad_file file.Missing)
+            → IfSome (F.told files.old) (λ held. file_at held path.now ≡ None) }
         ensures failed { result ≡ Err (bad_file file.Failed) → Rose (F.faults files.old) (F.faults files.new) }
         ensures no_memory { result ≡ Err (bad_file file.Memory) → ⊥ }
-        ensures bad_component { (e : shape_error) → result ≡ Err (bad_component e) → RefusedAt e (F.told files.old) path.now }
+        ensures bad_component { (e : shape_error) → result ≡ Err (bad_component e)
+            → RefusedAt e (F.told files.old) path.now }
     {
         if name.is_empty() {
             return Err(ComponentError::BadName);

@@ -24,7 +24,8 @@ fn link_export(alloc: Global, builder: &mut ComponentBuilder, name: &str) -> Res
         (entries_of builder.new
         ≡ entries_of builder.old
         ++ singles (link_exports (next_index sort.Ty (entries_of builder.old)) (name.now ∷ []))) }
-    ensures fits { OnOk result ((length name.now < 2 ^ 32) × (next_index sort.Ty (entries_of builder.old) + 2 < 2 ^ 32)) }
+    ensures fits { OnOk result
+        ((length name.now < 2 ^ 32) × (next_index sort.Ty (entries_of builder.old) + 2 < 2 ^ 32)) }
     ensures too_large { (n : ℕ) → result ≡ Err (encode_error.TooLarge n)
         → (2 ^ 32 ≤ n) × (length name.now < 2 ^ 32 → next_index sort.Ty (entries_of builder.old) + 2 < 2 ^ 32 → ⊥) }
 {
@@ -44,7 +45,8 @@ fn link_each(
     ensures added { OnOk result
         (entries_of builder.new ≡ entries_of builder.old ++ singles (link_exports 0 (map (λ e. e.0) exports.now))) }
     ensures fits { OnOk result (NamesFit (map (λ e. e.0) exports.now)) }
-    ensures too_large { (n : ℕ) → result ≡ Err (encode_error.TooLarge n) → (2 ^ 32 ≤ n) × (NamesFit (map (λ e. e.0) exports.now) → ⊥) }
+    ensures too_large { (n : ℕ) → result ≡ Err (encode_error.TooLarge n)
+        → (2 ^ 32 ≤ n) × (NamesFit (map (λ e. e.0) exports.now) → ⊥) }
 {
     for (name, _) in exports {
         link_export(alloc, builder, name.as_str())?;
@@ -74,8 +76,7 @@ pub fn link_root(alloc: Global, component: &Component<'_>) -> Result<Vec<u8>, Co
     ensures linked { IfOk result (λ bytes. IsLinked (bytes_of component.now) (export_names component.now) bytes.items) }
     ensures written { IfOk result
         (λ bytes.
-        bytes.items
-        ≡ component_text (singles (link_items (bytes_of component.now) (export_names component.now)))) }
+        bytes.items ≡ component_text (singles (link_items (bytes_of component.now) (export_names component.now)))) }
     ensures fits { OnOk result (LinkFits (bytes_of component.now) (export_names component.now)) }
     ensures too_large { (n : ℕ) → result ≡ Err (too_large n)
         → (2 ^ 32 ≤ n) × (LinkFits (bytes_of component.now) (export_names component.now) → ⊥) }
