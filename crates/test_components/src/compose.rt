@@ -44,7 +44,11 @@ fn taken(alloc: Global, name: &str, bytes: &[u8]) -> Result<String, Fail> {
 /// What taking the file at this path answers, where this call fails.
 fn from_file(alloc: Global, call: u64, name: &str, path: &str) -> Result<String, Fail> {
     let mut files = MemoryFiles::new(alloc);
-    let (held, bytes) = if path == "custom.wasm" { (path, CUSTOM) } else { ("root.wasm", TUPLE) };
+    let (held, bytes) = if path == "custom.wasm" {
+        (path, CUSTOM)
+    } else {
+        ("root.wasm", TUPLE)
+    };
     files.write(alloc, held, bytes)?;
     files.fail_at(call)?;
     match Component::from_file(alloc, &mut files, name, path) {
@@ -88,7 +92,10 @@ fn a_component_shows_what_it_exports(rt: HostRuntime) -> Result<(), Fail> {
 #[test]
 fn links_nest_the_component_and_export_what_it_exports(rt: HostRuntime) -> Result<(), Fail> {
     let empty = linked(rt.alloc(), EMPTY)?;
-    assert_eq!(rt; empty.as_str(), "0061736d0d00010004080061736d0d000100050401000000");
+    assert_eq!(rt;
+        empty.as_str(),
+        "0061736d0d00010004080061736d0d000100050401000000"
+    );
     let tuple = linked(rt.alloc(), TUPLE)?;
     assert_eq!(rt;
         tuple.as_str(),
