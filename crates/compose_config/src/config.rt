@@ -1,7 +1,7 @@
 //! The configuration of a composition.
 
 ghost use Rattle.std.specs.Prelude.{◌≡◌, [], IfOk, Ok, map, option_map, option_copied};
-ghost use Rattle.yaml_read.specs.Answers.{source_of, Gives};
+ghost use Rattle.yaml_read.specs.Answers.{source_of, ReadGives};
 ghost use Rattle.yaml_read.specs.Entries.{seen_entry};
 ghost use Rattle.yaml_read.specs.Whole.{Holds, whole_at};
 ghost use Rattle.compose_config.specs.Plan as plan;
@@ -64,9 +64,11 @@ impl Config {
         // What is read stands in a carried document.
         ensures found { IfOk result (λ config. Holds plan.settings_node text.now (settings_of config)) }
         // What stands in a carried document is read, unless memory runs out.
-        ensures only { (settings : plan.Settings) → Holds plan.settings_node text.now settings → Gives settings_of result (Ok settings) }
+        ensures only { (settings : plan.Settings)
+            → Holds plan.settings_node text.now settings
+            → ReadGives settings_of result (Ok settings) }
         // Which error it is.
-        ensures exact { Gives settings_of result (whole_at plan.settings_at text.now) }
+        ensures exact { ReadGives settings_of result (whole_at plan.settings_at text.now) }
         // The folder stays empty, whatever the text holds.
         ensures dir { IfOk result (λ config. config.dir ≡ []) }
     {
@@ -97,7 +99,8 @@ fn instance_named<'a>(
     all: &'a IndexMap<Text, Instantiation>,
     name: &str,
 ) -> Option<&'a Instantiation>
-    ensures { option_map instance_of (option_copied result) ≡ plan.instance_named (map (seen_entry instance_of) all.now.entries) name.now }
+    ensures { option_map instance_of (option_copied result) ≡ plan.instance_named
+        (map (seen_entry instance_of) all.now.entries) name.now }
 {
     for index in 0..all.len() {
         if let Some((key, instantiation)) = all.get_index(index) {
@@ -118,7 +121,7 @@ struct ConfigFill {
 /// A list of names.
 #[tactic(auto, using(crate::proofs::Same::list_same))]
 fn read_names(alloc: Global, de: &mut YamlDeserializer<'_>) -> Result<Vec<Text>, DeError>
-    ensures { Gives (λ read. (read.items, source_of de.new)) result (plan.names_at (source_of de.old)) }
+    ensures { ReadGives (λ read. (read.items, source_of de.new)) result (plan.names_at (source_of de.old)) }
 {
     Vec::<Text>::read_yaml(alloc, de)
 }

@@ -4,8 +4,6 @@
 mod config;
 mod index;
 mod parts;
-#[cfg(test)]
-mod tests;
 
 pub use config::Config;
 pub use index::{FromText, index_map};

@@ -1,7 +1,7 @@
 //! Dependencies, instantiations and their arguments.
 
 ghost use Rattle.std.specs.Prelude.{ℕ, List, Option, Some};
-ghost use Rattle.yaml_read.specs.Answers.{source_of, Gives};
+ghost use Rattle.yaml_read.specs.Answers.{source_of, ReadGives};
 ghost use Rattle.yaml_read.specs.Collections as collections;
 ghost use Rattle.yaml_read.specs.Scalar as scalar;
 ghost use Rattle.compose_config.specs.Plan as plan;
@@ -72,7 +72,7 @@ impl MapFill for PathFill {
 
 /// The field that a map has to have.
 fn required(alloc: Global, name: &str, field: Option<Text>) -> Result<Text, DeError>
-    ensures { Gives (λ found. found) result (plan.required name.now field) }
+    ensures { ReadGives (λ found. found) result (plan.required name.now field) }
 {
     match field {
         Some(found) => Ok(found),
@@ -150,11 +150,8 @@ impl MapFill for ArgumentFill {
 
 /// A name that may be missing.
 #[tactic(auto, using(crate::proofs::Same::option_same))]
-pub(crate) fn read_name(
-    alloc: Global,
-    de: &mut YamlDeserializer<'_>,
-) -> Result<Option<Text>, DeError>
-    ensures { Gives (λ read. (read, source_of de.new)) result (collections.option_at scalar.any_at (source_of de.old)) }
+pub fn read_name(alloc: Global, de: &mut YamlDeserializer<'_>) -> Result<Option<Text>, DeError>
+    ensures { ReadGives (λ read. (read, source_of de.new)) result (collections.option_at scalar.any_at (source_of de.old)) }
 {
     de.read_option::<Text>(alloc)
 }

@@ -147,7 +147,8 @@ impl<A: RoundTrip, B: RoundTrip> RoundTrip for (A, B) {
 
     ghost reads_back = { λ p h. (A.reads_back p.0 h.0, (B.reads_back p.1 h.1, tt)) };
 
-    ghost comes_back = { λ p h. laws.pair_comes_back A.of_node B.of_node (A.written p.0) (B.written p.1) (A.seen p.0) (B.seen p.1) (A.comes_back p.0 h.0) (B.comes_back p.1 h.1) };
+    ghost comes_back = { λ p h. laws.pair_comes_back A.of_node B.of_node (A.written p.0) (B.written p.1) (A.seen p.0) (B.seen p.1)
+        (A.comes_back p.0 h.0) (B.comes_back p.1 h.1) };
 }
 
 impl<A: RoundTrip, B: RoundTrip, C: RoundTrip> RoundTrip for (A, B, C) {
@@ -155,7 +156,8 @@ impl<A: RoundTrip, B: RoundTrip, C: RoundTrip> RoundTrip for (A, B, C) {
 
     ghost reads_back = { λ p h. (A.reads_back p.0 h.0, (B.reads_back p.1 h.1, (C.reads_back p.2 h.2, tt))) };
 
-    ghost comes_back = { λ p h. laws.triple_comes_back A.of_node B.of_node C.of_node (A.written p.0) (B.written p.1) (C.written p.2)
+    ghost comes_back = { λ p h. laws.triple_comes_back
+        A.of_node B.of_node C.of_node (A.written p.0) (B.written p.1) (C.written p.2)
         (A.seen p.0) (B.seen p.1) (C.seen p.2) (A.comes_back p.0 h.0) (B.comes_back p.1 h.1) (C.comes_back p.2 h.2) };
 }
 

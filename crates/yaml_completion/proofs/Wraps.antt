@@ -5,18 +5,18 @@ use Rattle.yaml_scan.specs.Lines.{ends}
 use Rattle.yaml_small.specs.declared.state.Frame.{Frame}
 use Rattle.yaml_small.specs.Places.{At, over, next_at, flow_next, begins, is_end, at_dots, is_dash}
 use Rattle.yaml_small.specs.Scalars.{Fault}
-use Rattle.yaml_small.specs.Step.{Go}
+use Rattle.yaml_small.specs.Step.{Transition}
 use Rattle.std.proofs.lemmas.Bool.{eqb-true}
 use Rattle.yaml_scan.specs.Lines.{is_dashes}
 use Rattle.yaml_small.proofs.Marks.{and_parts}
 use Rattle.yaml_completion.proofs.Along.{ahead, further, all_of, stops, counted, is_solid, solid_white, white_space, gone_over}
 use Rattle.yaml_completion.proofs.Contents.{Instead, Ready, place, next_below, Spaced, spaced_at}
-use Rattle.yaml_completion.proofs.Words.{WordPlace, head_line}
+use Rattle.yaml_completion.proofs.ScalarTokens.{ScalarTokenPlace, head_line}
 use Rattle.yaml_completion.proofs.Blocks.{Alike}
 use Rattle.yaml_completion.proofs.Tokens.{Token, token_at}
 use Rattle.yaml_completion.proofs.Moves.{Moves, Gap}
 
-pub moves_next : (k : List Frame) (P Q : At → Type 0) (r : At → Result Go Fault) (a : At) → Moves k P r (next_at a.later) → ((c : At) → P c → Ready (next_at a.later) c) → ((c : At) → c.line ≡ a.line → c.col ≡ a.col → Q c)
+pub moves_next : (k : List Frame) (P Q : At → Type 0) (r : At → Result Transition Fault) (a : At) → Moves k P r (next_at a.later) → ((c : At) → P c → Ready (next_at a.later) c) → ((c : At) → c.line ≡ a.line → c.col ≡ a.col → Q c)
     → Moves k Q (λ c. r (next_at c.later)) a
 moves_next k P Q r a m ready like = record {
   move = λ g e want.
@@ -29,10 +29,10 @@ moves_next k P Q r a m ready like = record {
         arrives = n.arrives;
         is = ap r b.to ∙ n.is;
       };
-  fine = m.fine;
+  consistent = m.consistent;
 }
 
-pub moves_over : (k : List Frame) (P Q : At → Type 0) (r : At → Result Go Fault) (a : At) → Moves k P r (over a) → ((c : At) → P c → Instead (over a) c) → ((s : Spaced a) (c : At) → P c → Q (place a.col (s.front ++ c.line) c.later))
+pub moves_over : (k : List Frame) (P Q : At → Type 0) (r : At → Result Transition Fault) (a : At) → Moves k P r (over a) → ((c : At) → P c → Instead (over a) c) → ((s : Spaced a) (c : At) → P c → Q (place a.col (s.front ++ c.line) c.later))
     → Moves k Q (λ c. r (over c)) a
 moves_over k P Q r a m instead like = record {
   move = λ g e want.
@@ -47,10 +47,10 @@ moves_over k P Q r a m instead like = record {
         arrives = n.arrives;
         is = ap r (gone_over a.col s.front n.at.line n.at.later s.all (solid_white n.at.line i.other) ∙ ap (λ (x : ℕ). place x n.at.line n.at.later) (sym (i.col ∙ s.col))) ∙ n.is;
       };
-  fine = m.fine;
+  consistent = m.consistent;
 }
 
-pub moves_token : (k : List Frame) (P Q : At → Type 0) (r : At → Result Go Fault) (a : At) → Moves k P r (flow_next a) → ((c : At) → P c → Instead (flow_next a) c) → ((c : At) (t : Token a c) → P c → Q t.at)
+pub moves_token : (k : List Frame) (P Q : At → Type 0) (r : At → Result Transition Fault) (a : At) → Moves k P r (flow_next a) → ((c : At) → P c → Instead (flow_next a) c) → ((c : At) (t : Token a c) → P c → Q t.at)
     → Moves k Q (λ c. r (flow_next c)) a
 moves_token k P Q r a m instead like = record {
   move = λ g e want.
@@ -63,7 +63,7 @@ moves_token k P Q r a m instead like = record {
         arrives = n.arrives;
         is = ap r t.to ∙ n.is;
       };
-  fine = m.fine;
+  consistent = m.consistent;
 }
 
 -- a gap in front of other content
@@ -138,8 +138,8 @@ solid_line (c ∷ cs) a is e = ap (λ (l : List ℕ). is_end (place a.col l a.la
 pub solid_some : (a : At) → is_solid a.line ≡ true → is_end a ≡ false
 solid_some a e = solid_line a.line a refl e
 
-pub alike_words : (a c : At) → WordPlace a → WordPlace c → c.col ≡ a.col → Alike a c
-alike_words a c p q col = record {
+pub alike_scalar_tokens : (a c : At) → ScalarTokenPlace a → ScalarTokenPlace c → c.col ≡ a.col → Alike a c
+alike_scalar_tokens a c p q col = record {
   instead = record { col = col; some = solid_some a p.solid; other = q.solid };
   dash = q.dash ∙ sym p.dash;
   dashes = q.dashes ∙ sym p.dashes;

@@ -1,11 +1,11 @@
--- Choices are read as what is told, and come back.
+-- Choices are read as what is emitted, and come back.
 use Rattle.std.proofs.Common.{◌≡◌, ℕ, List, Some, option_map, Ok, refl, ap, bytes_eq, codes}
 use Rattle.yaml_text.specs.Written as spec
 use Rattle.yaml_text.specs.Written.{ReadsBack, tree_of}
 use Rattle.yaml_read.specs.Source.{UnknownField}
 use Rattle.yaml_read.specs.Scalar.{unsigned, unsigned_at, signed, signed_at, any_at, unit_at}
 use Rattle.yaml_read.specs.Nodes.{plain_node, any_node, unit_node}
-use Rattle.yaml_read.specs.Told.{Reads}
+use Rattle.yaml_read.specs.Emitted.{Reads}
 use Rattle.yaml_read.specs.Laws.{plain_reads, any_reads, unit_reads}
 use Rattle.yaml_read.specs.PartLaws.{enum_reads, pair_reads, mapped_reads, choice_reads as or_reads, refused_reads}
 use Rattle.serde_yaml2.specs.ReturnLaws.{below_u64, unsigned_reads_back, unsigned_comes_back, signed_reads_back, signed_comes_back, pair_comes_back}

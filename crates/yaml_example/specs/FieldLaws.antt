@@ -1,4 +1,4 @@
--- Samples are read as what is told, and come back.
+-- Samples are read as what is emitted, and come back.
 use Rattle.std.proofs.Common.{◌≡◌, ℕ, List, Option, Some, option_map, option_and_then, refl, ap, ℤ, bytes_eq, codes}
 use Rattle.std.specs.Str.{IsUtf8}
 use Rattle.yaml_text.specs.Written as spec
@@ -6,7 +6,7 @@ use Rattle.yaml_text.specs.Written.{ReadsBack, tree_of, pairs_of, member, no_mem
 use Rattle.yaml_read.specs.Source.{UnknownField}
 use Rattle.yaml_read.specs.Scalar.{signed}
 use Rattle.yaml_read.specs.Nodes.{map_as, value_of}
-use Rattle.yaml_read.specs.Told.{Reads}
+use Rattle.yaml_read.specs.Emitted.{Reads}
 use Rattle.yaml_read.specs.Laws.{plain_reads, any_reads}
 use Rattle.yaml_read.specs.CollectionLaws.{map_reads}
 use Rattle.yaml_read.specs.PartLaws.{mapped_reads, checked_reads, choice_reads, refused_reads}

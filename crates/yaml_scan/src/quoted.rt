@@ -162,7 +162,9 @@ fn text_turn(text: &mut Vec<u8>, byte: u8, behind: &[u8]) -> Result<Option<Insid
 /// The same behind a backslash.
 fn escape_turn(text: &mut Vec<u8>, byte: u8) -> Result<Option<Inside>, AllocError>
     ensures next { IfOk result (λ o. o ≡ spec.next_of (spec.escape_turn (spec.digits_wanted byte) (spec.escaped byte))) }
-    ensures text { OnOk result (text.new.items ≡ text.old.items ++ spec.text_of (spec.escape_turn (spec.digits_wanted byte) (spec.escaped byte))) }
+    ensures text { OnOk result
+        (text.new.items
+        ≡ text.old.items ++ spec.text_of (spec.escape_turn (spec.digits_wanted byte) (spec.escaped byte))) }
 {
     if let Some(wanted) = digits_wanted(byte) {
         return Ok(Some(Inside::Hex(wanted, 0)));

@@ -9,7 +9,7 @@ use crate::event::Marker;
 ///
 /// The columns that decide anything stand behind ASCII alone, where bytes are characters.
 #[derive(Clone, Copy, Debug)]
-pub(crate) struct Place<'a> {
+pub struct Place<'a> {
     pub col: usize,
     pub line: &'a [u8],
     pub later: Option<&'a [u8]>,

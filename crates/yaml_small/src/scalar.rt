@@ -3,8 +3,8 @@
 ghost use Rattle.std.specs.Prelude.{◌≡◌, true, option_copied, IfOk, IfErr};
 ghost use Rattle.yaml_scan.specs.Lines.{lines_behind};
 ghost use Rattle.yaml_small.specs.Scalars as spec;
-ghost use Rattle.yaml_small.specs.Answers.{place_at, Gives};
-ghost use Rattle.yaml_small.specs.Words.{content_bytes, word_view, FoundIn, FailsAs};
+ghost use Rattle.yaml_small.specs.Answers.{place_at, ScanGives};
+ghost use Rattle.yaml_small.specs.ScalarTokens.{content_bytes, scalar_token_view, FoundIn, FailsAs};
 
 use crate::cursor::{
     at_dashes, at_dots, at_mark, begins, content_in, is_colon, is_end, mark_below, over, past,
@@ -21,25 +21,21 @@ use yaml_scan::{
 
 /// The text of a scalar: a part of the line, or bytes of its own.
 #[derive(Debug, Drop)]
-pub(crate) enum Content<'a> {
+pub enum Content<'a> {
     Lent(&'a [u8]),
     Owned(Vec<u8>),
 }
 
 /// A scalar, and the place behind it.
 #[derive(Debug, Drop)]
-pub(crate) struct Word<'a> {
+pub struct ScalarToken<'a> {
     pub content: Content<'a>,
     pub style: Style,
     pub end: Place<'a>,
 }
 
 /// The event of a scalar.
-pub(crate) fn scalar_event(
-    alloc: Global,
-    content: Content<'_>,
-    style: Style,
-) -> Result<Event, ScanError>
+pub fn scalar_event(alloc: Global, content: Content<'_>, style: Style) -> Result<Event, ScanError>
     ensures value { IfOk result (λ e. e ≡ Event.Scalar (content_bytes content.entry) style) }
     ensures only { IfErr result (λ e. e ≡ ScanError.Memory) }
 {
@@ -105,15 +101,15 @@ fn start_error(place: Place<'_>) -> ScanError
 
 /// A plain scalar.
 #[tactic(auto, unfolding(crate::specs::Scalars::plain_at))]
-fn plain_of(flow: bool, place: Place<'_>) -> Result<Word<'_>, ScanError>
-    ensures { Gives word_view result (spec.plain_at flow (place_at place.entry)) }
+fn plain_of(flow: bool, place: Place<'_>) -> Result<ScalarToken<'_>, ScanError>
+    ensures { ScanGives scalar_token_view result (spec.plain_at flow (place_at place.entry)) }
 {
     if !begins_at(flow, place) {
         return Err(start_error(place));
     }
     let len = plain_len(flow, place.line);
     let (text, _) = place.line.split_at(len);
-    Ok(Word {
+    Ok(ScalarToken {
         content: Content::Lent(text),
         style: Style::Plain,
         end: past(place, len),
@@ -126,14 +122,14 @@ fn quoted_of<'a>(
     style: Style,
     place: Place<'a>,
     found: Result<Quoted<'a>, QuoteError>,
-) -> Result<Word<'a>, ScanError>
+) -> Result<ScalarToken<'a>, ScanError>
     ensures { FoundIn style (place_at place.entry) found.entry result }
 {
     match found {
         Ok(quoted) => {
             let Quoted { text, rest } = quoted;
             let len = place.line.len().saturating_sub(rest.len());
-            Ok(Word {
+            Ok(ScalarToken {
                 content: Content::Owned(text),
                 style,
                 end: past(place, len),
@@ -164,9 +160,13 @@ fn mark_left(place: Place<'_>, left: usize) -> Marker {
 }
 
 /// A plain or quoted scalar.
-#[tactic(auto, unfolding(crate::specs::Scalars::word_at))]
-pub(crate) fn word_of(alloc: Global, flow: bool, place: Place<'_>) -> Result<Word<'_>, ScanError>
-    ensures { Gives word_view result (spec.word_at flow (place_at place.entry)) }
+#[tactic(auto, unfolding(crate::specs::Scalars::scalar_token_at))]
+pub fn scalar_token_of(
+    alloc: Global,
+    flow: bool,
+    place: Place<'_>,
+) -> Result<ScalarToken<'_>, ScanError>
+    ensures { ScanGives scalar_token_view result (spec.scalar_token_at flow (place_at place.entry)) }
 {
     if begins(b'\'', place.line) {
         return quoted_of(
@@ -187,20 +187,20 @@ pub(crate) fn word_of(alloc: Global, flow: bool, place: Place<'_>) -> Result<Wor
 
 /// A key of a block map, and the place behind its colon.
 #[tactic(auto, unfolding(crate::specs::Scalars::key_at))]
-pub(crate) fn key_of(alloc: Global, place: Place<'_>) -> Result<Word<'_>, ScanError>
-    ensures { Gives word_view result (spec.key_at (place_at place.entry)) }
+pub fn key_of(alloc: Global, place: Place<'_>) -> Result<ScalarToken<'_>, ScanError>
+    ensures { ScanGives scalar_token_view result (spec.key_at (place_at place.entry)) }
 {
-    let word = word_of(alloc, false, place)?;
-    let Word {
+    let scalar_token = scalar_token_of(alloc, false, place)?;
+    let ScalarToken {
         content,
         style,
         end,
-    } = word;
+    } = scalar_token;
     let end = over(end);
     if !is_colon(end.line) {
         return Err(ScanError::Form(end.mark));
     }
-    Ok(Word {
+    Ok(ScalarToken {
         content,
         style,
         end: past(end, 1),
@@ -208,7 +208,7 @@ pub(crate) fn key_of(alloc: Global, place: Place<'_>) -> Result<Word<'_>, ScanEr
 }
 
 /// Whether a key of a block map stands here.
-pub(crate) fn is_key(alloc: Global, place: Place<'_>) -> Result<bool, ScanError>
+pub fn is_key(alloc: Global, place: Place<'_>) -> Result<bool, ScanError>
     ensures value { IfOk result (λ holds. holds ≡ spec.is_key (place_at place.entry)) }
     ensures only { IfErr result (λ e. e ≡ ScanError.Memory) }
 {
@@ -222,7 +222,7 @@ pub(crate) fn is_key(alloc: Global, place: Place<'_>) -> Result<bool, ScanError>
 }
 
 /// Whether a line begins with a block scalar's head.
-pub(crate) fn begins_block(line: &[u8]) -> bool
+pub fn begins_block(line: &[u8]) -> bool
     ensures { result ≡ spec.begins_block line.now }
 {
     begins(b'|', line) || begins(b'>', line)
@@ -255,12 +255,13 @@ fn gathered<'a>(
     head: Head,
     indent: Option<usize>,
     place: Place<'a>,
-) -> Result<Word<'a>, ScanError>
-    ensures { Gives word_view result (spec.gathered head.folded head.strip indent (lines_behind (option_copied place.entry.later))) }
+) -> Result<ScalarToken<'a>, ScanError>
+    ensures { ScanGives scalar_token_view result
+        (spec.gathered head.folded head.strip indent (lines_behind (option_copied place.entry.later))) }
 {
     let style = folded_style(head.folded);
     let Some(indent) = indent else {
-        return Ok(Word {
+        return Ok(ScalarToken {
             content: Content::Owned(Vec::new(alloc)),
             style,
             end: content_in(place.later, mark_below(place)),
@@ -269,7 +270,7 @@ fn gathered<'a>(
     match block_scalar(alloc, head, indent, place.later) {
         Ok(block) => {
             let Block { text, later } = block;
-            Ok(Word {
+            Ok(ScalarToken {
                 content: Content::Owned(text),
                 style,
                 end: content_in(later, mark_behind(place, later)),
@@ -304,8 +305,10 @@ fn headed(
     head: Head,
     parent: Option<usize>,
     place: Place<'_>,
-) -> Result<Word<'_>, ScanError>
-    ensures { Gives word_view result (spec.headed head.folded head.strip parent place.entry.line.now (lines_behind (option_copied place.entry.later))) }
+) -> Result<ScalarToken<'_>, ScanError>
+    ensures { ScanGives scalar_token_view result
+        (spec.headed head.folded head.strip parent place.entry.line.now
+        (lines_behind (option_copied place.entry.later))) }
 {
     if !ends(place.line) {
         let mark = over(place).mark;
@@ -320,13 +323,13 @@ fn headed(
 
 /// A block scalar under a parent's column, and the content behind its lines.
 #[tactic(auto, unfolding(crate::specs::Scalars::block_at))]
-pub(crate) fn block_of(
+pub fn block_of(
     alloc: Global,
     parent: Option<usize>,
     place: Place<'_>,
-) -> Result<Word<'_>, ScanError>
+) -> Result<ScalarToken<'_>, ScanError>
     requires { spec.begins_block place.line.now ≡ true }
-    ensures { Gives word_view result (spec.block_at parent (place_at place.entry)) }
+    ensures { ScanGives scalar_token_view result (spec.block_at parent (place_at place.entry)) }
 {
     let folded = begins(b'>', place.line);
     let behind = past(place, 1);
@@ -340,14 +343,14 @@ pub(crate) fn block_of(
 }
 
 /// Whether a scalar would go on in the next line: it is plain, and text follows it there.
-pub(crate) fn goes_on(style: Style, place: Place<'_>) -> bool
-    ensures { result ≡ spec.goes_on style (place_at place.entry) }
+pub fn continues_below(style: Style, place: Place<'_>) -> bool
+    ensures { result ≡ spec.continues_below style (place_at place.entry) }
 {
     is_plain(style) && (is_white_line(place.line) && text_follows(place.later))
 }
 
 /// Whether a style is the plain one.
-pub(crate) fn is_plain(style: Style) -> bool
+pub fn is_plain(style: Style) -> bool
     ensures { result ≡ spec.is_plain style }
 {
     match style {

@@ -111,7 +111,8 @@ fn push_quoted(out: &mut String, double: bool, text: &str) -> Result<(), Memory>
 }
 
 fn push_quoted_chars(out: &mut String, double: bool, text: &str) -> Result<(), Memory>
-    ensures { Writes result (string_bytes out.old) (flat_map (spec.quoted_char double) (chars text.now)) (string_bytes out.new) }
+    ensures { Writes result (string_bytes out.old) (flat_map (spec.quoted_char double) (chars text.now))
+        (string_bytes out.new) }
 {
     for c in text.chars() {
         push_quoted_char(out, double, c)?;
@@ -179,7 +180,8 @@ fn push_escape(out: &mut String, c: char) -> Result<(), Memory>
 /// Two bytes as four hex digits, the higher byte first.
 fn push_hex_pairs(out: &mut String, code: u32) -> Result<(), Memory>
     requires { code < 0x1_0000 }
-    ensures { Writes result (string_bytes out.old) (spec.hex_pair (code / 0x100) ++ spec.hex_pair (code % 0x100)) (string_bytes out.new) }
+    ensures { Writes result (string_bytes out.old) (spec.hex_pair (code / 0x100) ++ spec.hex_pair (code % 0x100))
+        (string_bytes out.new) }
 {
     push_hex_pair(out, code / 0x100)?;
     push_hex_pair(out, code % 0x100)

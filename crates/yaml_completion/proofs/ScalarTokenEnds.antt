@@ -7,12 +7,12 @@ use Rattle.yaml_scan.specs.Bytes.{is_space, is_white, is_flow_mark}
 use Rattle.yaml_scan.specs.Plain.{with_byte, plain_len}
 use Rattle.yaml_small.specs.Grammar.{is_quoted}
 use Rattle.yaml_small.specs.Places.{At, past, over, begins, is_colon}
-use Rattle.yaml_small.specs.Scalars.{Fault, Form, Word, plain_at, word_at, colon_behind, key_at, is_word, is_key}
+use Rattle.yaml_small.specs.Scalars.{Fault, Form, ScalarToken, plain_at, scalar_token_at, colon_behind, key_at, is_scalar_token, is_key}
 use Rattle.yaml_small.proofs.Marks.{and_parts, and_false, not_so, both}
 use Rattle.yaml_completion.proofs.Along.{not_true, all_of, stops, gone_over}
 use Rattle.yaml_completion.proofs.Contents.{place, Spaced, spaced_at, tab_if, comma_behind}
 use Rattle.yaml_completion.proofs.Scans.{begins_low, NearTo, Near, Looks, looks_same, looks_behind, looks_far}
-use Rattle.yaml_completion.proofs.Words.{WordReads, plain_text, plain_looks, plain_style, plain_stops, unquoted, word_again, white_free}
+use Rattle.yaml_completion.proofs.ScalarTokens.{ScalarTokenReads, plain_text, plain_looks, plain_style, plain_stops, unquoted, scalar_token_again, white_free}
 use Rattle.yaml_completion.proofs.Stops.{no_mark, always_stops, white_len, no_dash, no_dot, near_white, near_tab}
 
 -- a text's last byte, behind which two rests look the same
@@ -102,26 +102,26 @@ tab_white [] false all = refl
 tab_white (c ∷ v) tab all = let p = and_parts (is_white c) (all_of is_white v) all in rw p.0 (tab_white v tab p.1)
 
 -- a scalar, and the white space behind it with nothing more
-pub record Halts (a : At) (w : Word) : Type 0 where
+pub record Halts (a : At) (w : ScalarToken) : Type 0 where
   pub tab : Bool
   pub front : List ℕ
   pub line : w.end.line ≡ front ++ (over w.end).line
   pub later : w.end.later ≡ (over w.end).later
   pub white : all_of is_white (front ++ tab_if tab) ≡ true
-  pub reads : WordReads false (word_at false) a w (place w.end.col (front ++ tab_if tab) [])
+  pub reads : ScalarTokenReads false (scalar_token_at false) a w (place w.end.col (front ++ tab_if tab) [])
 
-halts_with : (a : At) (w : Word) (s : Spaced w.end) (tab : Bool) → word_at false a ≡ Ok w → (plain_at false a ≡ Ok w → Looks false (w.scalar.text ++ w.end.line) (w.scalar.text ++ (s.front ++ tab_if tab))) → Halts a w
+halts_with : (a : At) (w : ScalarToken) (s : Spaced w.end) (tab : Bool) → scalar_token_at false a ≡ Ok w → (plain_at false a ≡ Ok w → Looks false (w.scalar.text ++ w.end.line) (w.scalar.text ++ (s.front ++ tab_if tab))) → Halts a w
 halts_with a w s tab e looks = record {
   tab = tab;
   front = s.front;
   line = s.line;
   later = sym s.later;
   white = tab_white s.front tab s.all;
-  reads = word_again false a w (place w.end.col (s.front ++ tab_if tab) []) e refl (white_free s.front (tab_if tab) s.all (tab_free tab)) looks;
+  reads = scalar_token_again false a w (place w.end.col (s.front ++ tab_if tab) []) e refl (white_free s.front (tab_if tab) s.all (tab_free tab)) looks;
 }
 
-pub word_halts : (a : At) (w : Word) → word_at false a ≡ Ok w → Halts a w
-word_halts a w e =
+pub scalar_token_halts : (a : At) (w : ScalarToken) → scalar_token_at false a ≡ Ok w → Halts a w
+scalar_token_halts a w e =
     let s = spaced_at w.end in
     let r = (over w.end).line in
     elim (cases_Bool (is_quoted w.scalar)) [
@@ -135,25 +135,25 @@ word_halts a w e =
     ]
 
 -- White space alone behind a scalar makes no key of it.
-pub halts_no_key : (c : At) (w : Word) → word_at false c ≡ Ok w → all_of is_white w.end.line ≡ true → is_key c ≡ false
+pub halts_no_key : (c : At) (w : ScalarToken) → scalar_token_at false c ≡ Ok w → all_of is_white w.end.line ≡ true → is_key c ≡ false
 unfolding key_at
 halts_no_key c w e all =
     let b = w.end in
     let o : over b ≡ place (b.col + length b.line) [] b.later = ap (λ (l : List ℕ). over (place b.col l b.later)) (sym (append-nil b.line)) ∙ gone_over b.col b.line [] b.later all refl in
-    ap (λ (r : Result Word Fault). is_word (r >>= colon_behind)) e
-    ∙ ap (λ (x : At). is_word (cond (is_colon x.line) (Ok (record { scalar = w.scalar; end = past 1 x })) (Err Form))) o
+    ap (λ (r : Result ScalarToken Fault). is_scalar_token (r >>= colon_behind)) e
+    ∙ ap (λ (x : At). is_scalar_token (cond (is_colon x.line) (Ok (record { scalar = w.scalar; end = past 1 x })) (Err Form))) o
 
 -- a scalar of a flow before a high byte, and a comma behind it
-pub record Commas (a : At) (w : Word) (rest : List ℕ) : Type 0 where
+pub record Commas (a : At) (w : ScalarToken) (rest : List ℕ) : Type 0 where
   pub tab : Bool
-  pub reads : WordReads true (word_at true) a w (comma_behind tab w.end.col rest)
+  pub reads : ScalarTokenReads true (scalar_token_at true) a w (comma_behind tab w.end.col rest)
 
-commas_with : (a : At) (w : Word) (rest : List ℕ) (tab : Bool) → word_at true a ≡ Ok w → (plain_at true a ≡ Ok w → Looks true (w.scalar.text ++ w.end.line) (w.scalar.text ++ (comma_behind tab w.end.col rest).line)) → Commas a w rest
-commas_with a w rest true e looks = record { tab = true; reads = word_again true a w (comma_behind true w.end.col rest) e refl refl looks }
-commas_with a w rest false e looks = record { tab = false; reads = word_again true a w (comma_behind false w.end.col rest) e refl refl looks }
+commas_with : (a : At) (w : ScalarToken) (rest : List ℕ) (tab : Bool) → scalar_token_at true a ≡ Ok w → (plain_at true a ≡ Ok w → Looks true (w.scalar.text ++ w.end.line) (w.scalar.text ++ (comma_behind tab w.end.col rest).line)) → Commas a w rest
+commas_with a w rest true e looks = record { tab = true; reads = scalar_token_again true a w (comma_behind true w.end.col rest) e refl refl looks }
+commas_with a w rest false e looks = record { tab = false; reads = scalar_token_again true a w (comma_behind false w.end.col rest) e refl refl looks }
 
-pub word_commas : (a : At) (w : Word) (rest : List ℕ) → word_at true a ≡ Ok w → begins_low w.end.line ≡ false → Commas a w rest
-word_commas a w rest e high =
+pub scalar_token_commas : (a : At) (w : ScalarToken) (rest : List ℕ) → scalar_token_at true a ≡ Ok w → begins_low w.end.line ≡ false → Commas a w rest
+scalar_token_commas a w rest e high =
     elim (cases_Bool (is_quoted w.scalar)) [
       | inl quoted ↦ commas_with a w rest true e (λ plain. absurd (both (is_quoted w.scalar) quoted (plain_style true a w plain)))
       | inr plain ↦

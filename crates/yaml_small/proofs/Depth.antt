@@ -6,47 +6,56 @@ use Rattle.yaml_scan.specs.Lines.{ends}
 use Rattle.yaml_small.specs.declared.event.Event.{Event}
 use Rattle.yaml_small.specs.declared.event.Event.TheVariants.{StreamStart, StreamEnd, DocumentStart, DocumentEnd, SequenceStart, SequenceEnd, MappingStart, MappingEnd}
 use Rattle.yaml_small.specs.declared.state.Mode.{Mode}
-use Rattle.yaml_small.specs.declared.state.Mode.TheVariants.{Begin, Document, Root, Item, Key, Value, Open, Paired, Done, Stray, Last, Ended}
+use Rattle.yaml_small.specs.declared.state.Mode.TheVariants.{Begin, Document, Root, Item, Key, Value, Open, AfterKey, Done, Trailing, Last, Ended}
 use Rattle.yaml_small.specs.declared.state.Frame.{Frame}
 use Rattle.yaml_small.specs.declared.state.Frame.TheVariants.{InList, InMap, InSeq, InPairs}
 use Rattle.yaml_small.specs.Trees.{scalar_event}
-use Rattle.yaml_small.specs.Places.{At, past, next_at, flow_next, begins, is_end, at_dashes, at_dots}
-use Rattle.yaml_small.specs.Scalars.{Fault, Form, NotCarried, Word, word_at, block_at, key_at, begins_block, goes_on}
-use Rattle.yaml_small.specs.Step.{Go, go, opened, list_start, map_start, settled, missing_go, word_go, block_go, block_end, inline_at, node_at, below, tabbed, item_at, under, value_at, explicit_at, key_step, seq_entry, pairs_entry, open_at, flow_value, paired_at, seq_done, pairs_done, list_done, map_done, line_fault, dots_end, root_done, done_at, document_at, last_at, step_at}
+use Rattle.yaml_small.specs.Places.{At, past, over, next_at, flow_next, begins, is_end, at_dashes, at_dots}
+use Rattle.yaml_small.specs.Scalars.{Fault, Form, NotCarried, ScalarToken, scalar_token_at, block_at, key_at, begins_block, continues_below}
+use Rattle.yaml_small.specs.Step.{Transition, transition, opened, list_start, map_start, settled, missing_transition, scalar_token_transition, block_transition, block_end, inline_at, node_at, below, tabbed, item_at, under, value_at, explicit_at, key_step, seq_entry, pairs_entry, open_at, flow_value, after_key_at, seq_done, pairs_done, list_done, map_done, line_fault, dots_end, root_done, done_at, document_at, last_at, step_at}
 use Rattle.yaml_small.specs.Stream.{State, top_of, changed, behind, start, Runs}
-use Rattle.yaml_small.proofs.Found.{go_is}
+use Rattle.yaml_small.proofs.Found.{transition_is}
 use Rattle.yaml_small.proofs.Runs.{from_of, length_pushed}
-use Rattle.yaml_completion.proofs.Leaves.{settled_change}
+
+-- what settles changes no more of what is open
+pub settled_change : (k : List Frame) (flow g : Bool) (e : Event) (h : Transition) (a : At) → changed (settled flow g e h.change a).change k ≡ changed h.change k
+unfolding settled
+settled_change k true g e h a = refl
+settled_change k false g e h a = from (ends a.line)
+  where
+    from : (b : Bool) → changed (cond b (transition e (next_at a.later) (Done g) h.change) (transition e (over a) Trailing h.change)).change k ≡ changed h.change k
+    from true = refl
+    from false = refl
 
 -- behind a step there is room
-record Room (k : List Frame) (r : Result Go Fault) : Type 0 where
-  within : (g : Go) → r ≡ Ok g → length (changed g.change k) ≤ 64
+record Room (k : List Frame) (r : Result Transition Fault) : Type 0 where
+  within : (g : Transition) → r ≡ Ok g → length (changed g.change k) ≤ 64
 
 popped-within : (k : List Frame) (e : Event) (a : At) → length k ≤ 64 → length (changed (block_end e a).change k) ≤ 64
 popped-within k e a le = omega (arith, length-take (length k - 1) k)
 
 module _ (k : List Frame) (le : length k ≤ 64) where
-  either : (b : Bool) (x y : Result Go Fault) → Room k x → Room k y → Room k (cond b x y)
+  either : (b : Bool) (x y : Result Transition Fault) → Room k x → Room k y → Room k (cond b x y)
   either true x y p q = p
   either false x y p q = q
 
   fault : (f : Fault) → Room k (Err f)
   fault f = record { within = λ g e. absurd cc }
 
-  event : (g : Go) → length (changed g.change k) ≤ 64 → Room k (Ok g)
-  event g room = record { within = λ h e. subst (λ (x : Go). length (changed x.change k) ≤ 64) (go_is g h e) room }
+  event : (g : Transition) → length (changed g.change k) ≤ 64 → Room k (Ok g)
+  event g room = record { within = λ h e. subst (λ (x : Transition). length (changed x.change k) ≤ 64) (transition_is g h e) room }
 
-  keeps : (e : Event) (a : At) (m : Mode) → Room k (Ok (go e a m (missing_go a).change))
-  keeps e a m = event (go e a m (missing_go a).change) le
+  keeps : (e : Event) (a : At) (m : Mode) → Room k (Ok (transition e a m (missing_transition a).change))
+  keeps e a m = event (transition e a m (missing_transition a).change) le
 
-  read : (r : Result Word Fault) (f : Word → Go) → ((w : Word) → length (changed (f w).change k) ≤ 64) → Room k (r >>= λ w. Ok (f w))
+  read : (r : Result ScalarToken Fault) (f : ScalarToken → Transition) → ((w : ScalarToken) → length (changed (f w).change k) ≤ 64) → Room k (r >>= λ w. Ok (f w))
   read (Ok w) f room = event (f w) (room w)
   read (Err x) f room = fault x
 
-  settles : (fl g : Bool) (e : Event) (h : Go) (a : At) → length (changed h.change k) ≤ 64 → Room k (Ok (settled fl g e h.change a))
+  settles : (fl g : Bool) (e : Event) (h : Transition) (a : At) → length (changed h.change k) ≤ 64 → Room k (Ok (settled fl g e h.change a))
   settles fl g e h a room = event (settled fl g e h.change a) (subst (λ (x : List Frame). length x ≤ 64) (sym (settled_change k fl g e h a)) room)
 
-  decided : (b : Bool) (x y : Result Go Fault) → (b ≡ true → Room k x) → Room k y → Room k (cond b x y)
+  decided : (b : Bool) (x y : Result Transition Fault) → (b ≡ true → Room k x) → Room k y → Room k (cond b x y)
   decided true x y p q = p refl
   decided false x y p q = q
 
@@ -57,15 +66,15 @@ module _ (k : List Frame) (le : length k ≤ 64) where
   unfolding opened
   opens e a m f = decided (ltb (length k) 64) _ _ (λ is. event _ (pushed f is)) (fault _)
 
-  settled-within : (fl g : Bool) (e : Event) (h : Go) (a : At) → length (changed h.change k) ≤ 64 → length (changed (settled fl g e h.change a).change k) ≤ 64
+  settled-within : (fl g : Bool) (e : Event) (h : Transition) (a : At) → length (changed h.change k) ≤ 64 → length (changed (settled fl g e h.change a).change k) ≤ 64
   settled-within fl g e h a room = subst (λ (x : List Frame). length x ≤ 64) (sym (settled_change k fl g e h a)) room
 
   inline : (fl : Bool) (parent : Option ℕ) (a : At) → Room k (inline_at fl (length k) parent a)
   unfolding inline_at
   inline fl parent a =
       either (begins 91 a.line) _ _ (opens SequenceStart (past 1 a) Open (InSeq fl)) (either (begins 123 a.line) _ _ (opens MappingStart (past 1 a) Open (InPairs fl))
-      (either (not fl && begins_block a.line) _ _ (read (block_at parent a) block_go (λ w. le))
-      (read (word_at fl a) (word_go fl) (λ w. settled-within fl (goes_on w.scalar.style w.end) (scalar_event w.scalar) (missing_go a) w.end le))))
+      (either (not fl && begins_block a.line) _ _ (read (block_at parent a) block_transition (λ w. le))
+      (read (scalar_token_at fl a) (scalar_token_transition fl) (λ w. settled-within fl (continues_below w.scalar.style w.end) (scalar_event w.scalar) (missing_transition a) w.end le))))
 
   list : (a : At) → Room k (list_start (length k) a)
   unfolding list_start
@@ -81,7 +90,7 @@ module _ (k : List Frame) (le : length k ≤ 64) where
 
   lower : (parent : Option ℕ) (a : At) → Room k (below (length k) parent a)
   unfolding below
-  lower parent a = either _ _ _ (node parent a) (event (missing_go a) le)
+  lower parent a = either _ _ _ (node parent a) (event (missing_transition a) le)
 
   item : (col : ℕ) (a : At) → Room k (item_at (length k) col a)
   unfolding item_at tabbed
@@ -105,7 +114,7 @@ module _ (k : List Frame) (le : length k ≤ 64) where
 
   pairs : (fl : Bool) (a : At) → Room k (pairs_entry fl a)
   unfolding pairs_entry
-  pairs fl a = either _ _ _ (settles _ _ _ (block_end MappingEnd a) _ (popped-within k MappingEnd a le)) (read (word_at true a) _ (λ w. le))
+  pairs fl a = either _ _ _ (settles _ _ _ (block_end MappingEnd a) _ (popped-within k MappingEnd a le)) (read (scalar_token_at true a) _ (λ w. le))
 
   opening : (f : Option Frame) (a : At) → Room k (open_at (length k) f a)
   unfolding open_at
@@ -115,9 +124,9 @@ module _ (k : List Frame) (le : length k ≤ 64) where
   opening (Some (InSeq fl)) a = seq _ _
   opening (Some (InPairs fl)) a = pairs _ _
 
-  paired : (q g : Bool) (a : At) → Room k (paired_at (length k) q g a)
-  unfolding paired_at flow_value
-  paired q g a = either _ _ _ (either _ _ _ (event (missing_go (past 1 (flow_next a))) le) (inline _ _ _)) (either _ _ _ (event (missing_go a) le) (fault _))
+  after_key : (q g : Bool) (a : At) → Room k (after_key_at (length k) q g a)
+  unfolding after_key_at flow_value
+  after_key q g a = either _ _ _ (either _ _ _ (event (missing_transition (past 1 (flow_next a))) le) (inline _ _ _)) (either _ _ _ (event (missing_transition a) le) (fault _))
 
   root : (g : Bool) (a : At) → Room k (root_done g a)
   unfolding root_done dots_end
@@ -153,9 +162,9 @@ module _ (k : List Frame) (le : length k ≤ 64) where
   room Key f a = key a
   room (Value col) f a = value col a
   room Open f a = opening f a
-  room (Paired q g) f a = paired q g a
+  room (AfterKey q g) f a = after_key q g a
   room (Done g) f a = done g f a
-  room Stray f a = fault _
+  room Trailing f a = fault _
   room Last f a = last a
   room Ended f a = keeps StreamEnd a Ended
 

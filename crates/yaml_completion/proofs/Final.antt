@@ -15,7 +15,7 @@ use Rattle.yaml_completion.proofs.Endings.{solid_next}
 use Rattle.yaml_completion.proofs.Texts.{no_feed, no_feeds}
 
 -- where a plain scalar before them stays as it is
-pub record FirmAt (rest : List ℕ) (a : At) : Type 0 where
+pub record FinalAt (rest : List ℕ) (a : At) : Type 0 where
   pub at : At
   pub col : ℕ
   pub to : flow_next at ≡ place col (44 ∷ rest) []
@@ -42,8 +42,8 @@ no_white_quote x e = not_so (eqb x 39) (λ is. both (is_white x) e (ap is_white 
 no_white_feed : (x : ℕ) → is_white x ≡ true → eqb x 10 ≡ false
 no_white_feed x e = not_so (eqb x 10) (λ is. both (is_white x) e (ap is_white (eqb-true x 10 is)))
 
-firm_line : (rest : List ℕ) (a : At) (line : List ℕ) → a.line ≡ line → begins_low line ≡ true → FirmAt rest a
-firm_line rest a [] is small = record {
+final_line : (rest : List ℕ) (a : At) (line : List ℕ) → a.line ≡ line → begins_low line ≡ true → FinalAt rest a
+final_line rest a [] is small = record {
   at = with_line (44 ∷ rest) (place a.col [] []);
   col = 0;
   to = next_more (place a.col [] []) (44 ∷ rest) (nothing_ends a.col) refl;
@@ -54,7 +54,7 @@ firm_line rest a [] is small = record {
   lows = refl;
   tidy = λ clean. rw clean refl;
 }
-firm_line rest a (x ∷ xs) is small =
+final_line rest a (x ∷ xs) is small =
     elim (cases_Bool (is_white x)) [
       | inl white ↦ record {
         at = place a.col (x ∷ 44 ∷ rest) [];
@@ -93,8 +93,8 @@ firm_line rest a (x ∷ xs) is small =
       ]
     ]
 
-pub firm_at : (rest : List ℕ) (a : At) → begins_low a.line ≡ true → FirmAt rest a
-firm_at rest a small = firm_line rest a a.line refl small
+pub final_at : (rest : List ℕ) (a : At) → begins_low a.line ≡ true → FinalAt rest a
+final_at rest a small = final_line rest a a.line refl small
 
 -- a comma behind a tab or a line end
 pub comma_next : (tab : Bool) (col : ℕ) (rest : List ℕ) → (n : ℕ) × (flow_next (comma_behind tab col rest) ≡ place n (44 ∷ rest) [])

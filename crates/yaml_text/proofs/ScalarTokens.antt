@@ -9,14 +9,14 @@ use Rattle.yaml_scan.specs.Plain.{begins_plain, with_byte, plain_len}
 use Rattle.yaml_scan.specs.Quoted.{single_at, double_quoted_at}
 use Rattle.yaml_small.specs.declared.event.Style.TheVariants as styles
 use Rattle.yaml_small.specs.Places.{At, past, begins, at_mark}
-use Rattle.yaml_small.specs.Scalars.{word, word_at, plain_at, quoted_at}
+use Rattle.yaml_small.specs.Scalars.{scalar_token, scalar_token_at, plain_at, quoted_at}
 use Rattle.yaml_text.specs.Texts.{is_double, quoted, quoted_in, quoted_char, quoted_style}
 use Rattle.yaml_text.proofs.Quotes.{NoQuote, single_read, double_read}
 use Rattle.yaml_text.proofs.Lines.{and_parts, not_true}
 
 -- the place behind a word that stands on the line with this behind it
-abbrev pub behind_word : List ℕ → At → At
-behind_word w a = past (length w) a
+abbrev pub behind_scalar_token : List ℕ → At → At
+behind_scalar_token w a = past (length w) a
 
 lengths : (w rest : List ℕ) → length (w ++ rest) - length rest ≡ length w
 lengths w rest = omega (arith, length-append w rest)
@@ -36,22 +36,22 @@ double_found text rest utf8 =
 abbrev at : At → List ℕ → At
 at a line = record { col = a.col; line = line; later = a.later }
 
-quoted_word : (double : Bool) (text rest : List ℕ) (a : At) → IsUtf8 text → is_double text ≡ double → NoQuote rest
-    → word_at false (at a (quoted_in double text ++ rest))
-    ≡ Ok (word text (cond double styles.DoubleQuoted styles.SingleQuoted) (past (length (quoted_in double text)) (at a (quoted_in double text ++ rest))))
-unfolding word_at quoted_at
-quoted_word true text rest a utf8 is behind =
-    rw (double_found text rest utf8) (ap (λ (n : ℕ). Ok (word text styles.DoubleQuoted (past n (at a (quoted_in true text ++ rest))))) (lengths (quoted_in true text) rest))
-quoted_word false text rest a utf8 is behind =
-    rw (single_found text rest utf8 is behind) (ap (λ (n : ℕ). Ok (word text styles.SingleQuoted (past n (at a (quoted_in false text ++ rest))))) (lengths (quoted_in false text) rest))
+quoted_scalar_token : (double : Bool) (text rest : List ℕ) (a : At) → IsUtf8 text → is_double text ≡ double → NoQuote rest
+    → scalar_token_at false (at a (quoted_in double text ++ rest))
+    ≡ Ok (scalar_token text (cond double styles.DoubleQuoted styles.SingleQuoted) (past (length (quoted_in double text)) (at a (quoted_in double text ++ rest))))
+unfolding scalar_token_at quoted_at
+quoted_scalar_token true text rest a utf8 is behind =
+    rw (double_found text rest utf8) (ap (λ (n : ℕ). Ok (scalar_token text styles.DoubleQuoted (past n (at a (quoted_in true text ++ rest))))) (lengths (quoted_in true text) rest))
+quoted_scalar_token false text rest a utf8 is behind =
+    rw (single_found text rest utf8 is behind) (ap (λ (n : ℕ). Ok (scalar_token text styles.SingleQuoted (past n (at a (quoted_in false text ++ rest))))) (lengths (quoted_in false text) rest))
 
 -- a text in quotes, before anything but a single quote
-pub quoted_at_word : (text rest : List ℕ) (a : At) → IsUtf8 text → NoQuote rest → a.line ≡ quoted text ++ rest
-    → word_at false a ≡ Ok (word text (quoted_style text) (past (length (quoted text)) a))
+pub quoted_at_scalar_token : (text rest : List ℕ) (a : At) → IsUtf8 text → NoQuote rest → a.line ≡ quoted text ++ rest
+    → scalar_token_at false a ≡ Ok (scalar_token text (quoted_style text) (past (length (quoted text)) a))
 unfolding quoted
-quoted_at_word text rest a utf8 behind line =
-    let P : List ℕ → Type 0 = λ l. word_at false (at a l) ≡ Ok (word text (quoted_style text) (past (length (quoted_in (is_double text) text)) (at a l))) in
-    subst P (sym line) (quoted_word (is_double text) text rest a utf8 refl behind)
+quoted_at_scalar_token text rest a utf8 behind line =
+    let P : List ℕ → Type 0 = λ l. scalar_token_at false (at a l) ≡ Ok (scalar_token text (quoted_style text) (past (length (quoted_in (is_double text) text)) (at a l))) in
+    subst P (sym line) (quoted_scalar_token (is_double text) text rest a utf8 refl behind)
 
 -- bytes of plain texts: printable ASCII but # and :
 abbrev pub is_token : ℕ → Bool
@@ -101,18 +101,18 @@ take_front (x ∷ xs) ys = ap (λ (zs : List ℕ). x ∷ zs) (take_front xs ys)
 
 plain_at_line : (w rest : List ℕ) (a : At) → list_all is_token w ≡ true → begins_plain false (w ++ rest) ≡ true → at_mark (at a (w ++ rest)) ≡ false
     → EndsPlain rest → begins 39 (w ++ rest) ≡ false → begins 34 (w ++ rest) ≡ false
-    → word_at false (at a (w ++ rest)) ≡ Ok (word w styles.Plain (past (length w) (at a (w ++ rest))))
-unfolding word_at plain_at
+    → scalar_token_at false (at a (w ++ rest)) ≡ Ok (scalar_token w styles.Plain (past (length w) (at a (w ++ rest))))
+unfolding scalar_token_at plain_at
 plain_at_line w rest a tokens begin mark end single double =
     rw (single, double, mark, begin)
-    (ap₂ (λ (n : ℕ) (xs : List ℕ). Ok (word xs styles.Plain (past n (at a (w ++ rest))))) (plain_tokens w rest false tokens end)
+    (ap₂ (λ (n : ℕ) (xs : List ℕ). Ok (scalar_token xs styles.Plain (past n (at a (w ++ rest))))) (plain_tokens w rest false tokens end)
     (ap (λ (n : ℕ). take n (w ++ rest)) (plain_tokens w rest false tokens end) ∙ take_front w rest))
 
 -- a plain text, before what ends it
-pub plain_word : (w rest : List ℕ) (a : At) → list_all is_token w ≡ true → begins_plain false (w ++ rest) ≡ true → at_mark a ≡ false
+pub plain_scalar_token : (w rest : List ℕ) (a : At) → list_all is_token w ≡ true → begins_plain false (w ++ rest) ≡ true → at_mark a ≡ false
     → EndsPlain rest → a.line ≡ w ++ rest → begins 39 (w ++ rest) ≡ false → begins 34 (w ++ rest) ≡ false
-    → word_at false a ≡ Ok (word w styles.Plain (past (length w) a))
-plain_word w rest a tokens begin mark end line single double =
-    let P : List ℕ → Type 0 = λ l. word_at false (at a l) ≡ Ok (word w styles.Plain (past (length w) (at a l))) in
+    → scalar_token_at false a ≡ Ok (scalar_token w styles.Plain (past (length w) a))
+plain_scalar_token w rest a tokens begin mark end line single double =
+    let P : List ℕ → Type 0 = λ l. scalar_token_at false (at a l) ≡ Ok (scalar_token w styles.Plain (past (length w) (at a l))) in
     let Q : List ℕ → Type 0 = λ l. at_mark (at a l) ≡ false in
     subst P (sym line) (plain_at_line w rest a tokens begin (subst Q line mark) end single double)

@@ -5,10 +5,10 @@ use Rattle.warg_values.specs.ReadingLaws.{ok_is}
 use Rattle.yaml_small.specs.declared.event.Event.{Event}
 use Rattle.yaml_small.specs.Scalars.{Fault}
 use Rattle.yaml_small.specs.Stream.{State, next}
-use Rattle.yaml_read.specs.Source.{Source, Refusal, Endless, pull, pulled, front, event_alone}
-use Rattle.yaml_read.specs.Told.{Gets}
+use Rattle.yaml_read.specs.Source.{Source, Refusal, TooManyEvents, pull, pulled, front, event_alone}
+use Rattle.yaml_read.specs.Emitted.{Gets}
 
--- what was taken is what the parser tells
+-- what was taken is what the parser emits
 pub pull_is : (s : Source) (e : Event) (m : Source) → pull s ≡ Ok (e, m) → next s.state ≡ Ok (e, m.state)
 unfolding pull
 pull_is s e m h = counted (eqb s.left 0) h
@@ -16,15 +16,15 @@ pull_is s e m h = counted (eqb s.left 0) h
     stood : Event × Source → Result (Event × State) Fault
     stood p = Ok (p.0, p.1.state)
 
-    told : (r : Result (Event × State) Fault) → pulled s.left r ≡ Ok (e, m) → r ≡ Ok (e, m.state)
-    told (Ok p) h = ap (λ (q : Event × Source). stood q) (ok_is {F = Refusal} (p.0, record { state = p.1; left = s.left - 1 }) (e, m) h)
-    told (Err fault) h = absurd cc
+    emitted : (r : Result (Event × State) Fault) → pulled s.left r ≡ Ok (e, m) → r ≡ Ok (e, m.state)
+    emitted (Ok p) h = ap (λ (q : Event × Source). stood q) (ok_is {F = Refusal} (p.0, record { state = p.1; left = s.left - 1 }) (e, m) h)
+    emitted (Err fault) h = absurd cc
 
-    counted : (b : Bool) → cond b (Err Endless) (pulled s.left (next s.state)) ≡ Ok (e, m) → next s.state ≡ Ok (e, m.state)
+    counted : (b : Bool) → cond b (Err TooManyEvents) (pulled s.left (next s.state)) ≡ Ok (e, m) → next s.state ≡ Ok (e, m.state)
     counted true h = absurd cc
-    counted false h = told (next s.state) h
+    counted false h = emitted (next s.state) h
 
--- what the parser tells is taken, or counted no further
+-- what the parser emits is taken, or counted no further
 pub pulls : {X : Type 0} (left : ℕ) (s : Source) (e : Event) (z : State) (x : X) (w : State) (f : Event × Source → Result (X × Source) Refusal) → next s.state ≡ Ok (e, z)
     → ((m : Source) → m.state ≡ z → m.left < s.left → Gets left x w (f (e, m))) → Gets left x w (pull s >>= f)
 unfolding pull
@@ -35,7 +35,7 @@ pulls {X} left s e z x w f h go =
     below zero is = absurd cc
     below (suc n) is = omega arith
 
-    counted : (b : Bool) → eqb s.left 0 ≡ b → Gets left x w (cond b (Err Endless) (Ok (e, record { state = z; left = s.left - 1 })) >>= f)
+    counted : (b : Bool) → eqb s.left 0 ≡ b → Gets left x w (cond b (Err TooManyEvents) (Ok (e, record { state = z; left = s.left - 1 })) >>= f)
     counted true is = refl
     counted false is = go (record { state = z; left = s.left - 1 }) refl (below s.left is)
 
@@ -46,7 +46,7 @@ unfolding pull front
 fronts {X} left s e z x w f h go =
     rw h (counted (eqb s.left 0))
   where
-    counted : (b : Bool) → Gets left x w (event_alone (cond b (Err Endless) (Ok (e, record { state = z; left = s.left - 1 }))) >>= f)
+    counted : (b : Bool) → Gets left x w (event_alone (cond b (Err TooManyEvents) (Ok (e, record { state = z; left = s.left - 1 }))) >>= f)
     counted true = refl
     counted false = go
 
