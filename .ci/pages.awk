@@ -189,7 +189,10 @@ function check_clause(clause, call, home) {
 # A row of a table of calls: the calls of its first cell, or of the row above where that is empty.
 function take_row(cells, count,    found, behind, n, i, home, clause_names, m, j, met, type_names) {
     n = names_in(cells[1], found, behind)
-    if (n > 0) row_calls = 0
+    if (n > 0) {
+        row_calls = 0
+        is_lost = 0
+    }
     type_names = ""
     for (i = 1; i <= n; i++) {
         if (!is_path(found[i]) && !is_name(found[i])) continue
@@ -197,6 +200,7 @@ function take_row(cells, count,    found, behind, n, i, home, clause_names, m, j
         home = home_of(found[i])
         if (home == "-") {
             say("`" found[i] "` is no public call, type or law" (own == "" ? "" : " of " own))
+            is_lost = 1
             continue
         }
         row_call[++row_calls] = found[i]
@@ -236,7 +240,7 @@ function take_clause(clause,    i) {
     clauses_cited++
     for (i = 1; i <= row_calls; i++)
         if (index(" " clauses_of[row_home[i], without_crate(row_call[i])], " " clause " ")) return
-    say(row_calls ? "none of the calls of this row has a clause `" clause "`" : "a clause `" clause "` without a call")
+    if (!is_lost) say(row_calls ? "none of the calls of this row has a clause `" clause "`" : "a clause `" clause "` without a call")
 }
 
 # The parts of a row of a table, which are between upright bars.
@@ -359,7 +363,8 @@ BEGIN {
     }
     for (i = 1; i <= owed_count; i++) {
         split(owed[i], f, "\t")
-        if (!(f[1] in paged) || (f[1], f[2]) in named || f[2] in named_anywhere || last_of(f[2]) in quoted_calls) continue
+        if (!(f[1] in paged) || (f[1], f[2]) in named || f[2] in named_anywhere) continue
+        if (f[2] !~ /^[A-Z]/ && last_of(f[2]) in quoted_calls) continue
         page = "crates/" f[1] "/README.md"
         say("no page names the public call `" f[2] "`")
     }
