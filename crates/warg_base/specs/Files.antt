@@ -1,5 +1,5 @@
 -- Files as a map from paths to bytes.
-use Rattle.std.specs.Prelude.{◌≡◌, ℕ, List, take, Option, ◌⊎◌, refl}
+use Rattle.std.specs.Prelude.{◌≡◌, ℕ, List, take, Option, Some, IfSome, ◌⊎◌, refl}
 use Rattle.std.specs.Coded.{Coded, code_by, coded×, coded_list, coded_ℕ}
 use Rattle.std.specs.Ordering.{nat_cmp}
 use Rattle.std.specs.Cmp.Lexicographic.{slice_cmp}
@@ -21,6 +21,10 @@ with_file files path bytes = map.insert files path bytes
 -- What a refused write may leave: the file as it was, or with a front of the new bytes, and each other file as it was.
 abbrev pub PartlyWritten : FileMap → FileMap → List ℕ → List ℕ → Type 0
 PartlyWritten old new path bytes = (new ≡ old) ⊎ ((n : ℕ) × (new ≡ with_file old path (take n bytes)))
+
+-- What a refused write leaves, where the files are told: they go on telling.
+abbrev pub LeavesPartlyWritten : Option FileMap → Option FileMap → List ℕ → List ℕ → Type 0
+LeavesPartlyWritten old new path bytes = IfSome old (λ files. (after : FileMap) × (new ≡ Some after) × PartlyWritten files after path bytes)
 
 -- what files in memory hold
 pub record FilesHeld : Type 0 where

@@ -1,3 +1,4 @@
 pub use Rattle.warg_values.specs.Faults
+pub mod Failures
 pub mod Files
 pub mod Out

@@ -2,7 +2,7 @@
 
 ghost use Rattle.std.specs.Prelude.{◌≡◌, ◌≤◌, ℕ, Option, Some, None, IfOk, IfSome, IsErrOf, OnOk, OnErr};
 ghost use Rattle.warg_values.specs.Faults.{Rose};
-ghost use Rattle.warg_base.specs.Files.{FileMap, PartlyWritten, file_at, with_file};
+ghost use Rattle.warg_base.specs.Files.{FileMap, LeavesPartlyWritten, file_at, with_file};
 ghost use Rattle.warg_base.specs.declared.files.FileError.TheVariants.{Memory as no_memory};
 
 use std::alloc::{AllocError, AllocFailed, Global};
@@ -72,7 +72,7 @@ pub trait Files {
         ensures never_falls { faults self.old ≤ faults self.new }
 
         ensures written { OnOk result (IfSome (told self.old) (λ files. told self.new ≡ Some (with_file files path.now bytes.now))) }
-        ensures refused { OnErr result (IfSome (told self.old) (λ files. IfSome (told self.new) (λ after. PartlyWritten files after path.now bytes.now))) }
+        ensures refused { OnErr result (LeavesPartlyWritten (told self.old) (told self.new) path.now bytes.now) }
         ensures not_missing { IsErrOf result FileError.Missing → ⊥ }
         ensures failed { IsErrOf result FileError.Failed → Rose (faults self.old) (faults self.new) };
 }

@@ -1,6 +1,6 @@
 //! The host's files. No clause says what a disk holds: this is the trusted edge.
 
-ghost use Rattle.std.specs.Prelude.{◌≡◌, ◌≤◌, None};
+ghost use Rattle.std.specs.Prelude.{◌≡◌, ◌≤◌, length, None, IfOk};
 ghost use Rattle.warg_values.specs.Faults.{Rose};
 
 use crate::files::{FileError, Files};
@@ -47,16 +47,27 @@ fn is_missing(error: &io::Error) -> bool {
     error.kind() == ErrorKind::NotFound
 }
 
+/// One turn of reading: a call that was interrupted before it read anything is made again.
+fn turn(file: &mut File, buffer: &mut [u8]) -> io::Result<usize>
+    ensures { IfOk result (λ count. count ≤ length buffer.old) }
+{
+    for _ in 0..u64::MAX {
+        match file.read(buffer) {
+            Err(error) if error.kind() == ErrorKind::Interrupted => {}
+            answer => return answer,
+        }
+    }
+    Err(io::Error::from(ErrorKind::Interrupted))
+}
+
 /// The bytes that are left in an open file.
 fn rest_of(alloc: Global, file: &mut File) -> io::Result<Vec<u8>> {
     let mut buffer = vec![in alloc; 0u8; CHUNK]?;
     let mut bytes = Vec::new(alloc);
     for _ in 0..TURNS {
-        match file.read(&mut buffer) {
-            Ok(0) => return Ok(bytes),
-            Ok(count) => bytes.extend_from_slice(&buffer[..count])?,
-            Err(error) if error.kind() == ErrorKind::Interrupted => {}
-            Err(error) => return Err(error),
+        match turn(file, &mut buffer)? {
+            0 => return Ok(bytes),
+            count => bytes.extend_from_slice(&buffer[..count])?,
         }
     }
     Err(io::Error::from(ErrorKind::Other))

@@ -2,8 +2,9 @@
 
 ghost use Rattle.std.specs.Prelude.{◌≡◌, ◌≤◌, ◌++◌, ◌∷◌, [], ◌↔◌, Some, None, IfOk, IsErrOf, OnOk, OnErr, Contains};
 ghost use Rattle.std.specs.FinMap as map;
-ghost use Rattle.warg_values.specs.Faults.{Rose, one_more};
-ghost use Rattle.warg_base.specs.Files.{file_at, with_file};
+ghost use Rattle.warg_values.specs.Faults.{Rose, after_call, one_more};
+ghost use Rattle.warg_base.specs.Files.{LeavesPartlyWritten, file_at, with_file};
+ghost use Rattle.warg_base.specs.Failures.{has_file_failed};
 
 use crate::files::{FileError, Files};
 use bytes::Bytes;
@@ -62,6 +63,7 @@ impl Files for MemoryFiles {
         ensures missing { IsErrOf result FileError.Missing → file_at self.old.files path.now ≡ None }
         ensures failed { IsErrOf result FileError.Failed ↔ Contains self.old.schedule.failing (one_more self.old.schedule.calls) }
         ensures counted { IsErrOf result FileError.Failed → Rose self.old.schedule.faults self.new.schedule.faults }
+        ensures scheduled { self.new.schedule ≡ after_call self.old.schedule (has_file_failed result) }
     {
         if self.schedule.fails_now() {
             return Err(FileError::Failed);
@@ -76,10 +78,12 @@ impl Files for MemoryFiles {
     fn write(&mut self, alloc: Global, path: &str, bytes: &[u8]) -> Result<(), FileError>
         ensures never_falls { self.old.schedule.faults ≤ self.new.schedule.faults }
         ensures written { OnOk result (self.new.files ≡ with_file self.old.files path.now bytes.now) }
-        ensures refused { OnErr result (self.new.files ≡ self.old.files) }
+        ensures refused { OnErr result (LeavesPartlyWritten (Some self.old.files) (Some self.new.files) path.now bytes.now) }
+        ensures unchanged { OnErr result (self.new.files ≡ self.old.files) }
         ensures not_missing { IsErrOf result FileError.Missing → ⊥ }
         ensures failed { IsErrOf result FileError.Failed ↔ Contains self.old.schedule.failing (one_more self.old.schedule.calls) }
         ensures counted { IsErrOf result FileError.Failed → Rose self.old.schedule.faults self.new.schedule.faults }
+        ensures scheduled { self.new.schedule ≡ after_call self.old.schedule (has_file_failed result) }
     {
         if self.schedule.fails_now() {
             return Err(FileError::Failed);

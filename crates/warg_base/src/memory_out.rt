@@ -1,7 +1,9 @@
 //! An output in memory.
 
 ghost use Rattle.std.specs.Prelude.{◌≡◌, ◌≤◌, ◌+◌, ◌++◌, ◌∷◌, [], ◌↔◌, Some, IsErrOf, OnOk, OnErr, Contains};
-ghost use Rattle.warg_values.specs.Faults.{Rose, one_more};
+ghost use Rattle.warg_values.specs.Faults.{Rose, after_call, one_more};
+ghost use Rattle.warg_base.specs.Failures.{has_out_failed};
+ghost use Rattle.warg_base.specs.Out.{LeavesPartlyAdded};
 
 use crate::out::{Out, OutError};
 use std::alloc::Global;
@@ -59,9 +61,11 @@ impl Out for MemoryOut {
     fn write_all(&mut self, _alloc: Global, bytes: &[u8]) -> Result<(), OutError>
         ensures never_falls { self.old.schedule.faults ≤ self.new.schedule.faults }
         ensures written { OnOk result (self.new.bytes ≡ self.old.bytes ++ bytes.now) }
-        ensures refused { OnErr result (self.new.bytes ≡ self.old.bytes) }
+        ensures refused { OnErr result (LeavesPartlyAdded (Some self.old.bytes) (Some self.new.bytes) bytes.now) }
+        ensures unchanged { OnErr result (self.new.bytes ≡ self.old.bytes) }
         ensures failed { IsErrOf result OutError.Failed ↔ Contains self.old.schedule.failing (one_more self.old.schedule.calls) }
         ensures counted { IsErrOf result OutError.Failed → Rose self.old.schedule.faults self.new.schedule.faults }
+        ensures scheduled { self.new.schedule ≡ after_call self.old.schedule (has_out_failed result) }
     {
         if self.schedule.fails_now() {
             return Err(OutError::Failed);

@@ -2,7 +2,7 @@
 
 ghost use Rattle.std.specs.Prelude.{◌≡◌, ◌≤◌, ◌++◌, ℕ, List, Option, Some, IfSome, IsErrOf, OnOk, OnErr};
 ghost use Rattle.warg_values.specs.Faults.{Rose};
-ghost use Rattle.warg_base.specs.Out.{PartlyAdded};
+ghost use Rattle.warg_base.specs.Out.{LeavesPartlyAdded};
 ghost use Rattle.warg_base.specs.declared.out.OutError.TheVariants.{Memory as no_memory};
 
 use std::alloc::{AllocError, Global};
@@ -49,6 +49,6 @@ pub trait Out {
         ensures never_falls { faults self.old ≤ faults self.new }
 
         ensures written { OnOk result (IfSome (told self.old) (λ before. told self.new ≡ Some (before ++ bytes.now))) }
-        ensures refused { OnErr result (IfSome (told self.old) (λ before. IfSome (told self.new) (λ after. PartlyAdded before after bytes.now))) }
+        ensures refused { OnErr result (LeavesPartlyAdded (told self.old) (told self.new) bytes.now) }
         ensures failed { IsErrOf result OutError.Failed → Rose (faults self.old) (faults self.new) };
 }

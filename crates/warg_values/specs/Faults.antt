@@ -1,5 +1,5 @@
 -- Counts of faults, and the calls that are to fail.
-use Rattle.std.specs.Prelude.{ℕ, ◌+◌, ◌-◌, ◌^◌, ◌≤◌, min, List, refl}
+use Rattle.std.specs.Prelude.{ℕ, ◌+◌, ◌-◌, ◌^◌, ◌≤◌, min, Bool, if◌then◌else◌, List, refl}
 use Rattle.std.specs.Coded.{Coded, code_by, coded×, coded_list, coded_ℕ}
 
 -- The count after one more. It stays at the last value of its type.
@@ -15,6 +15,10 @@ pub record Schedule : Type 0 where
   pub calls : ℕ
   pub failing : List ℕ
   pub faults : ℕ
+
+-- the schedule after one more call, which failed or did not
+abbrev pub after_call : Schedule → Bool → Schedule
+after_call s failed = record s { calls = one_more s.calls; faults = (if failed then one_more s.faults else s.faults) }
 
 -- a schedule is stored as its parts
 abbrev pub schedule_code : Coded Schedule

@@ -1,7 +1,7 @@
 //! Which calls of an object in memory are to fail.
 
-ghost use Rattle.std.specs.Prelude.{◌≡◌, ◌≤◌, ◌++◌, ◌∷◌, [], ◌↔◌, IsTrue, Contains, OnOk, OnErr, if◌then◌else◌};
-ghost use Rattle.warg_values.specs.Faults.{one_more};
+ghost use Rattle.std.specs.Prelude.{◌≡◌, ◌≤◌, ◌++◌, ◌∷◌, [], ◌↔◌, IsTrue, Contains, OnOk, OnErr};
+ghost use Rattle.warg_values.specs.Faults.{after_call, one_more};
 
 use crate::memory::Memory;
 use std::alloc::Global;
@@ -48,7 +48,7 @@ impl FaultSchedule {
     pub fn fails_now(&mut self) -> bool
         ensures listed { IsTrue result ↔ Contains self.old.failing (one_more self.old.calls) }
         ensures never_falls { self.old.faults ≤ self.new.faults }
-        ensures counted { self.new ≡ record self.old { calls = one_more self.old.calls; faults = (if result then one_more self.old.faults else self.old.faults) } }
+        ensures counted { self.new ≡ after_call self.old result }
     {
         self.calls = self.calls.saturating_add(1);
         let fails = self.failing.contains(&self.calls);
