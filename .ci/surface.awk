@@ -3,7 +3,7 @@
 #
 #     type    CRATE NAME                a public type or trait
 #     variant CRATE TYPE::NAME          a variant of a public enum, or a constant of a public type
-#     module  CRATE NAME                a public module
+#     module  CRATE NAME                a module of the root file
 #     handed  CRATE CRATE NAME          a name that the crate hands on, and the crate where it comes from
 #     call    CRATE PATH OWED CLAUSES   a call, whether a page has to name it (1 or 0), and its clauses with blanks between
 #
@@ -98,10 +98,8 @@ NR == FNR && /^(pub )?mod [a-z]/ {
     opened = sub(/^pub /, "", text)
     sub(/^mod /, "", text)
     modules[name_of(text)] = 1
-    if (opened && !program) {
-        open_modules[name_of(text)] = 1
-        print "module\t" crate "\t" name_of(text)
-    }
+    print "module\t" crate "\t" name_of(text)
+    if (opened && !program) open_modules[name_of(text)] = 1
 }
 NR == FNR && /^pub use / { using = 1; statement = "" }
 NR == FNR && using {
