@@ -1,1 +1,3 @@
-mod RunLaws
+mod CommandLaws
+mod ShapeLaws
+mod StopLaws

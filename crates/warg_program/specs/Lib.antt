@@ -1,2 +1,5 @@
-pub mod Lines
+pub mod World
+pub mod Command
+pub mod Stop
+pub mod Link
 pub mod Run

@@ -1,82 +1,65 @@
--- What a run of the program does.
-use Rattle.std.specs.Prelude.{◌≡◌, ◌⊎◌, ℕ, List, [], ◌∷◌, ◌++◌, map, codes, Option, Some, None, IfSome}
-use Rattle.warg_values.specs.Faults.{Rose}
-use Rattle.warg_base.specs.Files.{FileMap, PartlyWritten, file_at, with_file}
-use Rattle.comp_format.specs.Items.{ItemTree}
-use Rattle.comp_shape.specs.FirstForm.{InFirstForm}
-use Rattle.comp_shape.specs.Shape.{ShapeTree, shape}
-use Rattle.wasm_compose.specs.Link.{IsLinked, LinkFits}
-use Rattle.warg_program.specs.Lines.{done_line}
+-- A run of the program: what it does for its words, and why it stops.
+use Rattle.std.specs.Prelude.{◌≡◌, ◌⊎◌, ℕ, List, ◌≤◌}
+use Rattle.warg_program.specs.World.{World, SameFiles, PrintsNothing, PrintsPartly}
+use Rattle.warg_program.specs.Command.{Asked, Link, IsCommand, IsNoCommand}
+use Rattle.warg_program.specs.Link.{LinkDone, LinkHolds, LinkStops}
+use Rattle.warg_program.specs.Stop.{line_of}
 use Rattle.warg_program.specs.declared.stop.Stop.{Stop}
 use Rattle.warg_program.specs.declared.stop.Stop.TheVariants as stop
 
--- the words ask to link the component at one path, and to write the other
-abbrev pub IsLink : List (List ℕ) → List ℕ → List ℕ → Type 0
-IsLink words root path = words ≡ codes "link" ∷ root ∷ path ∷ []
+-- the command did what it is for
+abbrev pub Does : Asked → (before after : World) → Type 0
+Does (Link root out) before after = LinkDone root out before after
 
--- the bytes are a component of the first form, with a shape that exports these names
-pub record Exports (bytes : List ℕ) (names : List (List ℕ)) : Type 0 where
-  pub items : List ItemTree
-  pub form : InFirstForm bytes items
-  pub tree : ShapeTree
-  pub shape_is : shape items ≡ Some tree
-  pub names_are : names ≡ map (λ e. e.0) tree.exports
+-- the command stopped, for this reason
+abbrev pub Stops : Stop → Asked → (before after : World) → Type 0
+Stops s (Link root out) before after = LinkStops s root out before after
 
--- a path has a file of these bytes, where the files tell
-abbrev pub HasFile : Option FileMap → List ℕ → List ℕ → Type 0
-HasFile told path bytes = IfSome told (λ files. file_at files path ≡ Some bytes)
+-- what the files hold, however the command ended
+abbrev pub Holds : Asked → (before after : World) → Type 0
+Holds (Link root out) before after = LinkHolds root out before after
 
--- The bytes have exactly one reading, and its image makes one instance of ROOT, without arguments and imports, and
--- exports what ROOT does.
-pub record IsLinkOf (told : Option FileMap) (root linked : List ℕ) : Type 0 where
-  pub bytes : List ℕ
-  pub names : List (List ℕ)
-  pub there : HasFile told root bytes
-  pub exports : Exports bytes names
-  pub is_linked : IsLinked bytes names linked
+-- The words are no command, and nothing was done.
+pub record RefusesWords (s : Stop) (words : List (List ℕ)) (before after : World) : Type 0 where
+  pub usage : s ≡ stop.Usage
+  pub no_command : IsNoCommand words
+  pub files : SameFiles before after
+  pub printed : PrintsNothing before after
 
--- why ROOT was not linked, by the count of faults of the files before and after
-abbrev pub IsCause : Stop → Option FileMap → List ℕ → ℕ → ℕ → Type 0
-IsCause stop.Usage told root old new = ⊥
-IsCause stop.Missing told root old new = IfSome told (λ files. file_at files root ≡ None)
-IsCause stop.Fault told root old new = Rose old new
-IsCause stop.BadComponent told root old new = (bytes : List ℕ) × HasFile told root bytes × ((names : List (List ℕ)) → Exports bytes names → ⊥)
-IsCause stop.TooLarge told root old new = (bytes : List ℕ) × (names : List (List ℕ)) × HasFile told root bytes × Exports bytes names × (LinkFits bytes names → ⊥)
-IsCause stop.Memory told root old new = Unit {0}
+-- The words are a command, which stopped.
+pub record StopsCommand (s : Stop) (words : List (List ℕ)) (before after : World) : Type 0 where
+  pub command : Asked
+  pub is_command : IsCommand words command
+  pub stops : Stops s command before after
 
--- ROOT was linked into the file at a path, and the line of that was printed. The files and the output tell so, where they
--- tell what they hold.
-pub record Done (told told_after : Option FileMap) (printed printed_after : Option (List ℕ)) (root path : List ℕ) : Type 0 where
-  pub linked : List ℕ
-  pub is_link : IsLinkOf told root linked
-  pub written : IfSome told (λ files. told_after ≡ Some (with_file files path linked))
-  pub says : IfSome printed (λ before. printed_after ≡ Some (before ++ done_line linked))
+-- The line of a stop was printed, where the output took it: no file is touched, and the output has a front of the line.
+pub record SaysStop (s : Stop) (before after : World) : Type 0 where
+  pub files : SameFiles before after
+  pub file_faults : after.files.faults ≡ before.files.faults
+  pub printed : PrintsPartly before after (line_of s)
+  pub never_falls : before.output.faults ≤ after.output.faults
 
--- The files are as they were, or one path has the bytes that link ROOT, or a front of these.
-abbrev pub MayHold : Option FileMap → Option FileMap → List ℕ → List ℕ → Type 0
-MayHold told told_after root path =
-    (told_after ≡ told) ⊎ ((linked : List ℕ) × IsLinkOf told root linked × IfSome told (λ files. IfSome told_after (λ after. PartlyWritten files after path linked ⊎ (after ≡ with_file files path linked))))
+-- The words are no command, or they are one that stopped.
+abbrev pub IsStopped : Stop → List (List ℕ) → (before after : World) → Type 0
+IsStopped s words before after = RefusesWords s words before after ⊎ StopsCommand s words before after
 
--- stops before anything was written
-abbrev pub IsEarly : Stop → Type 0
-IsEarly stop.Usage = Unit {0}
-IsEarly stop.Missing = Unit {0}
-IsEarly stop.Fault = ⊥
-IsEarly stop.BadComponent = Unit {0}
-IsEarly stop.TooLarge = Unit {0}
-IsEarly stop.Memory = ⊥
+-- A run of these words stopped, and then the line of the stop was printed.
+pub record IsStop (s : Stop) (words : List (List ℕ)) (before after : World) : Type 0 where
+  pub stopped : World
+  pub why : IsStopped s words before stopped
+  pub says : SaysStop s stopped after
 
--- the output failed
-abbrev pub OutFailed : Stop → ℕ → ℕ → Type 0
-OutFailed stop.Usage old new = ⊥
-OutFailed stop.Missing old new = ⊥
-OutFailed stop.Fault old new = Rose old new
-OutFailed stop.BadComponent old new = ⊥
-OutFailed stop.TooLarge old new = ⊥
-OutFailed stop.Memory old new = ⊥
+-- the stop is want of memory
+abbrev pub IsShortOfMemory : Stop → Type 0
+IsShortOfMemory stop.Memory = Unit {0}
+IsShortOfMemory _ = ⊥
 
--- The words are no link, or they are one and the stop has its cause.
-abbrev pub IsStop : Stop → List (List ℕ) → Option FileMap → List ℕ → ℕ → ℕ → ℕ → ℕ → Type 0
-IsStop s words told root files files_after out out_after =
-    ((s ≡ stop.Usage) × ((root path : List ℕ) → IsLink words root path → ⊥))
-    ⊎ ((path : List ℕ) × IsLink words root path × (IsCause s told root files files_after ⊎ OutFailed s out out_after))
+-- A run of these words did what their command is for.
+pub record IsDone (words : List (List ℕ)) (before after : World) : Type 0 where
+  pub command : Asked
+  pub is_command : IsCommand words command
+  pub does : Does command before after
+
+-- Whatever the status: no file changed, or the words are a command and the files hold what that may leave.
+abbrev pub MayHold : List (List ℕ) → (before after : World) → Type 0
+MayHold words before after = SameFiles before after ⊎ ((command : Asked) × IsCommand words command × Holds command before after)

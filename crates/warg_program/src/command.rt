@@ -1,14 +1,24 @@
 //! What the words ask for.
 
 ghost use Rattle.std.specs.Prelude.{ℕ, List, map, MatchOption, string_bytes};
-ghost use Rattle.warg_program.specs.Run.{IsLink};
+ghost use Rattle.warg_program.specs.Command.{Asked, IsCommand, asked};
 
-/// The two paths of a link: that of the component, and that of the result.
-pub fn link_paths(words: &[String]) -> Option<(&str, &str)>
-    ensures { MatchOption result ((root path : List ℕ) → IsLink (map string_bytes words.now) root path → ⊥) (λ p. IsLink (map string_bytes words.now) p.0.now p.1.now) }
+/// A command with what its words name.
+#[derive(Clone, Copy, Debug)]
+pub enum Command<'a> {
+    /// `link ROOT OUT`: links the component in the file `root` into the file `out`.
+    Link { root: &'a str, out: &'a str },
+}
+
+/// The command that the words are, without the program's own name.
+pub fn command_of(words: &[String]) -> Option<Command<'_>>
+    ensures { MatchOption result ((a : Asked) → IsCommand (map string_bytes words.now) a → ⊥) (λ c. IsCommand (map string_bytes words.now) (asked c)) }
 {
     match words {
-        [command, root, path] if command.as_str() == "link" => Some((root.as_str(), path.as_str())),
+        [command, root, out] if command.as_str() == "link" => Some(Command::Link {
+            root: root.as_str(),
+            out: out.as_str(),
+        }),
         _ => None,
     }
 }

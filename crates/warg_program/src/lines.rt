@@ -1,7 +1,9 @@
 //! What the program prints.
 
 ghost use Rattle.std.specs.Prelude.{◌≡◌, ◌≤◌, IfOk, string_bytes};
-ghost use Rattle.warg_program.specs.Lines.{Says, done_line, line_of, status_of};
+ghost use Rattle.warg_base.specs.Out.{LeavesPartlyAdded};
+ghost use Rattle.warg_program.specs.Stop.{line_of};
+ghost use Rattle.warg_program.specs.Link.{done_line};
 
 use crate::stop::Stop;
 use hex::encode;
@@ -21,42 +23,25 @@ pub fn done_line(alloc: Global, linked: &[u8]) -> Result<String, AllocError>
 }
 
 /// The line of a stop.
-fn line_of(alloc: Global, stop: Stop, root: &str) -> Result<String, AllocError>
-    ensures { IfOk result (λ line. string_bytes line ≡ line_of stop root.now) }
+fn line_of(alloc: Global, stop: &Stop<'_>) -> Result<String, AllocError>
+    ensures { IfOk result (λ line. string_bytes line ≡ line_of stop.now) }
 {
     match stop {
         Stop::Usage => String::from_str(alloc, "usage\n"),
-        Stop::Missing => format!(in alloc; "missing {root}\n"),
-        Stop::Fault => String::from_str(alloc, "fault\n"),
-        Stop::BadComponent => String::from_str(alloc, "refused BadComponent\n"),
-        Stop::TooLarge => String::from_str(alloc, "refused TooLarge\n"),
+        Stop::Missing { path } => format!(in alloc; "missing {path}\n"),
+        Stop::Fault(_) => String::from_str(alloc, "fault\n"),
+        Stop::BadComponent { .. } => String::from_str(alloc, "refused BadComponent\n"),
+        Stop::TooLarge { .. } => String::from_str(alloc, "refused TooLarge\n"),
         Stop::Memory => String::from_str(alloc, "memory\n"),
     }
 }
 
-/// The status of a stop.
-fn status_of(stop: Stop) -> u8
-    ensures { result ≡ status_of stop }
-{
-    match stop {
-        Stop::Usage => 2,
-        Stop::Missing => 3,
-        Stop::Fault => 4,
-        Stop::BadComponent => 6,
-        Stop::TooLarge => 6,
-        Stop::Memory => 7,
-    }
-}
-
-/// Prints the line of a stop, where the output takes it, and gives its status.
-pub fn refuse<O: Out>(alloc: Global, out: &mut O, stop: Stop, root: &str) -> u8
-    ensures status { result ≡ status_of stop }
+/// Prints the line of a stop, where the output takes it. A line that it doesn't take changes nothing else.
+pub fn refuse<O: Out>(alloc: Global, out: &mut O, stop: &Stop<'_>)
     ensures never_falls { O.faults out.old ≤ O.faults out.new }
-    ensures said { Says (O.told out.old) (O.told out.new) (line_of stop root.now) }
+    ensures printed { LeavesPartlyAdded (O.told out.old) (O.told out.new) (line_of stop.now) }
 {
-    if let Ok(line) = line_of(alloc, stop, root) {
-        // A line that the output doesn't take changes no status.
+    if let Ok(line) = line_of(alloc, stop) {
         let _ = out.write_all(alloc, line.as_bytes());
     }
-    status_of(stop)
 }

@@ -1,18 +1,96 @@
 //! Why a run ends without its result.
 
+ghost use Rattle.std.specs.Prelude.{◌≡◌};
+ghost use Rattle.warg_program.specs.Stop.{status_of};
+
+use comp_shape::ShapeError;
+use std::fmt;
+use warg_base::FileError;
+
+/// What was asked of the outside when it failed.
+#[derive(Clone, Copy, Debug)]
+pub enum Access<'a> {
+    /// The file at this path was read.
+    Read(&'a str),
+    /// The file at this path was written.
+    Written(&'a str),
+    /// A line was printed to the output.
+    Printed,
+}
+
 /// Why nothing was done, or not all.
-#[derive(Clone, Copy, Debug, PartialEq, Eq)]
-pub enum Stop {
+///
+/// Its `Display` is for people: the file, the cause, and what to do.
+#[derive(Clone, Copy, Debug)]
+pub enum Stop<'a> {
     /// The words are no command: status 2.
     Usage,
-    /// The file that the words name is missing: status 3.
-    Missing,
+    /// There is no file at this path, which the words name: status 3.
+    Missing { path: &'a str },
     /// Files or the output failed: status 4.
-    Fault,
-    /// The file is no component that is carried: status 6.
-    BadComponent,
-    /// A length, a count or an index of the result is above 2^32 - 1: status 6.
-    TooLarge,
+    Fault(Access<'a>),
+    /// The file at this path is no component that is carried: status 6.
+    BadComponent { path: &'a str, error: ShapeError },
+    /// This length, count or index of what was to be written to this path is above 2^32 - 1: status 6.
+    TooLarge { path: &'a str, number: u64 },
     /// No memory was left: status 7.
     Memory,
+}
+
+impl Stop<'_> {
+    /// The exit status of the program.
+    pub fn status(&self) -> u8
+        ensures { result ≡ status_of self.now }
+    {
+        match self {
+            Stop::Usage => 2,
+            Stop::Missing { .. } => 3,
+            Stop::Fault(_) => 4,
+            Stop::BadComponent { .. } => 6,
+            Stop::TooLarge { .. } => 6,
+            Stop::Memory => 7,
+        }
+    }
+}
+
+impl fmt::Display for Access<'_> {
+    fn fmt<W: fmt::Write>(&self, f: &mut fmt::Formatter<W>) -> fmt::Result {
+        match self {
+            Access::Read(path) => {
+                write!(
+                    f,
+                    "{path}: the file could not be read: check that it is a file, and its permissions"
+                )
+            }
+            Access::Written(path) => write!(
+                f,
+                "{path}: the file could not be written: check its folder, its permissions and the disk"
+            ),
+            Access::Printed => {
+                write!(
+                    f,
+                    "standard output: the line could not be printed: check where it goes"
+                )
+            }
+        }
+    }
+}
+
+impl fmt::Display for Stop<'_> {
+    fn fmt<W: fmt::Write>(&self, f: &mut fmt::Formatter<W>) -> fmt::Result {
+        match self {
+            Stop::Usage => write!(f, "these words are no command: write `warg link ROOT OUT`"),
+            Stop::Missing { path } => write!(f, "{path}: {}", FileError::Missing),
+            Stop::Fault(access) => write!(f, "{access}"),
+            Stop::BadComponent { path, error } => write!(f, "{path}: {error}"),
+            Stop::TooLarge { path, number } => write!(
+                f,
+                "{path}: {number} is more than a component can count: make the component smaller"
+            ),
+            Stop::Memory => write!(
+                f,
+                "out of memory: free some, or give the program more; components nested more than 200 deep end so too"
+            ),
+        }
+    }
 }

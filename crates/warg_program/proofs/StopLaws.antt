@@ -1,0 +1,98 @@
+-- What a stop means for the files, and when nothing but memory can be short.
+use Rattle.std.proofs.Common.{◌≡◌, ◌∙◌, ◌≤◌, inl, inr, ap, sym, subst, arith, ℕ, List, Some, None, Option, IfSome}
+use Rattle.std.proofs.lemmas.Option.{same_Some}
+use Rattle.warg_values.specs.Faults.{Rose}
+use Rattle.warg_base.specs.Files.{FileMap, file_at}
+use Rattle.wasm_compose.specs.Link.{LinkFits}
+use Rattle.warg_program.specs.World.{SeenFiles, SeenOutput, World, HasFile}
+use Rattle.warg_program.specs.Command.{Asked, Link, IsCommand}
+use Rattle.warg_program.specs.Link.{Exports, IsCause, IsWriteCause, IsPrintCause, LinkStops, LinkHolds}
+use Rattle.warg_program.specs.Run.{Does, Holds, Stops, IsDone, IsStopped, IsShortOfMemory, MayHold}
+use Rattle.warg_program.specs.declared.stop.Stop.{Stop}
+use Rattle.warg_program.specs.declared.stop.Stop.TheVariants as stop
+use Rattle.warg_program.specs.declared.stop.Access.TheVariants as access
+use Rattle.warg_program.proofs.CommandLaws.{one_root}
+
+-- what a command that was done leaves
+does_holds : (c : Asked) (before after : World) → Does c before after → Holds c before after
+does_holds (Link root out) before after d = inr (d.linked, d.is_link, inr d.written)
+
+pub holds_done : (words : List (List ℕ)) (before after : World) → IsDone words before after → MayHold words before after
+holds_done words before after d = inr (d.command, d.is_command, does_holds d.command before after d.does)
+
+-- what a command that stopped leaves
+stops_holds : (s : Stop) (c : Asked) (before after : World) → Stops s c before after → Holds c before after
+stops_holds s (Link root out) before after (inl r) = inl r.files
+stops_holds s (Link root out) before after (inr (inl o)) = inr (o.linked, o.is_link, inl o.written)
+stops_holds s (Link root out) before after (inr (inr l)) = inr (l.linked, l.is_link, inr l.written)
+
+pub holds_stopped : (s : Stop) (words : List (List ℕ)) (before after : World) → IsStopped s words before after → MayHold words before after
+holds_stopped s words before after (inl r) = inl r.files
+holds_stopped s words before after (inr c) = inr (c.command, c.is_command, stops_holds s c.command before after c.stops)
+
+no_some : {X : Type 0} (o : Option X) (x : X) → o ≡ None → o ≡ Some x → ⊥
+no_some o x missing there =
+    let nothing : IfSome o (λ _. ⊥) = rw missing tt in
+    subst (λ s. IfSome s (λ _. ⊥)) there nothing
+
+there_is : (before : SeenFiles) (held : FileMap) (root bytes others : List ℕ) → before.held ≡ Some held → file_at held root ≡ Some bytes → HasFile before root others → others ≡ bytes
+there_is before held root bytes others e is h =
+    let there = subst (λ t. IfSome t (λ files. file_at files root ≡ Some others)) e h in
+    same_Some others bytes (sym there ∙ is)
+
+-- A component that is there, has a shape and fits: so only memory was short, where no call of the files failed.
+module _ (one_names : (bytes : List ℕ) (a b : List (List ℕ)) → Exports bytes a → Exports bytes b → a ≡ b) (held : FileMap) (bytes : List ℕ) (names : List (List ℕ)) (x : Exports bytes names) (fits : LinkFits bytes names) where
+  cause_short : (s : Stop) (root out : List ℕ) (before after : SeenFiles) → before.held ≡ Some held → file_at held root ≡ Some bytes → (Rose before.faults after.faults → ⊥) → IsCause s root out before after → IsShortOfMemory s
+  cause_short stop.Usage root out before after e is none h = absurd h
+  cause_short (stop.Missing path) root out before after e is none h =
+      absurd (no_some (file_at held root) bytes (subst (λ t. IfSome t (λ files. file_at files root ≡ None)) e h.1) is)
+  cause_short (stop.Fault (access.Read path)) root out before after e is none h = absurd (none h.1)
+  cause_short (stop.Fault (access.Written path)) root out before after e is none h = absurd h
+  cause_short (stop.Fault access.Printed) root out before after e is none h = absurd h
+  cause_short (stop.BadComponent path error) root out before after e is none h =
+      absurd (h.1.3 names (subst (λ others. Exports others names) (sym (there_is before held root bytes h.1.0 e is h.1.1)) x))
+  cause_short (stop.TooLarge path number) root out before after e is none h =
+      let refused = h.2 in
+      let same = there_is before held root bytes refused.0 e is refused.2 in
+      let there = subst (λ others. Exports others refused.1) same refused.3 in
+      let named = one_names bytes refused.1 names there x in
+      absurd (refused.4 (subst (λ others. LinkFits others refused.1) (sym same) (subst (λ others. LinkFits bytes others) (sym named) fits)))
+  cause_short stop.Memory root out before after e is none h = tt
+
+  write_short : (s : Stop) (out : List ℕ) (before after : SeenFiles) → (Rose before.faults after.faults → ⊥) → IsWriteCause s out before after → IsShortOfMemory s
+  write_short stop.Usage out before after none h = absurd h
+  write_short (stop.Missing path) out before after none h = absurd h
+  write_short (stop.Fault (access.Read path)) out before after none h = absurd h
+  write_short (stop.Fault (access.Written path)) out before after none h = absurd (none h.1)
+  write_short (stop.Fault access.Printed) out before after none h = absurd h
+  write_short (stop.BadComponent path error) out before after none h = absurd h
+  write_short (stop.TooLarge path number) out before after none h = absurd h
+  write_short stop.Memory out before after none h = tt
+
+  print_short : (s : Stop) (before after : SeenOutput) → (Rose before.faults after.faults → ⊥) → IsPrintCause s before after → IsShortOfMemory s
+  print_short stop.Usage before after none h = absurd h
+  print_short (stop.Missing path) before after none h = absurd h
+  print_short (stop.Fault (access.Read path)) before after none h = absurd h
+  print_short (stop.Fault (access.Written path)) before after none h = absurd h
+  print_short (stop.Fault access.Printed) before after none h = absurd (none h)
+  print_short (stop.BadComponent path error) before after none h = absurd h
+  print_short (stop.TooLarge path number) before after none h = absurd h
+  print_short stop.Memory before after none h = tt
+
+  link_short : (s : Stop) (root out : List ℕ) (before after : World) → before.files.held ≡ Some held → file_at held root ≡ Some bytes → (Rose before.files.faults after.files.faults → ⊥) → (Rose before.output.faults after.output.faults → ⊥) → LinkStops s root out before after → IsShortOfMemory s
+  link_short s root out before after e is files output (inl r) = cause_short s root out before.files after.files e is files r.cause
+  link_short s root out before after e is files output (inr (inl o)) = write_short s out before.files after.files files o.cause
+  link_short s root out before after e is files output (inr (inr l)) = print_short s before.output after.output output l.cause
+
+  command_short : (s : Stop) (words : List (List ℕ)) (c : Asked) (root out : List ℕ) (before after : World) → IsCommand words c → IsCommand words (Link root out) → before.files.held ≡ Some held → file_at held root ≡ Some bytes → (Rose before.files.faults after.files.faults → ⊥) → (Rose before.output.faults after.output.faults → ⊥) → Stops s c before after → IsShortOfMemory s
+  command_short s words (Link other last) root out before after is_command asked e is files output h =
+      let same = one_root words root out other last asked is_command in
+      link_short s other last before after e (ap (file_at held) (sym same) ∙ is) files output h
+
+  pub short_of_memory : (s : Stop) (words : List (List ℕ)) (root out : List ℕ) (before after : World) → IsCommand words (Link root out) → before.files.held ≡ Some held → file_at held root ≡ Some bytes → (Rose before.files.faults after.files.faults → ⊥) → (Rose before.output.faults after.output.faults → ⊥) → IsStopped s words before after → IsShortOfMemory s
+  short_of_memory s words root out before after asked e is files output (inl r) = absurd (r.no_command (Link root out) asked)
+  short_of_memory s words root out before after asked e is files output (inr c) = command_short s words c.command root out before after c.is_command asked e is files output c.stops
+
+-- a count that rose stays risen
+pub rose_later : (old mid new : ℕ) → mid ≤ new → Rose old mid → Rose old new
+rose_later old mid new le rose = omega (arith, le, rose)

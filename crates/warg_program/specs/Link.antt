@@ -1,0 +1,103 @@
+-- The command `link ROOT OUT`: what it does, and why it stops.
+use Rattle.std.specs.Prelude.{◌≡◌, ◌⊎◌, ◌≤◌, ◌^◌, ℕ, List, ◌++◌, length, map, codes, decimal, Some}
+use Rattle.hex.specs.Hex.{encode_lower}
+use Rattle.sha2.specs.Sha256.{sha256}
+use Rattle.warg_values.specs.Faults.{Rose}
+use Rattle.comp_format.specs.Items.{ItemTree}
+use Rattle.comp_encoder.specs.Writing.{component_text}
+use Rattle.comp_shape.specs.FirstForm.{InFirstForm}
+use Rattle.comp_shape.specs.Shape.{ShapeTree, shape}
+use Rattle.wasm_compose.specs.Component.{IsRefused}
+use Rattle.wasm_compose.specs.Link.{IsLinked, LinkFits, link_items, singles}
+use Rattle.warg_program.specs.World.{SeenFiles, SeenOutput, World, HasFile, HasNoFile, SameFiles, Writes, WritesPartly, PrintsNothing, Prints, PrintsPartly}
+use Rattle.warg_program.specs.declared.stop.Stop.{Stop}
+use Rattle.warg_program.specs.declared.stop.Stop.TheVariants as stop
+use Rattle.warg_program.specs.declared.stop.Access.{Access}
+use Rattle.warg_program.specs.declared.stop.Access.TheVariants as access
+
+-- the line of a link: how many bytes it has, and their SHA-256
+abbrev pub done_line : List ℕ → List ℕ
+done_line linked = codes "bytes " ++ decimal (length linked) ++ codes " " ++ encode_lower (sha256 linked) ++ codes "\n"
+
+-- the bytes are a component of the first form, with a shape that exports these names
+pub record Exports (bytes : List ℕ) (names : List (List ℕ)) : Type 0 where
+  pub items : List ItemTree
+  pub form : InFirstForm bytes items
+  pub tree : ShapeTree
+  pub shape_is : shape items ≡ Some tree
+  pub names_are : names ≡ map (λ e. e.0) tree.exports
+
+-- The bytes have exactly one reading, whose image makes one instance of ROOT, without arguments and imports, and exports
+-- what ROOT does. They are the shortest text of these items.
+pub record IsLinkOf (before : SeenFiles) (root linked : List ℕ) : Type 0 where
+  pub bytes : List ℕ
+  pub names : List (List ℕ)
+  pub there : HasFile before root bytes
+  pub exports : Exports bytes names
+  pub is_linked : IsLinked bytes names linked
+  pub text : linked ≡ component_text (singles (link_items bytes names))
+
+-- ROOT was linked into OUT, and the line of that was printed.
+pub record LinkDone (root out : List ℕ) (before after : World) : Type 0 where
+  pub linked : List ℕ
+  pub is_link : IsLinkOf before.files root linked
+  pub written : Writes before after out linked
+  pub printed : Prints before after (done_line linked)
+
+-- why ROOT was not linked
+abbrev pub IsCause : Stop → (root out : List ℕ) → (before after : SeenFiles) → Type 0
+IsCause stop.Usage root out before after = ⊥
+IsCause (stop.Missing path) root out before after = (path.now ≡ root) × HasNoFile before root
+IsCause (stop.Fault (access.Read path)) root out before after = (path.now ≡ root) × Rose before.faults after.faults
+IsCause (stop.Fault (access.Written path)) root out before after = ⊥
+IsCause (stop.Fault access.Printed) root out before after = ⊥
+IsCause (stop.BadComponent path error) root out before after =
+    (path.now ≡ root)
+    × ((bytes : List ℕ) × HasFile before root bytes × IsRefused error bytes × ((names : List (List ℕ)) → Exports bytes names → ⊥))
+IsCause (stop.TooLarge path number) root out before after =
+    (path.now ≡ out) × (2 ^ 32 ≤ number)
+    × ((bytes : List ℕ) × (names : List (List ℕ)) × HasFile before root bytes × Exports bytes names × (LinkFits bytes names → ⊥))
+IsCause stop.Memory root out before after = Unit {0}
+
+-- why OUT was not written whole
+abbrev pub IsWriteCause : Stop → (out : List ℕ) → (before after : SeenFiles) → Type 0
+IsWriteCause (stop.Fault (access.Written path)) out before after = (path.now ≡ out) × Rose before.faults after.faults
+IsWriteCause stop.Memory out before after = Unit {0}
+IsWriteCause _ out before after = ⊥
+
+-- why the line of a link was not printed whole
+abbrev pub IsPrintCause : Stop → (before after : SeenOutput) → Type 0
+IsPrintCause (stop.Fault access.Printed) before after = Rose before.faults after.faults
+IsPrintCause stop.Memory before after = Unit {0}
+IsPrintCause _ before after = ⊥
+
+-- The link stopped before OUT was written: nothing was done.
+pub record StopsAtRoot (s : Stop) (root out : List ℕ) (before after : World) : Type 0 where
+  pub cause : IsCause s root out before.files after.files
+  pub files : SameFiles before after
+  pub printed : PrintsNothing before after
+
+-- The link stopped while OUT was written.
+pub record StopsAtOut (s : Stop) (root out : List ℕ) (before after : World) : Type 0 where
+  pub linked : List ℕ
+  pub is_link : IsLinkOf before.files root linked
+  pub cause : IsWriteCause s out before.files after.files
+  pub written : WritesPartly before after out linked
+  pub printed : PrintsNothing before after
+
+-- The link stopped while its line was printed: OUT is written.
+pub record StopsAtLine (s : Stop) (root out : List ℕ) (before after : World) : Type 0 where
+  pub linked : List ℕ
+  pub is_link : IsLinkOf before.files root linked
+  pub cause : IsPrintCause s before.output after.output
+  pub written : Writes before after out linked
+  pub printed : PrintsPartly before after (done_line linked)
+
+abbrev pub LinkStops : Stop → (root out : List ℕ) → (before after : World) → Type 0
+LinkStops s root out before after = StopsAtRoot s root out before after ⊎ (StopsAtOut s root out before after ⊎ StopsAtLine s root out before after)
+
+-- No file changed, or OUT has the bytes that link ROOT or a front of these, and each other file is as it was.
+abbrev pub LinkHolds : (root out : List ℕ) → (before after : World) → Type 0
+LinkHolds root out before after =
+    SameFiles before after
+    ⊎ ((linked : List ℕ) × IsLinkOf before.files root linked × (WritesPartly before after out linked ⊎ Writes before after out linked))

@@ -1,0 +1,153 @@
+//! A run of the program.
+
+ghost use Rattle.std.specs.Prelude.{◌≡◌, ◌≤◌, ◌⊎◌, ℕ, List, Some, map, IfErr, OnOk, string_bytes};
+ghost use Rattle.warg_values.specs.Faults.{Rose};
+ghost use Rattle.warg_base.specs.Files.{FileMap, file_at};
+ghost use Rattle.wasm_compose.specs.Link.{LinkFits};
+ghost use Rattle.warg_program.specs.World.{seen_files, seen_output, world};
+ghost use Rattle.warg_program.specs.Command.{Link, IsCommand};
+ghost use Rattle.warg_program.specs.Link.{Exports};
+ghost use Rattle.warg_program.specs.Run.{IsDone, IsShortOfMemory, IsStop, IsStopped, MayHold};
+ghost use Rattle.warg_program.specs.Stop.{status_of};
+ghost use Rattle.warg_program.specs.declared.stop.Stop.{Stop as AnyStop};
+
+use crate::command::{Command, command_of};
+use crate::lines::refuse;
+use crate::link::link;
+use crate::stop::Stop;
+use std::alloc::Global;
+use warg_base::{Files, Out};
+
+/// Does what the words ask for. The line of a stop is not printed yet.
+fn perform<'a, F: Files, O: Out>(
+    alloc: Global,
+    words: &'a [String],
+    files: &mut F,
+    out: &mut O,
+) -> Result<(), Stop<'a>>
+    ensures files_never_fall { F.faults files.old ≤ F.faults files.new }
+    ensures out_never_falls { O.faults out.old ≤ O.faults out.new }
+    ensures done { let before = world
+        (seen_files (F.told files.old) (F.faults files.old))
+        (seen_output (O.told out.old) (O.faults out.old)) in
+        let after = world
+        (seen_files (F.told files.new) (F.faults files.new))
+        (seen_output (O.told out.new) (O.faults out.new)) in
+        OnOk result (IsDone (map string_bytes words.now) before after) }
+    ensures stopped { let before = world
+        (seen_files (F.told files.old) (F.faults files.old))
+        (seen_output (O.told out.old) (O.faults out.old)) in
+        let after = world
+        (seen_files (F.told files.new) (F.faults files.new))
+        (seen_output (O.told out.new) (O.faults out.new)) in
+        IfErr result (λ stop. IsStopped stop (map string_bytes words.now) before after) }
+{
+    match command_of(words) {
+        None => Err(Stop::Usage),
+        Some(Command::Link { root, out: path }) => link(alloc, files, out, root, path),
+    }
+}
+
+/// What [`run`] does, with the cause where it stops.
+///
+/// `Ok` stands for the status 0, and a stop for its [`Stop::status`].
+pub fn outcome<'a, F: Files, O: Out>(
+    alloc: Global,
+    words: &'a [String],
+    files: &mut F,
+    out: &mut O,
+) -> Result<(), Stop<'a>>
+    ensures files_never_fall { F.faults files.old ≤ F.faults files.new }
+    ensures out_never_falls { O.faults out.old ≤ O.faults out.new }
+    ensures done { let before = world
+        (seen_files (F.told files.old) (F.faults files.old))
+        (seen_output (O.told out.old) (O.faults out.old)) in
+        let after = world
+        (seen_files (F.told files.new) (F.faults files.new))
+        (seen_output (O.told out.new) (O.faults out.new)) in
+        OnOk result (IsDone (map string_bytes words.now) before after) }
+    ensures stopped { let before = world
+        (seen_files (F.told files.old) (F.faults files.old))
+        (seen_output (O.told out.old) (O.faults out.old)) in
+        let after = world
+        (seen_files (F.told files.new) (F.faults files.new))
+        (seen_output (O.told out.new) (O.faults out.new)) in
+        IfErr result (λ stop. IsStop stop (map string_bytes words.now) before after) }
+    ensures holds { let before = world
+        (seen_files (F.told files.old) (F.faults files.old))
+        (seen_output (O.told out.old) (O.faults out.old)) in
+        let after = world
+        (seen_files (F.told files.new) (F.faults files.new))
+        (seen_output (O.told out.new) (O.faults out.new)) in
+        MayHold (map string_bytes words.now) before after }
+    ensures complete { (root path : List ℕ) → (held : FileMap) → (bytes : List ℕ) → (names : List (List ℕ))
+        → IsCommand (map string_bytes words.now) (Link root path)
+        → F.told files.old ≡ Some held → file_at held root ≡ Some bytes
+        → Exports bytes names → LinkFits bytes names
+        → (Rose (F.faults files.old) (F.faults files.new) → ⊥) → (Rose (O.faults out.old) (O.faults out.new) → ⊥)
+        → IfErr result IsShortOfMemory }
+{
+    match perform(alloc, words, files, out) {
+        Ok(()) => Ok(()),
+        Err(stop) => {
+            refuse(alloc, out, &stop);
+            Err(stop)
+        }
+    }
+}
+
+/// Runs the command that the words are, and gives the exit status of the program.
+///
+/// `link ROOT OUT` reads the component in the file ROOT and writes, into the file OUT, the component that nests it, makes
+/// one instance of it and exports that instance's exports. The line `bytes LENGTH HEX` tells how many bytes OUT has, and
+/// their SHA-256 in lower case. All other words are none of the commands.
+///
+/// | status | line | cause |
+/// |---|---|---|
+/// | 0 | `bytes LENGTH HEX` | OUT is written |
+/// | 2 | `usage` | the words are no command |
+/// | 3 | `missing PATH` | there is no file ROOT |
+/// | 4 | `fault` | the files failed, or the output did at the line of status 0 |
+/// | 6 | `refused BadComponent` | ROOT is no component of the first form, or has no shape |
+/// | 6 | `refused TooLarge` | a length, a count or an index of OUT would be above 2^32 - 1 |
+/// | 7 | `memory` | no memory was left |
+///
+/// With the statuses 2, 3 and 6 no file changes. With 4 and 7 OUT is as it was, holds a front of the new bytes, or is
+/// written whole where its line was not printed. A line that tells of a stop and that the output does not take changes no
+/// status.
+pub fn run<F: Files, O: Out>(alloc: Global, words: &[String], files: &mut F, out: &mut O) -> u8
+    ensures files_never_fall { F.faults files.old ≤ F.faults files.new }
+    ensures out_never_falls { O.faults out.old ≤ O.faults out.new }
+    ensures done { let before = world
+        (seen_files (F.told files.old) (F.faults files.old))
+        (seen_output (O.told out.old) (O.faults out.old)) in
+        let after = world
+        (seen_files (F.told files.new) (F.faults files.new))
+        (seen_output (O.told out.new) (O.faults out.new)) in
+        result ≡ 0 → IsDone (map string_bytes words.now) before after }
+    ensures stopped { let before = world
+        (seen_files (F.told files.old) (F.faults files.old))
+        (seen_output (O.told out.old) (O.faults out.old)) in
+        let after = world
+        (seen_files (F.told files.new) (F.faults files.new))
+        (seen_output (O.told out.new) (O.faults out.new)) in
+        (result ≡ 0 → ⊥) → (stop : AnyStop) × (result ≡ status_of stop) × IsStop stop (map string_bytes words.now) before after }
+    ensures holds { let before = world
+        (seen_files (F.told files.old) (F.faults files.old))
+        (seen_output (O.told out.old) (O.faults out.old)) in
+        let after = world
+        (seen_files (F.told files.new) (F.faults files.new))
+        (seen_output (O.told out.new) (O.faults out.new)) in
+        MayHold (map string_bytes words.now) before after }
+    ensures complete { (root path : List ℕ) → (held : FileMap) → (bytes : List ℕ) → (names : List (List ℕ))
+        → IsCommand (map string_bytes words.now) (Link root path)
+        → F.told files.old ≡ Some held → file_at held root ≡ Some bytes
+        → Exports bytes names → LinkFits bytes names
+        → (Rose (F.faults files.old) (F.faults files.new) → ⊥) → (Rose (O.faults out.old) (O.faults out.new) → ⊥)
+        → (result ≡ 0) ⊎ (result ≡ 7) }
+{
+    match outcome(alloc, words, files, out) {
+        Ok(()) => 0,
+        Err(stop) => stop.status(),
+    }
+}
