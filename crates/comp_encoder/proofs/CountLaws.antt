@@ -14,14 +14,14 @@ use Rattle.comp_format.specs.Items.{ItemTree}
 use Rattle.comp_format.specs.Sections.{Section, ContentForm, section_id, section_items}
 use Rattle.comp_format.specs.Spaces.{core_space, space_of}
 use Rattle.comp_encoder.specs.Builder.{Kept, Item, Whole, IsKept, IsBuilt, IsBytesOf, item_of, entry_of, entries_of}
-use Rattle.comp_encoder.specs.Writing.{Entry, Single, RawSection, items_of, item_sort, numbers, numbered, next_index}
-use Rattle.comp_encoder.proofs.GroupLaws.{entries_append}
+use Rattle.comp_encoder.specs.Writing.{Entry, Single, GivenSection, items_of, item_sort, numbers, numbered, next_index}
+use Rattle.comp_encoder.proofs.SectionLaws.{entries_append}
 use Rattle.comp_encoder.proofs.RawLaws.{section_read, section_kept}
 
 pub items_append : (front back : List Entry) → items_of (front ++ back) ≡ items_of front ++ items_of back
 items_append [] back = refl
 items_append (Single item ∷ front) back = ap (λ (l : List ItemTree). item ∷ l) (items_append front back)
-items_append (RawSection id content items ∷ front) back = ap (λ (l : List ItemTree). items ++ l) (items_append front back) ∙ sym (append_assoc items (items_of front) (items_of back))
+items_append (GivenSection id content items ∷ front) back = ap (λ (l : List ItemTree). items ++ l) (items_append front back) ∙ sym (append_assoc items (items_of front) (items_of back))
 
 pub next_append : (kind : Sort) (front back : List Entry) → next_index kind (front ++ back) ≡ next_index kind front + next_index kind back
 next_append kind front back = ap (count_by (λ item. numbers (space_of kind) (item_sort item))) (items_append front back) ∙ sum_by-append _ (items_of front) (items_of back)
@@ -139,6 +139,6 @@ pub none_entries : entries_of [] ≡ []
 unfolding entries_of
 none_entries = refl
 
-pub entries_section : (ks : List Kept) (id : ℕ) (content : List ℕ) (s : Section) → section_id s ≡ id → ContentForm s content → entries_of (ks ++ Whole id content ∷ []) ≡ entries_of ks ++ RawSection id content (section_items s) ∷ []
+pub entries_section : (ks : List Kept) (id : ℕ) (content : List ℕ) (s : Section) → section_id s ≡ id → ContentForm s content → entries_of (ks ++ Whole id content ∷ []) ≡ entries_of ks ++ GivenSection id content (section_items s) ∷ []
 unfolding entries_of entry_of
-entries_section ks id content s id_is form = entries_append ks (Whole id content ∷ []) ∙ ap (λ (items : List ItemTree). entries_of ks ++ RawSection id content items ∷ []) (section_read id content s id_is form)
+entries_section ks id content s id_is form = entries_append ks (Whole id content ∷ []) ∙ ap (λ (items : List ItemTree). entries_of ks ++ GivenSection id content items ∷ []) (section_read id content s id_is form)

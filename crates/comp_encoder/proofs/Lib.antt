@@ -3,7 +3,7 @@ pub mod LargestLaws
 pub mod TypeLaws
 pub mod DeclLaws
 pub mod WritingLaws
-pub mod GroupLaws
+pub mod SectionLaws
 pub mod KeepLaws
 pub mod RawLaws
 pub mod CountLaws

@@ -26,7 +26,7 @@ use Rattle.comp_format.proofs.DefinitionLaws.{definition_written}
 use Rattle.comp_format.proofs.CanonLaws.{canon_written}
 use Rattle.comp_format.proofs.ItemLaws.{import_written, export_written}
 use Rattle.comp_encoder.specs.Builder.{IsContentOf}
-use Rattle.comp_encoder.specs.Writing.{Entry, Single, RawSection, Group, IsShort, items_of, item_id, item_text, is_shared, is_plain, alone, joins, joined, groups_of, content_text, group_text, component_text}
+use Rattle.comp_encoder.specs.Writing.{Entry, Single, GivenSection, WrittenSection, IsShort, items_of, item_id, item_text, is_shared, is_plain, alone, joins, joined, sections_of, content_text, section_text, component_text}
 
 -- the pieces of a list's images
 flat_map-map : {X Y : Type 0} (f : Y → List ℕ) (g : X → Y) (xs : List X) → flat_map f (map g xs) ≡ flat_map (λ x. f (g x)) xs
@@ -40,7 +40,7 @@ vector_text-map f g xs = ap (λ n. number_text n ++ flat_map f (map g xs)) (leng
 -- ---- the section of a group
 
 -- the section of a group, before it is known that its count can be written
-record IsSection (g : Group) (s : Section) : Type 0 where
+record IsSection (g : WrittenSection) (s : Section) : Type 0 where
   items : section_items s ≡ g.items
   id : section_id s ≡ g.id
   form : length g.items < 2 ^ 32 → ContentForm s (content_text g)
@@ -52,7 +52,7 @@ held_fit Fits item same [] fit = tt
 held_fit Fits item same (x ∷ xs) fit = (same x fit.0, held_fit Fits item same xs fit.1)
 
 -- items that share a section
-abbrev sharing : ℕ → List ItemTree → Group
+abbrev sharing : ℕ → List ItemTree → WrittenSection
 sharing id items = record { id = id; items = items; raw = None }
 
 -- a vector of items of one kind is a section
@@ -120,7 +120,7 @@ alone_is (Import item) fits = (Imports (item ∷ []), of_imports (item ∷ []) (
 alone_is (Export item) fits = (Exports (item ∷ []), of_exports (item ∷ []) (fits, tt))
 
 -- what joins a section is of its kind, and the section is shared
-pub record Joins (item : ItemTree) (g : Group) : Type 0 where
+pub record Joins (item : ItemTree) (g : WrittenSection) : Type 0 where
   pub same : item_id item ≡ g.id
   pub shared : is_shared g.id ≡ true
   pub open_is : g.raw ≡ None
@@ -133,7 +133,7 @@ is_none-true : {X : Type 0} (o : Option X) → is_none o ≡ true → o ≡ None
 is_none-true None e = refl
 is_none-true (Some x) e = absurd cc
 
-pub joins_is : (item : ItemTree) (g : Group) → joins item g ≡ true → Joins item g
+pub joins_is : (item : ItemTree) (g : WrittenSection) → joins item g ≡ true → Joins item g
 joins_is item g e =
     let outer = and_true (eqb (item_id item) g.id && is_shared g.id) (is_none g.raw) e in
     let inner = and_true (eqb (item_id item) g.id) (is_shared g.id) outer.0 in
@@ -141,10 +141,10 @@ joins_is item g e =
 
 -- an item more in front of others of its kind
 module _ {X : Type 0} (item : X → ItemTree) (id : ℕ) (made : List X → Section) (form : (xs : List X) → AllByRecursion FitsItem (map item xs) → IsSection (sharing id (map item xs)) (made xs)) where
-  grown : (g : Group) (x : X) (xs : List X) → map item xs ≡ g.items → id ≡ g.id → g.raw ≡ None → AllByRecursion FitsItem g.items → FitsItem (item x) → IsSection (record { id = g.id; items = item x ∷ g.items; raw = g.raw }) (made (x ∷ xs))
+  grown : (g : WrittenSection) (x : X) (xs : List X) → map item xs ≡ g.items → id ≡ g.id → g.raw ≡ None → AllByRecursion FitsItem g.items → FitsItem (item x) → IsSection (record { id = g.id; items = item x ∷ g.items; raw = g.raw }) (made (x ∷ xs))
   grown g x xs items_are id_is open_is fit fits =
-      let group_is : (sharing id (map item (x ∷ xs))) ≡ (record { id = g.id; items = item x ∷ g.items; raw = g.raw }) = λ i. record { id = id_is i; items = item x ∷ items_are i; raw = sym open_is i } in
-      subst (λ (k : Group). IsSection k (made (x ∷ xs))) group_is (form (x ∷ xs) (fits, subst (AllByRecursion FitsItem) (sym items_are) fit))
+      let section_is : (sharing id (map item (x ∷ xs))) ≡ (record { id = g.id; items = item x ∷ g.items; raw = g.raw }) = λ i. record { id = id_is i; items = item x ∷ items_are i; raw = sym open_is i } in
+      subst (λ (k : WrittenSection). IsSection k (made (x ∷ xs))) section_is (form (x ∷ xs) (fits, subst (AllByRecursion FitsItem) (sym items_are) fit))
 
 shut : {P : Type 0} → false ≡ true → P
 shut e = absurd cc
@@ -152,7 +152,7 @@ shut e = absurd cc
 unshared : (id k : ℕ) → id ≡ k → is_shared k ≡ true → is_shared id ≡ true
 unshared id k e shared = subst (λ n. is_shared n ≡ true) (sym e) shared
 
-one_more : (item : ItemTree) (g : Group) (s : Section) → IsSection g s → Joins item g → FitsItem item → (t : Section) × IsSection (record { id = g.id; items = item ∷ g.items; raw = g.raw }) t
+one_more : (item : ItemTree) (g : WrittenSection) (s : Section) → IsSection g s → Joins item g → FitsItem item → (t : Section) × IsSection (record { id = g.id; items = item ∷ g.items; raw = g.raw }) t
 one_more item g (Named name bytes) h j fits = shut (unshared 0 g.id h.id j.shared)
 one_more item g (CoreModules bytes) h j fits = shut (unshared 1 g.id h.id j.shared)
 one_more item g (CoreInstances xs) h j fits = shut (unshared 2 g.id h.id j.shared)
@@ -176,14 +176,14 @@ one_more item g (Exports xs) h j fits = absurd (omega (arith, h.id, j.same))
 -- an item that fits, or the content of a section
 abbrev pub FitsEntry : Entry → Type 0
 FitsEntry (Single item) = FitsItem item
-FitsEntry (RawSection id content items) = IsContentOf items id content
+FitsEntry (GivenSection id content items) = IsContentOf items id content
 
 -- each group is a section
-abbrev AreSections : List Group → Type 0
+abbrev AreSections : List WrittenSection → Type 0
 AreSections [] = Unit {0}
 AreSections (g ∷ gs) = ((s : Section) × IsSection g s) × AreSections gs
 
-joined_sections : (item : ItemTree) (gs : List Group) → FitsItem item → AreSections gs → AreSections (joined item gs)
+joined_sections : (item : ItemTree) (gs : List WrittenSection) → FitsItem item → AreSections gs → AreSections (joined item gs)
 joined_sections item [] fits h = (alone_is item fits, tt)
 joined_sections item (g ∷ gs) fits h =
     elim (cases_Bool (joins item g)) [
@@ -192,17 +192,17 @@ joined_sections item (g ∷ gs) fits h =
       | inr apart ↦ subst (λ (t : Bool). AreSections (cond t (record { id = g.id; items = item ∷ g.items; raw = g.raw } ∷ gs) (alone item ∷ g ∷ gs))) (sym apart) (alone_is item fits, h)
     ]
 
-groups_sections : (entries : List Entry) → AllByRecursion FitsEntry entries → AreSections (groups_of entries)
-groups_sections [] fit = tt
-groups_sections (Single item ∷ entries) fit = joined_sections item (groups_of entries) fit.0 (groups_sections entries fit.1)
-groups_sections (RawSection id content items ∷ entries) fit =
+sections_sections : (entries : List Entry) → AllByRecursion FitsEntry entries → AreSections (sections_of entries)
+sections_sections [] fit = tt
+sections_sections (Single item ∷ entries) fit = joined_sections item (sections_of entries) fit.0 (sections_sections entries fit.1)
+sections_sections (GivenSection id content items ∷ entries) fit =
     let is = fit.0 in
-    ((is.section, record { items = is.items_are; id = is.id_is; form = λ _. is.form; fit = λ e. absurd (raw_is e) }), groups_sections entries fit.1)
+    ((is.section, record { items = is.items_are; id = is.id_is; form = λ _. is.form; fit = λ e. absurd (raw_is e) }), sections_sections entries fit.1)
   where
     raw_is : Some content ≡ None → ⊥
     raw_is e = cc
 
-joined_items : (item : ItemTree) (gs : List Group) → flat_map (λ g. g.items) (joined item gs) ≡ item ∷ flat_map (λ g. g.items) gs
+joined_items : (item : ItemTree) (gs : List WrittenSection) → flat_map (λ g. g.items) (joined item gs) ≡ item ∷ flat_map (λ g. g.items) gs
 joined_items item [] = refl
 joined_items item (g ∷ gs) =
     elim (joins item g) as (λ (t : Bool). flat_map (λ k. k.items) (cond t (record { id = g.id; items = item ∷ g.items; raw = g.raw } ∷ gs) (alone item ∷ g ∷ gs)) ≡ item ∷ flat_map (λ k. k.items) (g ∷ gs)) [
@@ -210,22 +210,22 @@ joined_items item (g ∷ gs) =
       | false ↦ refl
     ]
 
--- the groups hold the items in order
-groups_items : (entries : List Entry) → flat_map (λ g. g.items) (groups_of entries) ≡ items_of entries
-groups_items [] = refl
-groups_items (Single item ∷ entries) = joined_items item (groups_of entries) ∙ ap (λ (l : List ItemTree). item ∷ l) (groups_items entries)
-groups_items (RawSection id content items ∷ entries) = ap (λ (l : List ItemTree). items ++ l) (groups_items entries)
+-- the sections hold the items in order
+sections_items : (entries : List Entry) → flat_map (λ g. g.items) (sections_of entries) ≡ items_of entries
+sections_items [] = refl
+sections_items (Single item ∷ entries) = joined_items item (sections_of entries) ∙ ap (λ (l : List ItemTree). item ∷ l) (sections_items entries)
+sections_items (GivenSection id content items ∷ entries) = ap (λ (l : List ItemTree). items ++ l) (sections_items entries)
 
 -- sections, written one behind the other
-sections_written : (gs : List Group) → AreSections gs → AllByRecursion IsShort gs → (ss : Sections) × (flat_map (λ g. g.items) gs ≡ items_in ss) × SectionsForm ss (flat_map group_text gs)
+sections_written : (gs : List WrittenSection) → AreSections gs → AllByRecursion IsShort gs → (ss : Sections) × (flat_map (λ g. g.items) gs ≡ items_in ss) × SectionsForm ss (flat_map section_text gs)
 sections_written [] h short = (none, refl, refl)
 sections_written (g ∷ gs) h short =
     let s = h.0.0 in
     let is = h.0.1 in
     let others = sections_written gs h.1 short.1 in
     let content = content_text g in
-    let rest = flat_map group_text gs in
-    let framed : Framed (section_id s) content (group_text g ++ rest) rest = record {
+    let rest = flat_map section_text gs in
+    let framed : Framed (section_id s) content (section_text g ++ rest) rest = record {
       counted = number_text (length content) ++ (content ++ rest);
       is_id = ap (λ n. n ∷ ((number_text (length content) ++ content) ++ rest)) (sym is.id) ∙ ap (λ (t : List ℕ). section_id s ∷ t) (append_assoc (number_text (length content)) content rest);
       after = content ++ rest;
@@ -238,10 +238,10 @@ sections_written (g ∷ gs) h short =
     )
 
 -- the bytes that are written read as the items
-pub written_reads : (entries : List Entry) → AllByRecursion FitsEntry entries → AllByRecursion IsShort (groups_of entries) → Reads (component_text entries) (items_of entries)
+pub written_reads : (entries : List Entry) → AllByRecursion FitsEntry entries → AllByRecursion IsShort (sections_of entries) → Reads (component_text entries) (items_of entries)
 written_reads entries fit short =
-    let all = sections_written (groups_of entries) (groups_sections entries fit) short in
-    (all.0, sym (groups_items entries) ∙ all.1, (flat_map group_text (groups_of entries), refl, all.2))
+    let all = sections_written (sections_of entries) (sections_sections entries fit) short in
+    (all.0, sym (sections_items entries) ∙ all.1, (flat_map section_text (sections_of entries), refl, all.2))
 
 -- a section's items can be counted
 pub items_counted : (s : Section) (content : List ℕ) → ContentForm s content → length (section_items s) < 2 ^ 32

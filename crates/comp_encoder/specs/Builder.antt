@@ -4,6 +4,7 @@ use Rattle.std.specs.List.{AllByRecursion}
 use Rattle.comp_encoder.specs.declared.built.Built.{Built}
 use Rattle.comp_encoder.specs.declared.built.Built.TheVariants as built
 use Rattle.comp_format.specs.declared.types.Sort.{Sort}
+use Rattle.comp_format.specs.SectionIds as ids
 use Rattle.comp_format.specs.Fault.{Fault}
 use Rattle.comp_format.specs.CoreTypes.{core_at}
 use Rattle.comp_format.specs.Definitions.{definition_at}
@@ -12,7 +13,7 @@ use Rattle.comp_format.specs.Items.{ItemTree, Custom, CoreTy, Component, Instanc
 use Rattle.comp_format.specs.Sections.{Section, ContentForm, section_id, section_items, content_at}
 use Rattle.comp_format.specs.Fits.{FitsItem}
 use Rattle.comp_format.specs.Spaces.{space_of}
-use Rattle.comp_encoder.specs.Writing.{Entry, Single, RawSection, Group, item_id, item_text, is_shared, next_index}
+use Rattle.comp_encoder.specs.Writing.{Entry, Single, GivenSection, WrittenSection, item_id, item_text, is_shared, next_index}
 
 -- what was added, as its bytes: an item with the id of its section, or a section
 pub data Kept : Type 0 where
@@ -34,13 +35,13 @@ read_as item (Err fault) = Custom [] []
 -- the item of these bytes, in a section of this id
 unfoldable pub item_of : ℕ → List ℕ → ItemTree
 item_of id bytes =
-    if id == 3 then read_as CoreTy (core_at (length bytes) bytes)
-    else if id == 4 then Component bytes
-    else if id == 5 then read_as Instance (instance_at bytes)
-    else if id == 6 then read_as Aliased (alias_at bytes)
-    else if id == 7 then read_as Ty (definition_at (length bytes) bytes)
-    else if id == 10 then read_as Import (import_at bytes)
-    else if id == 11 then read_as Export (export_at bytes)
+    if id == ids.core_types then read_as CoreTy (core_at (length bytes) bytes)
+    else if id == ids.component then Component bytes
+    else if id == ids.instances then read_as Instance (instance_at bytes)
+    else if id == ids.aliases then read_as Aliased (alias_at bytes)
+    else if id == ids.types then read_as Ty (definition_at (length bytes) bytes)
+    else if id == ids.imports then read_as Import (import_at bytes)
+    else if id == ids.exports then read_as Export (export_at bytes)
     else Custom [] []
 
 -- the items of a section that was read
@@ -51,7 +52,7 @@ items_read (Err fault) = []
 -- what was added
 unfoldable pub entry_of : Kept → Entry
 entry_of (Item id bytes) = Single (item_of id bytes)
-entry_of (Whole id content) = RawSection id content (items_read (content_at (length content) id content))
+entry_of (Whole id content) = GivenSection id content (items_read (content_at (length content) id content))
 
 -- what was added, in order
 unfoldable pub entries_of : List Kept → List Entry
@@ -92,14 +93,14 @@ kept_bytes (Item id bytes) = bytes
 kept_bytes (Whole id content) = content
 
 -- items that share a section of this id
-abbrev pub shared_group : ℕ → List Kept → Group
-shared_group id kepts = record { id = id; items = map (λ k. item_of id (kept_bytes k)) kepts; raw = None }
+abbrev pub shared_section : ℕ → List Kept → WrittenSection
+shared_section id kepts = record { id = id; items = map (λ k. item_of id (kept_bytes k)) kepts; raw = None }
 
 -- the section of what stands first
-abbrev pub first_group : List Kept → Group
-first_group [] = shared_group 0 []
-first_group (Item id bytes ∷ kepts) = shared_group id (Item id bytes ∷ kepts)
-first_group (Whole id content ∷ kepts) = record { id = id; items = items_read (content_at (length content) id content); raw = Some content }
+abbrev pub first_section : List Kept → WrittenSection
+first_section [] = shared_section 0 []
+first_section (Item id bytes ∷ kepts) = shared_section id (Item id bytes ∷ kepts)
+first_section (Whole id content ∷ kepts) = record { id = id; items = items_read (content_at (length content) id content); raw = Some content }
 
 -- an item of this id
 abbrev pub IsItem : ℕ → Kept → Type 0

@@ -12,6 +12,7 @@ use Rattle.comp_format.specs.declared.types.Alias.{Alias}
 use Rattle.comp_format.specs.declared.types.Alias.TheVariants as alias
 use Rattle.comp_format.specs.declared.types.Canon.{Canon}
 use Rattle.comp_format.specs.declared.types.Canon.TheVariants as canon
+use Rattle.comp_format.specs.SectionIds as ids
 use Rattle.comp_format.specs.Spaces.{space_of}
 use Rattle.comp_format.specs.Numbers.{number_text}
 use Rattle.comp_format.specs.Vectors.{vector_text, name_text}
@@ -25,27 +26,27 @@ use Rattle.comp_format.specs.Sections.{header}
 -- what is added to a component: an item, or a section as its id and content, with the items that it holds
 pub data Entry : Type 0 where
   Single : ItemTree → Entry
-  RawSection : ℕ → List ℕ → List ItemTree → Entry
+  GivenSection : ℕ → List ℕ → List ItemTree → Entry
 
 -- the items, in order
 abbrev pub items_of : List Entry → List ItemTree
 items_of [] = []
 items_of (Single item ∷ entries) = item ∷ items_of entries
-items_of (RawSection id content items ∷ entries) = items ++ items_of entries
+items_of (GivenSection id content items ∷ entries) = items ++ items_of entries
 
 -- the id of the section that holds an item
 abbrev pub item_id : ItemTree → ℕ
-item_id (Custom name bytes) = 0
-item_id (CoreModule bytes) = 1
-item_id (CoreMade item) = 2
-item_id (CoreTy item) = 3
-item_id (Component bytes) = 4
-item_id (Instance item) = 5
-item_id (Aliased item) = 6
-item_id (Ty item) = 7
-item_id (Canonical item) = 8
-item_id (Import item) = 10
-item_id (Export item) = 11
+item_id (Custom name bytes) = ids.custom
+item_id (CoreModule bytes) = ids.core_modules
+item_id (CoreMade item) = ids.core_instances
+item_id (CoreTy item) = ids.core_types
+item_id (Component bytes) = ids.component
+item_id (Instance item) = ids.instances
+item_id (Aliased item) = ids.aliases
+item_id (Ty item) = ids.types
+item_id (Canonical item) = ids.canons
+item_id (Import item) = ids.imports
+item_id (Export item) = ids.exports
 
 abbrev pub item_text : ItemTree → List ℕ
 item_text (Custom name bytes) = name_text name ++ bytes
@@ -62,64 +63,64 @@ item_text (Export item) = export_text item
 
 -- the sections that items share, and those that are no vector of items
 abbrev pub is_shared : ℕ → Bool
-is_shared id = id == 3 || id == 5 || id == 6 || id == 7 || id == 10 || id == 11
+is_shared id = id == ids.core_types || id == ids.instances || id == ids.aliases || id == ids.types || id == ids.imports || id == ids.exports
 
 abbrev pub is_plain : ℕ → Bool
-is_plain id = id == 0 || id == 1 || id == 4
+is_plain id = id == ids.custom || id == ids.core_modules || id == ids.component
 
 -- a section to be written: its id, its items, and its content where that was given
-pub record Group : Type 0 where
+pub record WrittenSection : Type 0 where
   pub id : ℕ
   pub items : List ItemTree
   pub raw : Option (List ℕ)
 
 -- the section of an item alone
-abbrev pub alone : ItemTree → Group
+abbrev pub alone : ItemTree → WrittenSection
 alone item = record { id = item_id item; items = item ∷ []; raw = None }
 
 -- whether an item shares a section
-abbrev pub joins : ItemTree → Group → Bool
+abbrev pub joins : ItemTree → WrittenSection → Bool
 joins item g = item_id item == g.id && is_shared g.id && is_none g.raw
 
 -- An item in front of sections joins the first, where it shares that, and else begins one.
-abbrev pub joined : ItemTree → List Group → List Group
+abbrev pub joined : ItemTree → List WrittenSection → List WrittenSection
 joined item [] = alone item ∷ []
 joined item (g ∷ gs) = if joins item g then record { id = g.id; items = item ∷ g.items; raw = g.raw } ∷ gs else alone item ∷ g ∷ gs
 
 -- what was added, cut into sections
-abbrev pub groups_of : List Entry → List Group
-groups_of [] = []
-groups_of (Single item ∷ entries) = joined item (groups_of entries)
-groups_of (RawSection id content items ∷ entries) = record { id = id; items = items; raw = Some content } ∷ groups_of entries
+abbrev pub sections_of : List Entry → List WrittenSection
+sections_of [] = []
+sections_of (Single item ∷ entries) = joined item (sections_of entries)
+sections_of (GivenSection id content items ∷ entries) = record { id = id; items = items; raw = Some content } ∷ sections_of entries
 
 -- the content of a section of some items
 abbrev pub items_text : ℕ → List ItemTree → List ℕ
 items_text id items = if is_plain id then flat_map item_text items else vector_text item_text items
 
 -- a section: its id, the length of its content, and the content
-abbrev pub content_text : Group → List ℕ
+abbrev pub content_text : WrittenSection → List ℕ
 content_text g = unwrap_or g.raw (items_text g.id g.items)
 
-abbrev pub group_text : Group → List ℕ
-group_text g = g.id ∷ (number_text (length (content_text g)) ++ content_text g)
+abbrev pub section_text : WrittenSection → List ℕ
+section_text g = g.id ∷ (number_text (length (content_text g)) ++ content_text g)
 
 -- the component to which this was added
 abbrev pub component_text : List Entry → List ℕ
-component_text entries = header ++ flat_map group_text (groups_of entries)
+component_text entries = header ++ flat_map section_text (sections_of entries)
 
 -- a section whose count and length can be written
-pub record IsShort (g : Group) : Type 0 where
+pub record IsShort (g : WrittenSection) : Type 0 where
   pub count : length g.items < 2 ^ 32
   pub bytes : length (content_text g) < 2 ^ 32
 
 -- the number is such a count or length, and can't be written
-pub record IsTooLong (n : ℕ) (g : Group) : Type 0 where
+pub record IsTooLong (n : ℕ) (g : WrittenSection) : Type 0 where
   pub above : 2 ^ 32 ≤ n
   pub which : (n ≡ length g.items) ⊎ (n ≡ length (content_text g))
 
 -- the number is one of some section
-abbrev pub IsTooLongAmong : ℕ → List Group → Type 0
-IsTooLongAmong n groups = (g : Group) × Contains groups g × IsTooLong n g
+abbrev pub IsTooLongAmong : ℕ → List WrittenSection → Type 0
+IsTooLongAmong n sections = (g : WrittenSection) × Contains sections g × IsTooLong n g
 
 -- What a description or a function on resources brings, and so what an item is. A custom section is in no index space.
 abbrev pub described_sort : TypeRef → Sort

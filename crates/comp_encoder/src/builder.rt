@@ -17,18 +17,19 @@ ghost use Rattle.comp_format.specs.Fits.{IsComponent};
 ghost use Rattle.comp_format.specs.Forms.{IsDefined, IsFunc, AreDecls, AreModuleDecls};
 ghost use Rattle.comp_format.specs.Spaces.{space_of};
 ghost use Rattle.comp_encoder.specs.Largest.{vector_largest, arg_largest, defined_largest, func_largest, core_largest, definition_largest};
-ghost use Rattle.comp_encoder.specs.Writing.{Single, RawSection, numbered, IsTooLongAmong, IsShort, items_of, described_sort, item_sort, groups_of, component_text, next_index};
+ghost use Rattle.comp_encoder.specs.Writing.{Single, GivenSection, numbered, IsTooLongAmong, IsShort, items_of, described_sort, item_sort, sections_of, component_text, next_index};
 ghost use Rattle.comp_encoder.specs.Builder.{IsBytesOf, IsContent, IsContentOf, item_of, entries_of};
 
 use crate::built::Built;
-use crate::groups::write_sections;
 use crate::items::{
     encode_alias_export, encode_alias_outer, encode_component, encode_component_type,
     encode_core_module, encode_defined, encode_export, encode_function, encode_import,
     encode_instance, encode_instance_type, encode_resource,
 };
-use crate::raw::{HEADER, count_section};
+use crate::raw::count_section;
+use crate::sections::write_sections;
 use crate::spaces::{described_sort, space_of};
+use comp_format::section::{self, HEADER};
 use comp_format::{
     Arg, ComponentType, CoreSort, DefinedType, EncodeError, FuncType, InstanceType, ModuleType,
     Sort, TypeRef,
@@ -36,20 +37,8 @@ use comp_format::{
 use std::alloc::Global;
 use std::marker::Model;
 
-/// The ids of the sections of core types, components, instances, aliases, types, imports and exports.
-const CORE_TYPE: u8 = 3;
-
-const COMPONENT: u8 = 4;
-
-const INSTANCE: u8 = 5;
-
-const ALIAS: u8 = 6;
-
-const TYPE: u8 = 7;
-
-const IMPORT: u8 = 10;
-
-const EXPORT: u8 = 11;
+/// How many bytes a section takes beside its items, at most.
+const FRAME: usize = 11;
 
 /// Builds a component, item by item, and writes it.
 ///
@@ -57,7 +46,9 @@ const EXPORT: u8 = 11;
 /// index space of its sort, and a refusal adds nothing.
 #[derive(Drop)]
 pub struct ComponentBuilder {
+    /// What was added, in order.
     items: Vec<Built>,
+    /// How many items each index space numbers.
     counts: [u32; 11],
 }
 
@@ -74,9 +65,6 @@ impl Model for ComponentBuilder {
     ghost invariant = { λ b. IsBuilt (kepts_of b.items.items) b.counts };
 }
 
-/// How many bytes a section takes beside its items, at most.
-const FRAME: usize = 11;
-
 impl ComponentBuilder {
     /// A component without items.
     pub fn new(alloc: Global) -> Self
@@ -91,7 +79,8 @@ impl ComponentBuilder {
     /// The index of the next item of a sort, and the size of its index space once it is added.
     fn next_of(&self, sort: Sort) -> Result<(u32, u32), EncodeError>
         ensures index { IfOk result (λ n. (n.0 ≡ next_index sort (entries_of self.now)) × (n.1 ≡ n.0 + 1)) }
-        ensures too_large { (n : ℕ) → result ≡ Err (EncodeError.TooLarge n) → (n ≡ next_index sort (entries_of self.now) + 1) × (2 ^ 32 ≤ n) }
+        ensures too_large { (n : ℕ) → result ≡ Err (EncodeError.TooLarge n)
+            → (n ≡ next_index sort (entries_of self.now) + 1) × (2 ^ 32 ≤ n) }
     {
         let index = self.counts[space_of(sort)];
         match index.checked_add(1) {
@@ -105,7 +94,8 @@ impl ComponentBuilder {
         requires bytes { IsBytesOf (item_of id bytes.items) id bytes.items }
         requires kind { item_sort (item_of id bytes.items) ≡ Some sort }
         requires next { size ≡ next_index sort (entries_of self.old) + 1 }
-        ensures added { OnOk result (entries_of self.new ≡ entries_of self.old ++ Single (item_of id bytes.items) ∷ []) }
+        ensures added { OnOk result
+            (entries_of self.new ≡ entries_of self.old ++ Single (item_of id bytes.items) ∷ []) }
         ensures unchanged { OnErr result (self.new ≡ self.old) }
         ensures err { IfErr result (λ e. e ≡ EncodeError.Memory) }
     {
@@ -137,12 +127,14 @@ impl ComponentBuilder {
         ensures index { IfOk result (λ i. i ≡ next_index sort.Component (entries_of self.old)) }
         ensures added { OnOk result (entries_of self.new ≡ entries_of self.old ++ Single (Component bytes.now) ∷ []) }
         ensures unchanged { OnErr result (self.new ≡ self.old) }
-        ensures fits { OnOk result ((length bytes.now < 2 ^ 32) × (next_index sort.Component (entries_of self.old) + 1 < 2 ^ 32)) }
-        ensures too_large { (n : ℕ) → result ≡ Err (EncodeError.TooLarge n) → (2 ^ 32 ≤ n) × ((n ≡ length bytes.now) ⊎ (n ≡ next_index sort.Component (entries_of self.old) + 1)) }
+        ensures fits { OnOk result
+            ((length bytes.now < 2 ^ 32) × (next_index sort.Component (entries_of self.old) + 1 < 2 ^ 32)) }
+        ensures too_large { (n : ℕ) → result ≡ Err (EncodeError.TooLarge n)
+            → (2 ^ 32 ≤ n) × ((n ≡ length bytes.now) ⊎ (n ≡ next_index sort.Component (entries_of self.old) + 1)) }
     {
         let (index, size) = self.next_of(Sort::Component)?;
         let bytes = encode_component(alloc, bytes)?;
-        self.add(COMPONENT, bytes, Sort::Component, size)?;
+        self.add(section::COMPONENT, bytes, Sort::Component, size)?;
         Ok(index)
     }
 
@@ -158,14 +150,21 @@ impl ComponentBuilder {
     ) -> Result<u32, EncodeError>
         requires { All (λ arg. 0 < length arg.name) args.now }
         ensures index { IfOk result (λ i. i ≡ next_index sort.Instance (entries_of self.old)) }
-        ensures added { OnOk result (entries_of self.new ≡ entries_of self.old ++ Single (Instance (instance.Instantiate component args.now)) ∷ []) }
+        ensures added { OnOk result
+            (entries_of self.new
+            ≡ entries_of self.old ++ Single (Instance (instance.Instantiate component args.now)) ∷ []) }
         ensures unchanged { OnErr result (self.new ≡ self.old) }
-        ensures fits { OnOk result ((vector_largest arg_largest args.now < 2 ^ 32) × (next_index sort.Instance (entries_of self.old) + 1 < 2 ^ 32)) }
-        ensures too_large { (n : ℕ) → result ≡ Err (EncodeError.TooLarge n) → (2 ^ 32 ≤ n) × ((n ≡ vector_largest arg_largest args.now) ⊎ (n ≡ next_index sort.Instance (entries_of self.old) + 1)) }
+        ensures fits { OnOk result
+            ((vector_largest arg_largest args.now < 2 ^ 32)
+            × (next_index sort.Instance (entries_of self.old) + 1 < 2 ^ 32)) }
+        ensures too_large { (n : ℕ) → result ≡ Err (EncodeError.TooLarge n)
+            → (2 ^ 32 ≤ n)
+            × ((n ≡ vector_largest arg_largest args.now)
+            ⊎ (n ≡ next_index sort.Instance (entries_of self.old) + 1)) }
     {
         let (index, size) = self.next_of(Sort::Instance)?;
         let bytes = encode_instance(alloc, component, args)?;
-        self.add(INSTANCE, bytes, Sort::Instance, size)?;
+        self.add(section::INSTANCE, bytes, Sort::Instance, size)?;
         Ok(index)
     }
 
@@ -182,14 +181,16 @@ impl ComponentBuilder {
     ) -> Result<u32, EncodeError>
         requires { 0 < length name.now }
         ensures index { IfOk result (λ i. i ≡ next_index sort (entries_of self.old)) }
-        ensures added { OnOk result (entries_of self.new ≡ entries_of self.old ++ Single (Aliased (alias.Export sort instance name.now)) ∷ []) }
+        ensures added { OnOk result
+            (entries_of self.new ≡ entries_of self.old ++ Single (Aliased (alias.Export sort instance name.now)) ∷ []) }
         ensures unchanged { OnErr result (self.new ≡ self.old) }
         ensures fits { OnOk result ((length name.now < 2 ^ 32) × (next_index sort (entries_of self.old) + 1 < 2 ^ 32)) }
-        ensures too_large { (n : ℕ) → result ≡ Err (EncodeError.TooLarge n) → (2 ^ 32 ≤ n) × ((n ≡ length name.now) ⊎ (n ≡ next_index sort (entries_of self.old) + 1)) }
+        ensures too_large { (n : ℕ) → result ≡ Err (EncodeError.TooLarge n)
+            → (2 ^ 32 ≤ n) × ((n ≡ length name.now) ⊎ (n ≡ next_index sort (entries_of self.old) + 1)) }
     {
         let (index, size) = self.next_of(sort)?;
         let bytes = encode_alias_export(alloc, instance, name, sort)?;
-        self.add(ALIAS, bytes, sort, size)?;
+        self.add(section::ALIAS, bytes, sort, size)?;
         Ok(index)
     }
 
@@ -206,14 +207,16 @@ impl ComponentBuilder {
     ) -> Result<u32, EncodeError>
         requires { is_outer sort ≡ true }
         ensures index { IfOk result (λ i. i ≡ next_index sort (entries_of self.old)) }
-        ensures added { OnOk result (entries_of self.new ≡ entries_of self.old ++ Single (Aliased (alias.Outer sort count index)) ∷ []) }
+        ensures added { OnOk result
+            (entries_of self.new ≡ entries_of self.old ++ Single (Aliased (alias.Outer sort count index)) ∷ []) }
         ensures unchanged { OnErr result (self.new ≡ self.old) }
         ensures fits { OnOk result (next_index sort (entries_of self.old) + 1 < 2 ^ 32) }
-        ensures too_large { (n : ℕ) → result ≡ Err (EncodeError.TooLarge n) → (2 ^ 32 ≤ n) × (n ≡ next_index sort (entries_of self.old) + 1) }
+        ensures too_large { (n : ℕ) → result ≡ Err (EncodeError.TooLarge n)
+            → (2 ^ 32 ≤ n) × (n ≡ next_index sort (entries_of self.old) + 1) }
     {
         let (place, size) = self.next_of(sort)?;
         let bytes = encode_alias_outer(alloc, count, index, sort)?;
-        self.add(ALIAS, bytes, sort, size)?;
+        self.add(section::ALIAS, bytes, sort, size)?;
         Ok(place)
     }
 
@@ -224,15 +227,20 @@ impl ComponentBuilder {
     pub fn import(&mut self, alloc: Global, name: &str, ty: &TypeRef) -> Result<u32, EncodeError>
         requires { 0 < length name.now }
         ensures index { IfOk result (λ i. i ≡ next_index (described_sort ty.now) (entries_of self.old)) }
-        ensures added { OnOk result (entries_of self.new ≡ entries_of self.old ++ Single (Import (record { name = name.now; ty = ty.now })) ∷ []) }
+        ensures added { OnOk result
+            (entries_of self.new
+            ≡ entries_of self.old ++ Single (Import (record { name = name.now; ty = ty.now })) ∷ []) }
         ensures unchanged { OnErr result (self.new ≡ self.old) }
-        ensures fits { OnOk result ((length name.now < 2 ^ 32) × (next_index (described_sort ty.now) (entries_of self.old) + 1 < 2 ^ 32)) }
-        ensures too_large { (n : ℕ) → result ≡ Err (EncodeError.TooLarge n) → (2 ^ 32 ≤ n) × ((n ≡ length name.now) ⊎ (n ≡ next_index (described_sort ty.now) (entries_of self.old) + 1)) }
+        ensures fits { OnOk result
+            ((length name.now < 2 ^ 32) × (next_index (described_sort ty.now) (entries_of self.old) + 1 < 2 ^ 32)) }
+        ensures too_large { (n : ℕ) → result ≡ Err (EncodeError.TooLarge n)
+            → (2 ^ 32 ≤ n)
+            × ((n ≡ length name.now) ⊎ (n ≡ next_index (described_sort ty.now) (entries_of self.old) + 1)) }
     {
         let sort = described_sort(*ty);
         let (index, size) = self.next_of(sort)?;
         let bytes = encode_import(alloc, name, *ty)?;
-        self.add(IMPORT, bytes, sort, size)?;
+        self.add(section::IMPORT, bytes, sort, size)?;
         Ok(index)
     }
 
@@ -250,14 +258,22 @@ impl ComponentBuilder {
     ) -> Result<u32, EncodeError>
         requires { 0 < length name.now }
         ensures index { IfOk result (λ i. i ≡ next_index sort (entries_of self.old)) }
-        ensures added { OnOk result (entries_of self.new ≡ entries_of self.old ++ Single (Export (record { name = name.now; sort = sort; index = index; ty = option_map (λ t. t.now) ty.entry })) ∷ []) }
+        ensures added { OnOk result
+            (entries_of self.new
+            ≡ entries_of self.old
+            ++ Single
+            (Export
+            (record
+            { name = name.now; sort = sort; index = index; ty = option_map (λ t. t.now) ty.entry }))
+            ∷ []) }
         ensures unchanged { OnErr result (self.new ≡ self.old) }
         ensures fits { OnOk result ((length name.now < 2 ^ 32) × (next_index sort (entries_of self.old) + 1 < 2 ^ 32)) }
-        ensures too_large { (n : ℕ) → result ≡ Err (EncodeError.TooLarge n) → (2 ^ 32 ≤ n) × ((n ≡ length name.now) ⊎ (n ≡ next_index sort (entries_of self.old) + 1)) }
+        ensures too_large { (n : ℕ) → result ≡ Err (EncodeError.TooLarge n)
+            → (2 ^ 32 ≤ n) × ((n ≡ length name.now) ⊎ (n ≡ next_index sort (entries_of self.old) + 1)) }
     {
         let (place, size) = self.next_of(sort)?;
         let bytes = encode_export(alloc, name, sort, index, ty.copied())?;
-        self.add(EXPORT, bytes, sort, size)?;
+        self.add(section::EXPORT, bytes, sort, size)?;
         Ok(place)
     }
 
@@ -268,14 +284,17 @@ impl ComponentBuilder {
     pub fn type_defined(&mut self, alloc: Global, ty: &DefinedType) -> Result<u32, EncodeError>
         requires { IsDefined ty.now }
         ensures index { IfOk result (λ i. i ≡ next_index sort.Ty (entries_of self.old)) }
-        ensures added { OnOk result (entries_of self.new ≡ entries_of self.old ++ Single (Ty (tree.Defined ty.now)) ∷ []) }
+        ensures added { OnOk result
+            (entries_of self.new ≡ entries_of self.old ++ Single (Ty (tree.Defined ty.now)) ∷ []) }
         ensures unchanged { OnErr result (self.new ≡ self.old) }
-        ensures fits { OnOk result ((defined_largest ty.now < 2 ^ 32) × (next_index sort.Ty (entries_of self.old) + 1 < 2 ^ 32)) }
-        ensures too_large { (n : ℕ) → result ≡ Err (EncodeError.TooLarge n) → (2 ^ 32 ≤ n) × ((n ≡ defined_largest ty.now) ⊎ (n ≡ next_index sort.Ty (entries_of self.old) + 1)) }
+        ensures fits { OnOk result
+            ((defined_largest ty.now < 2 ^ 32) × (next_index sort.Ty (entries_of self.old) + 1 < 2 ^ 32)) }
+        ensures too_large { (n : ℕ) → result ≡ Err (EncodeError.TooLarge n)
+            → (2 ^ 32 ≤ n) × ((n ≡ defined_largest ty.now) ⊎ (n ≡ next_index sort.Ty (entries_of self.old) + 1)) }
     {
         let (index, size) = self.next_of(Sort::Ty)?;
         let bytes = encode_defined(alloc, ty)?;
-        self.add(TYPE, bytes, Sort::Ty, size)?;
+        self.add(section::TYPE, bytes, Sort::Ty, size)?;
         Ok(index)
     }
 
@@ -288,12 +307,14 @@ impl ComponentBuilder {
         ensures index { IfOk result (λ i. i ≡ next_index sort.Ty (entries_of self.old)) }
         ensures added { OnOk result (entries_of self.new ≡ entries_of self.old ++ Single (Ty (tree.Func ty.now)) ∷ []) }
         ensures unchanged { OnErr result (self.new ≡ self.old) }
-        ensures fits { OnOk result ((func_largest ty.now < 2 ^ 32) × (next_index sort.Ty (entries_of self.old) + 1 < 2 ^ 32)) }
-        ensures too_large { (n : ℕ) → result ≡ Err (EncodeError.TooLarge n) → (2 ^ 32 ≤ n) × ((n ≡ func_largest ty.now) ⊎ (n ≡ next_index sort.Ty (entries_of self.old) + 1)) }
+        ensures fits { OnOk result
+            ((func_largest ty.now < 2 ^ 32) × (next_index sort.Ty (entries_of self.old) + 1 < 2 ^ 32)) }
+        ensures too_large { (n : ℕ) → result ≡ Err (EncodeError.TooLarge n)
+            → (2 ^ 32 ≤ n) × ((n ≡ func_largest ty.now) ⊎ (n ≡ next_index sort.Ty (entries_of self.old) + 1)) }
     {
         let (index, size) = self.next_of(Sort::Ty)?;
         let bytes = encode_function(alloc, ty)?;
-        self.add(TYPE, bytes, Sort::Ty, size)?;
+        self.add(section::TYPE, bytes, Sort::Ty, size)?;
         Ok(index)
     }
 
@@ -304,14 +325,21 @@ impl ComponentBuilder {
     pub fn type_instance(&mut self, alloc: Global, ty: &InstanceType) -> Result<u32, EncodeError>
         requires { AreDecls false (instance_type_tree ty.now) }
         ensures index { IfOk result (λ i. i ≡ next_index sort.Ty (entries_of self.old)) }
-        ensures added { OnOk result (entries_of self.new ≡ entries_of self.old ++ Single (Ty (tree.Instance (instance_type_tree ty.now))) ∷ []) }
+        ensures added { OnOk result
+            (entries_of self.new
+            ≡ entries_of self.old ++ Single (Ty (tree.Instance (instance_type_tree ty.now))) ∷ []) }
         ensures unchanged { OnErr result (self.new ≡ self.old) }
-        ensures fits { OnOk result ((definition_largest (tree.Instance (instance_type_tree ty.now)) < 2 ^ 32) × (next_index sort.Ty (entries_of self.old) + 1 < 2 ^ 32)) }
-        ensures too_large { (n : ℕ) → result ≡ Err (EncodeError.TooLarge n) → (2 ^ 32 ≤ n) × ((n ≡ definition_largest (tree.Instance (instance_type_tree ty.now))) ⊎ (n ≡ next_index sort.Ty (entries_of self.old) + 1)) }
+        ensures fits { OnOk result
+            ((definition_largest (tree.Instance (instance_type_tree ty.now)) < 2 ^ 32)
+            × (next_index sort.Ty (entries_of self.old) + 1 < 2 ^ 32)) }
+        ensures too_large { (n : ℕ) → result ≡ Err (EncodeError.TooLarge n)
+            → (2 ^ 32 ≤ n)
+            × ((n ≡ definition_largest (tree.Instance (instance_type_tree ty.now)))
+            ⊎ (n ≡ next_index sort.Ty (entries_of self.old) + 1)) }
     {
         let (index, size) = self.next_of(Sort::Ty)?;
         let bytes = encode_instance_type(alloc, ty)?;
-        self.add(TYPE, bytes, Sort::Ty, size)?;
+        self.add(section::TYPE, bytes, Sort::Ty, size)?;
         Ok(index)
     }
 
@@ -322,14 +350,21 @@ impl ComponentBuilder {
     pub fn type_component(&mut self, alloc: Global, ty: &ComponentType) -> Result<u32, EncodeError>
         requires { AreDecls true (component_type_tree ty.now) }
         ensures index { IfOk result (λ i. i ≡ next_index sort.Ty (entries_of self.old)) }
-        ensures added { OnOk result (entries_of self.new ≡ entries_of self.old ++ Single (Ty (tree.Component (component_type_tree ty.now))) ∷ []) }
+        ensures added { OnOk result
+            (entries_of self.new
+            ≡ entries_of self.old ++ Single (Ty (tree.Component (component_type_tree ty.now))) ∷ []) }
         ensures unchanged { OnErr result (self.new ≡ self.old) }
-        ensures fits { OnOk result ((definition_largest (tree.Component (component_type_tree ty.now)) < 2 ^ 32) × (next_index sort.Ty (entries_of self.old) + 1 < 2 ^ 32)) }
-        ensures too_large { (n : ℕ) → result ≡ Err (EncodeError.TooLarge n) → (2 ^ 32 ≤ n) × ((n ≡ definition_largest (tree.Component (component_type_tree ty.now))) ⊎ (n ≡ next_index sort.Ty (entries_of self.old) + 1)) }
+        ensures fits { OnOk result
+            ((definition_largest (tree.Component (component_type_tree ty.now)) < 2 ^ 32)
+            × (next_index sort.Ty (entries_of self.old) + 1 < 2 ^ 32)) }
+        ensures too_large { (n : ℕ) → result ≡ Err (EncodeError.TooLarge n)
+            → (2 ^ 32 ≤ n)
+            × ((n ≡ definition_largest (tree.Component (component_type_tree ty.now)))
+            ⊎ (n ≡ next_index sort.Ty (entries_of self.old) + 1)) }
     {
         let (index, size) = self.next_of(Sort::Ty)?;
         let bytes = encode_component_type(alloc, ty)?;
-        self.add(TYPE, bytes, Sort::Ty, size)?;
+        self.add(section::TYPE, bytes, Sort::Ty, size)?;
         Ok(index)
     }
 
@@ -338,14 +373,16 @@ impl ComponentBuilder {
     /// `TooLarge` has the number of types with this one, where that is above 2^32 - 1.
     pub fn type_resource(&mut self, alloc: Global) -> Result<u32, EncodeError>
         ensures index { IfOk result (λ i. i ≡ next_index sort.Ty (entries_of self.old)) }
-        ensures added { OnOk result (entries_of self.new ≡ entries_of self.old ++ Single (Ty (tree.Resource None)) ∷ []) }
+        ensures added { OnOk result
+            (entries_of self.new ≡ entries_of self.old ++ Single (Ty (tree.Resource None)) ∷ []) }
         ensures unchanged { OnErr result (self.new ≡ self.old) }
         ensures fits { OnOk result (next_index sort.Ty (entries_of self.old) + 1 < 2 ^ 32) }
-        ensures too_large { (n : ℕ) → result ≡ Err (EncodeError.TooLarge n) → (2 ^ 32 ≤ n) × (n ≡ next_index sort.Ty (entries_of self.old) + 1) }
+        ensures too_large { (n : ℕ) → result ≡ Err (EncodeError.TooLarge n)
+            → (2 ^ 32 ≤ n) × (n ≡ next_index sort.Ty (entries_of self.old) + 1) }
     {
         let (index, size) = self.next_of(Sort::Ty)?;
         let bytes = encode_resource(alloc)?;
-        self.add(TYPE, bytes, Sort::Ty, size)?;
+        self.add(section::TYPE, bytes, Sort::Ty, size)?;
         Ok(index)
     }
 
@@ -356,14 +393,21 @@ impl ComponentBuilder {
     pub fn core_type_module(&mut self, alloc: Global, ty: &ModuleType) -> Result<u32, EncodeError>
         requires { AreModuleDecls (module_tree ty.now) }
         ensures index { IfOk result (λ i. i ≡ next_index (sort.Core core_sort.Ty) (entries_of self.old)) }
-        ensures added { OnOk result (entries_of self.new ≡ entries_of self.old ++ Single (CoreTy (core_tree.Module (module_tree ty.now))) ∷ []) }
+        ensures added { OnOk result
+            (entries_of self.new
+            ≡ entries_of self.old ++ Single (CoreTy (core_tree.Module (module_tree ty.now))) ∷ []) }
         ensures unchanged { OnErr result (self.new ≡ self.old) }
-        ensures fits { OnOk result ((core_largest (core_tree.Module (module_tree ty.now)) < 2 ^ 32) × (next_index (sort.Core core_sort.Ty) (entries_of self.old) + 1 < 2 ^ 32)) }
-        ensures too_large { (n : ℕ) → result ≡ Err (EncodeError.TooLarge n) → (2 ^ 32 ≤ n) × ((n ≡ core_largest (core_tree.Module (module_tree ty.now))) ⊎ (n ≡ next_index (sort.Core core_sort.Ty) (entries_of self.old) + 1)) }
+        ensures fits { OnOk result
+            ((core_largest (core_tree.Module (module_tree ty.now)) < 2 ^ 32)
+            × (next_index (sort.Core core_sort.Ty) (entries_of self.old) + 1 < 2 ^ 32)) }
+        ensures too_large { (n : ℕ) → result ≡ Err (EncodeError.TooLarge n)
+            → (2 ^ 32 ≤ n)
+            × ((n ≡ core_largest (core_tree.Module (module_tree ty.now)))
+            ⊎ (n ≡ next_index (sort.Core core_sort.Ty) (entries_of self.old) + 1)) }
     {
         let (index, size) = self.next_of(Sort::Core(CoreSort::Ty))?;
         let bytes = encode_core_module(alloc, ty)?;
-        self.add(CORE_TYPE, bytes, Sort::Core(CoreSort::Ty), size)?;
+        self.add(section::CORE_TYPE, bytes, Sort::Core(CoreSort::Ty), size)?;
         Ok(index)
     }
 
@@ -373,11 +417,19 @@ impl ComponentBuilder {
     /// 2^32 - 1. `Memory` is also answered where more than 200 scopes are open in the section at one place.
     pub fn raw_section(&mut self, alloc: Global, id: u8, content: &[u8]) -> Result<(), EncodeError>
         requires { IsContent id content.now }
-        ensures added { (items : List ItemTree) → IsContentOf items id content.now → OnOk result (entries_of self.new ≡ entries_of self.old ++ RawSection id content.now items ∷ []) }
+        ensures added { (items : List ItemTree) → IsContentOf items id content.now
+            → OnOk result (entries_of self.new ≡ entries_of self.old ++ GivenSection id content.now items ∷ []) }
         ensures unchanged { OnErr result (self.new ≡ self.old) }
         ensures short { OnOk result (length content.now < 2 ^ 32) }
         ensures small { OnOk result ((kind : sort_of_item) → next_index kind (entries_of self.new) < 2 ^ 32) }
-        ensures too_large { (items : List ItemTree) → IsContentOf items id content.now → (n : ℕ) → result ≡ Err (EncodeError.TooLarge n) → (2 ^ 32 ≤ n) × ((n ≡ length content.now) ⊎ ((n ≡ 2 ^ 32) × ((kind : sort_of_item) × (2 ^ 32 ≤ next_index kind (entries_of self.old) + numbered kind items)))) }
+        ensures too_large { (items : List ItemTree) → IsContentOf items id content.now
+            → (n : ℕ)
+            → result ≡ Err (EncodeError.TooLarge n)
+            → (2 ^ 32 ≤ n)
+            × ((n ≡ length content.now)
+            ⊎ ((n ≡ 2 ^ 32)
+            × ((kind : sort_of_item)
+            × (2 ^ 32 ≤ next_index kind (entries_of self.old) + numbered kind items)))) }
     {
         let counts = count_section(alloc, self.counts, id, content)?;
         let content = Vec::from_slice(alloc, content)?;
@@ -404,10 +456,12 @@ impl ComponentBuilder {
     /// 2^32 - 1.
     pub fn finish(self, alloc: Global) -> Result<Vec<u8>, EncodeError>
         ensures reads { IfOk result (λ bytes. Reads bytes.items (items_of (entries_of self))) }
-        ensures once { IfOk result (λ bytes. (items : List ItemTree) → Reads bytes.items items → items ≡ items_of (entries_of self)) }
+        ensures once { IfOk result
+            (λ bytes. (items : List ItemTree) → Reads bytes.items items → items ≡ items_of (entries_of self)) }
         ensures text { IfOk result (λ bytes. bytes.items ≡ component_text (entries_of self)) }
-        ensures fits { OnOk result (AllByRecursion IsShort (groups_of (entries_of self))) }
-        ensures too_large { (n : ℕ) → result ≡ Err (EncodeError.TooLarge n) → IsTooLongAmong n (groups_of (entries_of self)) }
+        ensures fits { OnOk result (AllByRecursion IsShort (sections_of (entries_of self))) }
+        ensures too_large { (n : ℕ) → result ≡ Err (EncodeError.TooLarge n)
+            → IsTooLongAmong n (sections_of (entries_of self)) }
     {
         let mut out = Vec::with_capacity(alloc, self.room())?;
         out.extend_from_slice(&HEADER)?;

@@ -13,6 +13,7 @@ use crate::sink::Sink;
 use comp_format::{CoreDesc, CoreType, CoreVal, Limits, ModuleDecl, ModuleType};
 use warg_values::Memory;
 
+/// The byte of a core value type.
 fn code_of(value: CoreVal) -> u8
     ensures { result ≡ core_value_code value }
 {
@@ -40,6 +41,7 @@ impl Encode for CoreVal {
     }
 }
 
+/// Limits: a flag that tells whether there is a bound, the least size, and the bound.
 fn write_limits(out: &mut Sink, limits: Limits) -> Result<(), Memory>
     ensures text { OnOk result (out.new.bytes.items ≡ out.old.bytes.items ++ limits_text limits) }
     ensures largest { OnOk result (out.new.largest ≡ max out.old.largest (limits_largest limits)) }
@@ -61,6 +63,7 @@ fn mutable_code(mutable: bool) -> u8
     if mutable { 1 } else { 0 }
 }
 
+/// The description of what a core module imports or exports.
 fn write_core_desc(out: &mut Sink, desc: CoreDesc) -> Result<(), Memory>
     ensures text { OnOk result (out.new.bytes.items ≡ out.old.bytes.items ++ core_desc_text desc) }
     ensures largest { OnOk result (out.new.largest ≡ max out.old.largest (core_desc_largest desc)) }
@@ -105,8 +108,10 @@ pub fn write_core(out: &mut Sink, ty: &CoreType) -> Result<(), Memory>
 #[cycle(core_writing)]
 #[tactic(auto, using(comp_format::proofs::ViewLaws::module_is, comp_format::proofs::ViewLaws::modules_counted), unfolding(comp_format::specs::CoreTypes::core_text, crate::specs::Largest::core_largest, crate::specs::Texts::TextsOfCore))]
 pub fn write_module(out: &mut Sink, ty: &ModuleType) -> Result<(), Memory>
-    ensures text { OnOk result (out.new.bytes.items ≡ out.old.bytes.items ++ core_text (tree.Module (module_tree ty.now))) }
-    ensures largest { OnOk result (out.new.largest ≡ max out.old.largest (core_largest (tree.Module (module_tree ty.now)))) }
+    ensures text { OnOk result
+        (out.new.bytes.items ≡ out.old.bytes.items ++ core_text (tree.Module (module_tree ty.now))) }
+    ensures largest { OnOk result
+        (out.new.largest ≡ max out.old.largest (core_largest (tree.Module (module_tree ty.now)))) }
     ensures texts { OnOk result (TextsOfCore (tree.Module (module_tree ty.now))) }
 {
     out.write(&[0x50])?;
@@ -118,8 +123,14 @@ pub fn write_module(out: &mut Sink, ty: &ModuleType) -> Result<(), Memory>
 #[cycle(core_writing)]
 #[tactic(auto, unfolding(comp_format::specs::CoreTypes::module_text, crate::specs::Largest::module_largest, crate::specs::Texts::TextsOfModule))]
 fn write_module_decls(out: &mut Sink, decls: &[ModuleDecl]) -> Result<(), Memory>
-    ensures text { OnOk result (out.new.bytes.items ≡ out.old.bytes.items ++ (number_text (length decls.now) ++ module_text (module_decls (map module_decl_tree decls.now)))) }
-    ensures largest { OnOk result (out.new.largest ≡ max out.old.largest (max (length decls.now) (module_largest (module_decls (map module_decl_tree decls.now))))) }
+    ensures text { OnOk result
+        (out.new.bytes.items
+        ≡ out.old.bytes.items
+        ++ (number_text (length decls.now) ++ module_text (module_decls (map module_decl_tree decls.now)))) }
+    ensures largest { OnOk result
+        (out.new.largest
+        ≡ max out.old.largest
+        (max (length decls.now) (module_largest (module_decls (map module_decl_tree decls.now))))) }
     ensures texts { OnOk result (TextsOfModule (module_decls (map module_decl_tree decls.now))) }
 {
     out.write_number(decls.len() as u64)?;
@@ -133,8 +144,10 @@ fn write_module_decls(out: &mut Sink, decls: &[ModuleDecl]) -> Result<(), Memory
 #[cycle(core_writing)]
 #[tactic(auto, using(comp_format::proofs::ViewLaws::module_decl_import, comp_format::proofs::ViewLaws::module_decl_core_ty, comp_format::proofs::ViewLaws::module_decl_alias, comp_format::proofs::ViewLaws::module_decl_export), unfolding(comp_format::specs::CoreTypes::module_decl_text, crate::specs::Largest::module_decl_largest, crate::specs::Texts::TextsOfModuleDecl))]
 fn write_module_decl(out: &mut Sink, decl: &ModuleDecl) -> Result<(), Memory>
-    ensures text { OnOk result (out.new.bytes.items ≡ out.old.bytes.items ++ module_decl_text (module_decl_tree decl.now)) }
-    ensures largest { OnOk result (out.new.largest ≡ max out.old.largest (module_decl_largest (module_decl_tree decl.now))) }
+    ensures text { OnOk result
+        (out.new.bytes.items ≡ out.old.bytes.items ++ module_decl_text (module_decl_tree decl.now)) }
+    ensures largest { OnOk result
+        (out.new.largest ≡ max out.old.largest (module_decl_largest (module_decl_tree decl.now))) }
     ensures texts { OnOk result (TextsOfModuleDecl (module_decl_tree decl.now)) }
 {
     match decl {

@@ -17,6 +17,7 @@ use crate::values::{write_defined, write_func};
 use comp_format::{Alias, ComponentType, Decl, DefType, InstanceType, Sort};
 use warg_values::Memory;
 
+/// An alias: its sort, and what it stands for.
 fn write_alias(out: &mut Sink, alias: &Alias) -> Result<(), Memory>
     ensures text { OnOk result (out.new.bytes.items ≡ out.old.bytes.items ++ alias_text alias.now) }
     ensures largest { OnOk result (out.new.largest ≡ max out.old.largest (alias_largest alias.now)) }
@@ -90,8 +91,10 @@ pub fn write_type(out: &mut Sink, ty: &DefType) -> Result<(), Memory>
 #[cycle(writing)]
 #[tactic(auto, using(comp_format::proofs::ViewLaws::component_is, comp_format::proofs::ViewLaws::component_counted), unfolding(comp_format::specs::Definitions::definition_text, crate::specs::Largest::definition_largest, crate::specs::Texts::TextsOfType))]
 pub fn write_component(out: &mut Sink, ty: &ComponentType) -> Result<(), Memory>
-    ensures text { OnOk result (out.new.bytes.items ≡ out.old.bytes.items ++ definition_text (tree.Component (component_type_tree ty.now))) }
-    ensures largest { OnOk result (out.new.largest ≡ max out.old.largest (definition_largest (tree.Component (component_type_tree ty.now)))) }
+    ensures text { OnOk result
+        (out.new.bytes.items ≡ out.old.bytes.items ++ definition_text (tree.Component (component_type_tree ty.now))) }
+    ensures largest { OnOk result
+        (out.new.largest ≡ max out.old.largest (definition_largest (tree.Component (component_type_tree ty.now)))) }
     ensures texts { OnOk result (TextsOfType (tree.Component (component_type_tree ty.now))) }
 {
     out.write(&[0x41])?;
@@ -103,8 +106,10 @@ pub fn write_component(out: &mut Sink, ty: &ComponentType) -> Result<(), Memory>
 #[cycle(writing)]
 #[tactic(auto, using(comp_format::proofs::ViewLaws::instance_is, comp_format::proofs::ViewLaws::instance_counted), unfolding(comp_format::specs::Definitions::definition_text, crate::specs::Largest::definition_largest, crate::specs::Texts::TextsOfType))]
 pub fn write_instance(out: &mut Sink, ty: &InstanceType) -> Result<(), Memory>
-    ensures text { OnOk result (out.new.bytes.items ≡ out.old.bytes.items ++ definition_text (tree.Instance (instance_type_tree ty.now))) }
-    ensures largest { OnOk result (out.new.largest ≡ max out.old.largest (definition_largest (tree.Instance (instance_type_tree ty.now)))) }
+    ensures text { OnOk result
+        (out.new.bytes.items ≡ out.old.bytes.items ++ definition_text (tree.Instance (instance_type_tree ty.now))) }
+    ensures largest { OnOk result
+        (out.new.largest ≡ max out.old.largest (definition_largest (tree.Instance (instance_type_tree ty.now)))) }
     ensures texts { OnOk result (TextsOfType (tree.Instance (instance_type_tree ty.now))) }
 {
     out.write(&[0x42])?;
@@ -116,8 +121,13 @@ pub fn write_instance(out: &mut Sink, ty: &InstanceType) -> Result<(), Memory>
 #[cycle(writing)]
 #[tactic(auto, unfolding(comp_format::specs::Definitions::decls_text, crate::specs::Largest::decls_largest, crate::specs::Texts::TextsOfDecls))]
 fn write_decls(out: &mut Sink, decls: &[Decl]) -> Result<(), Memory>
-    ensures text { OnOk result (out.new.bytes.items ≡ out.old.bytes.items ++ (number_text (length decls.now) ++ decls_text (decls_of (map decl_tree decls.now)))) }
-    ensures largest { OnOk result (out.new.largest ≡ max out.old.largest (max (length decls.now) (decls_largest (decls_of (map decl_tree decls.now))))) }
+    ensures text { OnOk result
+        (out.new.bytes.items
+        ≡ out.old.bytes.items
+        ++ (number_text (length decls.now) ++ decls_text (decls_of (map decl_tree decls.now)))) }
+    ensures largest { OnOk result
+        (out.new.largest
+        ≡ max out.old.largest (max (length decls.now) (decls_largest (decls_of (map decl_tree decls.now))))) }
     ensures texts { OnOk result (TextsOfDecls (decls_of (map decl_tree decls.now))) }
 {
     out.write_number(decls.len() as u64)?;

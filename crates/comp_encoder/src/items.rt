@@ -15,8 +15,8 @@ ghost use Rattle.comp_encoder.specs.Builder.{IsBytesOf};
 
 use crate::core_types::write_module;
 use crate::definitions::{write_component, write_instance};
-use crate::groups::short;
 use crate::parts::{write_description, write_marked, write_optional, write_sort, write_vector};
+use crate::sections::short;
 use crate::sink::Sink;
 use crate::values::{write_defined, write_func};
 use comp_format::{
@@ -39,9 +39,11 @@ pub fn encode_component(alloc: Global, bytes: &[u8]) -> Result<Vec<u8>, EncodeEr
 /// An instance of a component.
 pub fn encode_instance(alloc: Global, component: u32, args: &[Arg]) -> Result<Vec<u8>, EncodeError>
     requires { All (λ arg. 0 < length arg.name) args.now }
-    ensures bytes { IfOk result (λ bytes. IsBytesOf (Instance (instance.Instantiate component args.now)) 5 bytes.items) }
+    ensures bytes { IfOk result
+        (λ bytes. IsBytesOf (Instance (instance.Instantiate component args.now)) 5 bytes.items) }
     ensures fits { OnOk result (vector_largest arg_largest args.now < 2 ^ 32) }
-    ensures too_large { (n : ℕ) → result ≡ Err (EncodeError.TooLarge n) → (2 ^ 32 ≤ n) × (n ≡ vector_largest arg_largest args.now) }
+    ensures too_large { (n : ℕ) → result ≡ Err (EncodeError.TooLarge n)
+        → (2 ^ 32 ≤ n) × (n ≡ vector_largest arg_largest args.now) }
 {
     let mut out = Sink::new(alloc);
     write_marked(&mut out, &[0], component)?;
@@ -109,7 +111,8 @@ pub fn encode_export(
     ty: Option<TypeRef>,
 ) -> Result<Vec<u8>, EncodeError>
     requires { 0 < length name.now }
-    ensures bytes { IfOk result (λ bytes. IsBytesOf (Export (record { name = name.now; sort = sort; index = index; ty = ty })) 11 bytes.items) }
+    ensures bytes { IfOk result
+        (λ bytes. IsBytesOf (Export (record { name = name.now; sort = sort; index = index; ty = ty })) 11 bytes.items) }
     ensures fits { OnOk result (length name.now < 2 ^ 32) }
     ensures too_large { (n : ℕ) → result ≡ Err (EncodeError.TooLarge n) → (2 ^ 32 ≤ n) × (n ≡ length name.now) }
 {
@@ -152,7 +155,8 @@ pub fn encode_component_type(alloc: Global, ty: &ComponentType) -> Result<Vec<u8
     requires { AreDecls true (component_type_tree ty.now) }
     ensures bytes { IfOk result (λ bytes. IsBytesOf (Ty (tree.Component (component_type_tree ty.now))) 7 bytes.items) }
     ensures fits { OnOk result (definition_largest (tree.Component (component_type_tree ty.now)) < 2 ^ 32) }
-    ensures too_large { (n : ℕ) → result ≡ Err (EncodeError.TooLarge n) → (2 ^ 32 ≤ n) × (n ≡ definition_largest (tree.Component (component_type_tree ty.now))) }
+    ensures too_large { (n : ℕ) → result ≡ Err (EncodeError.TooLarge n)
+        → (2 ^ 32 ≤ n) × (n ≡ definition_largest (tree.Component (component_type_tree ty.now))) }
 {
     let mut out = Sink::new(alloc);
     write_component(&mut out, ty)?;
@@ -164,7 +168,8 @@ pub fn encode_instance_type(alloc: Global, ty: &InstanceType) -> Result<Vec<u8>,
     requires { AreDecls false (instance_type_tree ty.now) }
     ensures bytes { IfOk result (λ bytes. IsBytesOf (Ty (tree.Instance (instance_type_tree ty.now))) 7 bytes.items) }
     ensures fits { OnOk result (definition_largest (tree.Instance (instance_type_tree ty.now)) < 2 ^ 32) }
-    ensures too_large { (n : ℕ) → result ≡ Err (EncodeError.TooLarge n) → (2 ^ 32 ≤ n) × (n ≡ definition_largest (tree.Instance (instance_type_tree ty.now))) }
+    ensures too_large { (n : ℕ) → result ≡ Err (EncodeError.TooLarge n)
+        → (2 ^ 32 ≤ n) × (n ≡ definition_largest (tree.Instance (instance_type_tree ty.now))) }
 {
     let mut out = Sink::new(alloc);
     write_instance(&mut out, ty)?;
@@ -186,7 +191,8 @@ pub fn encode_core_module(alloc: Global, ty: &ModuleType) -> Result<Vec<u8>, Enc
     requires { AreModuleDecls (module_tree ty.now) }
     ensures bytes { IfOk result (λ bytes. IsBytesOf (CoreTy (core_tree.Module (module_tree ty.now))) 3 bytes.items) }
     ensures fits { OnOk result (core_largest (core_tree.Module (module_tree ty.now)) < 2 ^ 32) }
-    ensures too_large { (n : ℕ) → result ≡ Err (EncodeError.TooLarge n) → (2 ^ 32 ≤ n) × (n ≡ core_largest (core_tree.Module (module_tree ty.now))) }
+    ensures too_large { (n : ℕ) → result ≡ Err (EncodeError.TooLarge n)
+        → (2 ^ 32 ≤ n) × (n ≡ core_largest (core_tree.Module (module_tree ty.now))) }
 {
     let mut out = Sink::new(alloc);
     write_module(&mut out, ty)?;

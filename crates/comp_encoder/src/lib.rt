@@ -8,19 +8,15 @@ mod builder;
 mod built;
 mod core_types;
 mod definitions;
-mod groups;
 mod items;
 mod parts;
 mod raw;
+mod sections;
 mod sink;
 mod spaces;
-#[cfg(test)]
-mod tests;
 mod values;
 
 pub use builder::ComponentBuilder;
 pub use comp_format::{
-    Alias, Arg, Canon, CanonOption, ComponentType, CoreDesc, CoreInstance, CoreSort, CoreType,
-    CoreVal, Decl, DefType, DefinedType, EncodeError, FuncType, InstanceItem, InstanceType, Item,
-    Limits, ModuleDecl, ModuleType, Primitive, Sort, TypeRef, ValType,
+    Arg, ComponentType, DefinedType, EncodeError, FuncType, InstanceType, ModuleType, Sort, TypeRef,
 };

@@ -22,6 +22,7 @@ pub trait Encode {
     /// That its texts are UTF-8.
     ghost texts: { Self → Type 0 };
 
+    /// Writes the value behind what was written.
     fn encode(&self, out: &mut Sink) -> Result<(), Memory>
         ensures text { OnOk result (out.new.bytes.items ≡ out.old.bytes.items ++ text self.now) }
         ensures largest { OnOk result (out.new.largest ≡ max out.old.largest (largest self.now)) }
@@ -41,6 +42,7 @@ pub fn write_vector<T: Encode>(out: &mut Sink, values: &[T]) -> Result<(), Memor
     Ok(())
 }
 
+/// The byte of a core sort.
 fn code_of(sort: CoreSort) -> u8
     ensures { result ≡ core_sort_code sort }
 {
@@ -55,6 +57,7 @@ fn code_of(sort: CoreSort) -> u8
     }
 }
 
+/// A sort.
 pub fn write_sort(out: &mut Sink, sort: Sort) -> Result<(), Memory>
     ensures text { OnOk result (out.new.bytes.items ≡ out.old.bytes.items ++ sort_text sort) }
     ensures largest { OnOk result (out.new.largest ≡ out.old.largest) }
@@ -79,6 +82,7 @@ pub fn write_marked(out: &mut Sink, marks: &[u8], index: u32) -> Result<(), Memo
     Ok(())
 }
 
+/// The description of an import or export.
 pub fn write_description(out: &mut Sink, ty: TypeRef) -> Result<(), Memory>
     ensures text { OnOk result (out.new.bytes.items ≡ out.old.bytes.items ++ description_text ty) }
     ensures largest { OnOk result (out.new.largest ≡ max out.old.largest (description_largest ty)) }

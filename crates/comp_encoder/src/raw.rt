@@ -10,18 +10,17 @@ ghost use Rattle.comp_encoder.specs.Builder.{IsContent, IsContentOf};
 ghost use Rattle.comp_encoder.specs.Writing.{numbered};
 ghost use Rattle.comp_format.specs.Spaces.{space_of};
 
-use crate::groups::write_section;
+use crate::sections::write_section;
 use crate::spaces::{sort_of, space_of};
+use comp_format::section::HEADER;
 use comp_format::{EncodeError, Item};
 use comp_reader::read_items;
 use std::alloc::Global;
 
-/// The magic bytes, the version and the layer of a component.
-pub const HEADER: [u8; 8] = [0x00, 0x61, 0x73, 0x6d, 0x0d, 0x00, 0x01, 0x00];
-
 /// The component of one section.
 fn component_of(alloc: Global, id: u8, content: &[u8]) -> Result<Vec<u8>, EncodeError>
-    ensures text { IfOk result (λ bytes. bytes.items ≡ header ++ (id ∷ (number_text (length content.now) ++ content.now))) }
+    ensures text { IfOk result
+        (λ bytes. bytes.items ≡ header ++ (id ∷ (number_text (length content.now) ++ content.now))) }
     ensures fits { OnOk result (length content.now < 2 ^ 32) }
     ensures too_large { (n : ℕ) → result ≡ Err (EncodeError.TooLarge n) → (n ≡ length content.now) × (2 ^ 32 ≤ n) }
 {
@@ -46,9 +45,16 @@ fn items_of(alloc: Global, bytes: &[u8]) -> Result<Vec<Item<'_>>, EncodeError>
 /// The sizes of the index spaces once these items are added to them.
 fn count_items(counts: [u32; 11], items: &[Item<'_>]) -> Result<[u32; 11], EncodeError>
     requires { (kind : sort) → slice_index counts (space_of kind) < 2 ^ 32 }
-    ensures counted { IfOk result (λ sizes. (kind : sort) → slice_index sizes (space_of kind) ≡ slice_index counts (space_of kind) + numbered kind (map item_tree items.now)) }
+    ensures counted { IfOk result
+        (λ sizes.
+        (kind : sort)
+        → slice_index sizes (space_of kind)
+        ≡ slice_index counts (space_of kind) + numbered kind (map item_tree items.now)) }
     ensures small { IfOk result (λ sizes. (kind : sort) → slice_index sizes (space_of kind) < 2 ^ 32) }
-    ensures too_large { (n : ℕ) → result ≡ Err (EncodeError.TooLarge n) → (n ≡ 2 ^ 32) × ((kind : sort) × (2 ^ 32 ≤ slice_index counts (space_of kind) + numbered kind (map item_tree items.now))) }
+    ensures too_large { (n : ℕ) → result ≡ Err (EncodeError.TooLarge n)
+        → (n ≡ 2 ^ 32)
+        × ((kind : sort)
+        × (2 ^ 32 ≤ slice_index counts (space_of kind) + numbered kind (map item_tree items.now))) }
     ensures err { IfErr result (λ e. e ≡ EncodeError.TooLarge (2 ^ 32)) }
 {
     let mut sizes = counts;
@@ -73,10 +79,20 @@ pub fn count_section(
 ) -> Result<[u32; 11], EncodeError>
     requires content { IsContent id content.now }
     requires small { (kind : sort) → slice_index counts (space_of kind) < 2 ^ 32 }
-    ensures counted { (items : List ItemTree) → IsContentOf items id content.now → IfOk result (λ sizes. (kind : sort) → slice_index sizes (space_of kind) ≡ slice_index counts (space_of kind) + numbered kind items) }
+    ensures counted { (items : List ItemTree) → IsContentOf items id content.now
+        → IfOk result
+        (λ sizes.
+        (kind : sort)
+        → slice_index sizes (space_of kind) ≡ slice_index counts (space_of kind) + numbered kind items) }
     ensures small { IfOk result (λ sizes. (kind : sort) → slice_index sizes (space_of kind) < 2 ^ 32) }
     ensures short { OnOk result (length content.now < 2 ^ 32) }
-    ensures too_large { (items : List ItemTree) → IsContentOf items id content.now → (n : ℕ) → result ≡ Err (EncodeError.TooLarge n) → (2 ^ 32 ≤ n) × ((n ≡ length content.now) ⊎ ((n ≡ 2 ^ 32) × ((kind : sort) × (2 ^ 32 ≤ slice_index counts (space_of kind) + numbered kind items)))) }
+    ensures too_large { (items : List ItemTree) → IsContentOf items id content.now
+        → (n : ℕ)
+        → result ≡ Err (EncodeError.TooLarge n)
+        → (2 ^ 32 ≤ n)
+        × ((n ≡ length content.now)
+        ⊎ ((n ≡ 2 ^ 32)
+        × ((kind : sort) × (2 ^ 32 ≤ slice_index counts (space_of kind) + numbered kind items)))) }
 {
     let component = component_of(alloc, id, content)?;
     let items = items_of(alloc, &component)?;

@@ -14,7 +14,9 @@ use warg_values::Memory;
 /// A number that is too large is written too, so that it is tested once, in the end.
 #[derive(Debug, Drop)]
 pub struct Sink {
+    /// What was written, in order.
     pub bytes: Vec<u8>,
+    /// The largest number that was written, 0 before the first.
     pub largest: u64,
 }
 
@@ -62,6 +64,7 @@ fn write_signed_leb(out: &mut Vec<u8>, most: u8, number: u64) -> Result<(), Memo
 }
 
 impl Sink {
+    /// Nothing written yet.
     pub fn new(alloc: Global) -> Self
         ensures bytes { result.bytes.items ≡ [] }
         ensures largest { result.largest ≡ 0 }

@@ -12,6 +12,7 @@ use crate::sink::Sink;
 use comp_format::{DefinedType, FuncType, Primitive, ValType};
 use warg_values::{Memory, Text};
 
+/// The byte of a primitive type.
 fn code_of(primitive: Primitive) -> u8
     ensures { result ≡ primitive_code primitive }
 {
@@ -32,6 +33,7 @@ fn code_of(primitive: Primitive) -> u8
     }
 }
 
+/// A value type: a byte, or the index of a type.
 fn write_value(out: &mut Sink, ty: ValType) -> Result<(), Memory>
     ensures text { OnOk result (out.new.bytes.items ≡ out.old.bytes.items ++ value_text ty) }
     ensures largest { OnOk result (out.new.largest ≡ max out.old.largest (value_largest ty)) }

@@ -8,6 +8,7 @@ pub mod Definitions
 pub mod Canons
 pub mod Views
 pub mod Items
+pub mod SectionIds
 pub mod Sections
 pub mod Fits
 pub mod Forms

@@ -6,6 +6,7 @@ use Rattle.comp_format.specs.declared.types.CoreInstance.{CoreInstance}
 use Rattle.comp_format.specs.declared.types.InstanceItem.{InstanceItem}
 use Rattle.comp_format.specs.declared.types.Alias.{Alias}
 use Rattle.comp_format.specs.declared.types.Canon.{Canon}
+use Rattle.comp_format.specs.SectionIds as ids
 use Rattle.comp_format.specs.Fault.{Fault, Form, NotCarried, TooDeep}
 use Rattle.comp_format.specs.Numbers.{FormOf, Number, number_at}
 use Rattle.comp_format.specs.Vectors.{ReaderOf, Vector, AnyName, vector_at, front_at, any_name_at}
@@ -43,17 +44,17 @@ mutual
     more : Section → Sections → Sections
 
 abbrev pub section_id : Section → ℕ
-section_id (Named name bytes) = 0
-section_id (CoreModules bytes) = 1
-section_id (CoreInstances items) = 2
-section_id (CoreTypes items) = 3
-section_id (Nested bytes inner) = 4
-section_id (Instances items) = 5
-section_id (Aliases items) = 6
-section_id (Types items) = 7
-section_id (Canons items) = 8
-section_id (Imports items) = 10
-section_id (Exports items) = 11
+section_id (Named name bytes) = ids.custom
+section_id (CoreModules bytes) = ids.core_modules
+section_id (CoreInstances items) = ids.core_instances
+section_id (CoreTypes items) = ids.core_types
+section_id (Nested bytes inner) = ids.component
+section_id (Instances items) = ids.instances
+section_id (Aliases items) = ids.aliases
+section_id (Types items) = ids.types
+section_id (Canons items) = ids.canons
+section_id (Imports items) = ids.imports
+section_id (Exports items) = ids.exports
 
 -- the items of a section, and of sections, in order
 abbrev pub section_items : Section → List ItemTree
@@ -140,19 +141,19 @@ frame_at (id ∷ bytes) = do
 -- the content of a section, where nested components, types and core types are read so
 unfoldable pub content_with : (List ℕ → Result Sections Fault) → ReaderOf TypeTree → ReaderOf CoreTree → ℕ → List ℕ → Result Section Fault
 content_with component ty core id content =
-    if id == 0 then (any_name_at content >>= λ name. Ok (Named name.0 name.1))
-    else if id == 1 then behind_at core_header (λ after. Ok (CoreModules content)) content
-    else if id == 2 then (whole_at core_instance_at content >>= λ items. Ok (CoreInstances items))
-    else if id == 3 then (whole_at core content >>= λ items. Ok (CoreTypes items))
-    else if id == 4 then (component content >>= λ inner. Ok (Nested content inner))
-    else if id == 5 then (whole_at instance_at content >>= λ items. Ok (Instances items))
-    else if id == 6 then (whole_at alias_at content >>= λ items. Ok (Aliases items))
-    else if id == 7 then (whole_at ty content >>= λ items. Ok (Types items))
-    else if id == 8 then (whole_at canon_at content >>= λ items. Ok (Canons items))
-    else if id == 9 then Err NotCarried
-    else if id == 10 then (whole_at import_at content >>= λ items. Ok (Imports items))
-    else if id == 11 then (whole_at export_at content >>= λ items. Ok (Exports items))
-    else if id == 12 then Err NotCarried
+    if id == ids.custom then (any_name_at content >>= λ name. Ok (Named name.0 name.1))
+    else if id == ids.core_modules then behind_at core_header (λ after. Ok (CoreModules content)) content
+    else if id == ids.core_instances then (whole_at core_instance_at content >>= λ items. Ok (CoreInstances items))
+    else if id == ids.core_types then (whole_at core content >>= λ items. Ok (CoreTypes items))
+    else if id == ids.component then (component content >>= λ inner. Ok (Nested content inner))
+    else if id == ids.instances then (whole_at instance_at content >>= λ items. Ok (Instances items))
+    else if id == ids.aliases then (whole_at alias_at content >>= λ items. Ok (Aliases items))
+    else if id == ids.types then (whole_at ty content >>= λ items. Ok (Types items))
+    else if id == ids.canons then (whole_at canon_at content >>= λ items. Ok (Canons items))
+    else if id == ids.start then Err NotCarried
+    else if id == ids.imports then (whole_at import_at content >>= λ items. Ok (Imports items))
+    else if id == ids.exports then (whole_at export_at content >>= λ items. Ok (Exports items))
+    else if id == ids.values then Err NotCarried
     else Err Form
 
 -- so many sections at most, to the end, where contents are read so

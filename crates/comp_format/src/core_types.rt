@@ -20,7 +20,9 @@ pub enum CoreVal {
 /// specification, "Limits").
 #[derive(Clone, Copy, Debug, PartialEq, Eq)]
 pub struct Limits {
+    /// The least size.
     pub min: u32,
+    /// The bound, where there is one.
     pub max: Option<u32>,
 }
 
@@ -50,6 +52,7 @@ pub enum CoreType {
 #[cycle(core_types)]
 #[derive(Debug, Drop)]
 pub struct ModuleType {
+    /// The declarations, in order.
     pub decls: Vec<ModuleDecl>,
 }
 

@@ -53,10 +53,12 @@ impl InstanceType {
     /// `TooLarge` has the number of declarations with this one, where that is above 2^32 - 1. A refusal adds nothing.
     #[tactic(auto, using(crate::proofs::ViewLaws::instance_pushed, crate::proofs::ViewLaws::instance_counted))]
     pub fn ty(&mut self, _alloc: Global, ty: DefType) -> Result<(), EncodeError>
-        ensures added { OnOk result (instance_type_tree self.new ≡ with_decl (instance_type_tree self.old) (tree.Ty (type_tree ty))) }
+        ensures added { OnOk result
+            (instance_type_tree self.new ≡ with_decl (instance_type_tree self.old) (tree.Ty (type_tree ty))) }
         ensures unchanged { OnErr result (instance_type_tree self.new ≡ instance_type_tree self.old) }
         ensures fits { OnOk result (decl_count (instance_type_tree self.old) + 1 < 2 ^ 32) }
-        ensures too_large { (n : ℕ) → result ≡ Err (EncodeError.TooLarge n) → (2 ^ 32 ≤ n) × (n ≡ decl_count (instance_type_tree self.old) + 1) }
+        ensures too_large { (n : ℕ) → result ≡ Err (EncodeError.TooLarge n)
+            → (2 ^ 32 ≤ n) × (n ≡ decl_count (instance_type_tree self.old) + 1) }
     {
         room_behind(self.decls.len())?;
         self.decls.push(Decl::Ty(ty))?;
@@ -68,10 +70,12 @@ impl InstanceType {
     /// `TooLarge` has the number of declarations with this one, where that is above 2^32 - 1. A refusal adds nothing.
     #[tactic(auto, using(crate::proofs::ViewLaws::instance_pushed, crate::proofs::ViewLaws::instance_counted))]
     pub fn core_ty(&mut self, _alloc: Global, ty: CoreType) -> Result<(), EncodeError>
-        ensures added { OnOk result (instance_type_tree self.new ≡ with_decl (instance_type_tree self.old) (tree.CoreTy (core_tree ty))) }
+        ensures added { OnOk result
+            (instance_type_tree self.new ≡ with_decl (instance_type_tree self.old) (tree.CoreTy (core_tree ty))) }
         ensures unchanged { OnErr result (instance_type_tree self.new ≡ instance_type_tree self.old) }
         ensures fits { OnOk result (decl_count (instance_type_tree self.old) + 1 < 2 ^ 32) }
-        ensures too_large { (n : ℕ) → result ≡ Err (EncodeError.TooLarge n) → (2 ^ 32 ≤ n) × (n ≡ decl_count (instance_type_tree self.old) + 1) }
+        ensures too_large { (n : ℕ) → result ≡ Err (EncodeError.TooLarge n)
+            → (2 ^ 32 ≤ n) × (n ≡ decl_count (instance_type_tree self.old) + 1) }
     {
         room_behind(self.decls.len())?;
         self.decls.push(Decl::CoreTy(ty))?;
@@ -84,10 +88,12 @@ impl InstanceType {
     /// `TooLarge` has the number of declarations with this one, where that is above 2^32 - 1. A refusal adds nothing.
     #[tactic(auto, using(crate::proofs::ViewLaws::instance_pushed, crate::proofs::ViewLaws::instance_counted))]
     pub fn alias(&mut self, _alloc: Global, alias: Alias) -> Result<(), EncodeError>
-        ensures added { OnOk result (instance_type_tree self.new ≡ with_decl (instance_type_tree self.old) (tree.Aliased alias)) }
+        ensures added { OnOk result
+            (instance_type_tree self.new ≡ with_decl (instance_type_tree self.old) (tree.Aliased alias)) }
         ensures unchanged { OnErr result (instance_type_tree self.new ≡ instance_type_tree self.old) }
         ensures fits { OnOk result (decl_count (instance_type_tree self.old) + 1 < 2 ^ 32) }
-        ensures too_large { (n : ℕ) → result ≡ Err (EncodeError.TooLarge n) → (2 ^ 32 ≤ n) × (n ≡ decl_count (instance_type_tree self.old) + 1) }
+        ensures too_large { (n : ℕ) → result ≡ Err (EncodeError.TooLarge n)
+            → (2 ^ 32 ≤ n) × (n ≡ decl_count (instance_type_tree self.old) + 1) }
     {
         room_behind(self.decls.len())?;
         self.decls.push(Decl::Alias(alias))?;
@@ -100,10 +106,13 @@ impl InstanceType {
     /// 2^32 - 1. A refusal adds nothing.
     #[tactic(auto, using(crate::proofs::ViewLaws::instance_pushed, crate::proofs::ViewLaws::instance_counted))]
     pub fn export(&mut self, alloc: Global, name: &str, ty: TypeRef) -> Result<(), EncodeError>
-        ensures added { OnOk result (instance_type_tree self.new ≡ with_decl (instance_type_tree self.old) (tree.Export name.now ty)) }
+        ensures added { OnOk result
+            (instance_type_tree self.new ≡ with_decl (instance_type_tree self.old) (tree.Export name.now ty)) }
         ensures unchanged { OnErr result (instance_type_tree self.new ≡ instance_type_tree self.old) }
-        ensures fits { OnOk result ((length name.now < 2 ^ 32) × (decl_count (instance_type_tree self.old) + 1 < 2 ^ 32)) }
-        ensures too_large { (n : ℕ) → result ≡ Err (EncodeError.TooLarge n) → (2 ^ 32 ≤ n) × ((n ≡ length name.now) ⊎ (n ≡ decl_count (instance_type_tree self.old) + 1)) }
+        ensures fits { OnOk result
+            ((length name.now < 2 ^ 32) × (decl_count (instance_type_tree self.old) + 1 < 2 ^ 32)) }
+        ensures too_large { (n : ℕ) → result ≡ Err (EncodeError.TooLarge n)
+            → (2 ^ 32 ≤ n) × ((n ≡ length name.now) ⊎ (n ≡ decl_count (instance_type_tree self.old) + 1)) }
     {
         room_behind(self.decls.len())?;
         let name = short_name(alloc, name)?;
@@ -127,10 +136,12 @@ impl ComponentType {
     /// `TooLarge` has the number of declarations with this one, where that is above 2^32 - 1. A refusal adds nothing.
     #[tactic(auto, using(crate::proofs::ViewLaws::component_pushed, crate::proofs::ViewLaws::component_counted))]
     pub fn ty(&mut self, _alloc: Global, ty: DefType) -> Result<(), EncodeError>
-        ensures added { OnOk result (component_type_tree self.new ≡ with_decl (component_type_tree self.old) (tree.Ty (type_tree ty))) }
+        ensures added { OnOk result
+            (component_type_tree self.new ≡ with_decl (component_type_tree self.old) (tree.Ty (type_tree ty))) }
         ensures unchanged { OnErr result (component_type_tree self.new ≡ component_type_tree self.old) }
         ensures fits { OnOk result (decl_count (component_type_tree self.old) + 1 < 2 ^ 32) }
-        ensures too_large { (n : ℕ) → result ≡ Err (EncodeError.TooLarge n) → (2 ^ 32 ≤ n) × (n ≡ decl_count (component_type_tree self.old) + 1) }
+        ensures too_large { (n : ℕ) → result ≡ Err (EncodeError.TooLarge n)
+            → (2 ^ 32 ≤ n) × (n ≡ decl_count (component_type_tree self.old) + 1) }
     {
         room_behind(self.decls.len())?;
         self.decls.push(Decl::Ty(ty))?;
@@ -142,10 +153,12 @@ impl ComponentType {
     /// `TooLarge` has the number of declarations with this one, where that is above 2^32 - 1. A refusal adds nothing.
     #[tactic(auto, using(crate::proofs::ViewLaws::component_pushed, crate::proofs::ViewLaws::component_counted))]
     pub fn core_ty(&mut self, _alloc: Global, ty: CoreType) -> Result<(), EncodeError>
-        ensures added { OnOk result (component_type_tree self.new ≡ with_decl (component_type_tree self.old) (tree.CoreTy (core_tree ty))) }
+        ensures added { OnOk result
+            (component_type_tree self.new ≡ with_decl (component_type_tree self.old) (tree.CoreTy (core_tree ty))) }
         ensures unchanged { OnErr result (component_type_tree self.new ≡ component_type_tree self.old) }
         ensures fits { OnOk result (decl_count (component_type_tree self.old) + 1 < 2 ^ 32) }
-        ensures too_large { (n : ℕ) → result ≡ Err (EncodeError.TooLarge n) → (2 ^ 32 ≤ n) × (n ≡ decl_count (component_type_tree self.old) + 1) }
+        ensures too_large { (n : ℕ) → result ≡ Err (EncodeError.TooLarge n)
+            → (2 ^ 32 ≤ n) × (n ≡ decl_count (component_type_tree self.old) + 1) }
     {
         room_behind(self.decls.len())?;
         self.decls.push(Decl::CoreTy(ty))?;
@@ -158,10 +171,12 @@ impl ComponentType {
     /// `TooLarge` has the number of declarations with this one, where that is above 2^32 - 1. A refusal adds nothing.
     #[tactic(auto, using(crate::proofs::ViewLaws::component_pushed, crate::proofs::ViewLaws::component_counted))]
     pub fn alias(&mut self, _alloc: Global, alias: Alias) -> Result<(), EncodeError>
-        ensures added { OnOk result (component_type_tree self.new ≡ with_decl (component_type_tree self.old) (tree.Aliased alias)) }
+        ensures added { OnOk result
+            (component_type_tree self.new ≡ with_decl (component_type_tree self.old) (tree.Aliased alias)) }
         ensures unchanged { OnErr result (component_type_tree self.new ≡ component_type_tree self.old) }
         ensures fits { OnOk result (decl_count (component_type_tree self.old) + 1 < 2 ^ 32) }
-        ensures too_large { (n : ℕ) → result ≡ Err (EncodeError.TooLarge n) → (2 ^ 32 ≤ n) × (n ≡ decl_count (component_type_tree self.old) + 1) }
+        ensures too_large { (n : ℕ) → result ≡ Err (EncodeError.TooLarge n)
+            → (2 ^ 32 ≤ n) × (n ≡ decl_count (component_type_tree self.old) + 1) }
     {
         room_behind(self.decls.len())?;
         self.decls.push(Decl::Alias(alias))?;
@@ -174,10 +189,13 @@ impl ComponentType {
     /// 2^32 - 1. A refusal adds nothing.
     #[tactic(auto, using(crate::proofs::ViewLaws::component_pushed, crate::proofs::ViewLaws::component_counted))]
     pub fn import(&mut self, alloc: Global, name: &str, ty: TypeRef) -> Result<(), EncodeError>
-        ensures added { OnOk result (component_type_tree self.new ≡ with_decl (component_type_tree self.old) (tree.Import name.now ty)) }
+        ensures added { OnOk result
+            (component_type_tree self.new ≡ with_decl (component_type_tree self.old) (tree.Import name.now ty)) }
         ensures unchanged { OnErr result (component_type_tree self.new ≡ component_type_tree self.old) }
-        ensures fits { OnOk result ((length name.now < 2 ^ 32) × (decl_count (component_type_tree self.old) + 1 < 2 ^ 32)) }
-        ensures too_large { (n : ℕ) → result ≡ Err (EncodeError.TooLarge n) → (2 ^ 32 ≤ n) × ((n ≡ length name.now) ⊎ (n ≡ decl_count (component_type_tree self.old) + 1)) }
+        ensures fits { OnOk result
+            ((length name.now < 2 ^ 32) × (decl_count (component_type_tree self.old) + 1 < 2 ^ 32)) }
+        ensures too_large { (n : ℕ) → result ≡ Err (EncodeError.TooLarge n)
+            → (2 ^ 32 ≤ n) × ((n ≡ length name.now) ⊎ (n ≡ decl_count (component_type_tree self.old) + 1)) }
     {
         room_behind(self.decls.len())?;
         let name = short_name(alloc, name)?;
@@ -191,10 +209,13 @@ impl ComponentType {
     /// 2^32 - 1. A refusal adds nothing.
     #[tactic(auto, using(crate::proofs::ViewLaws::component_pushed, crate::proofs::ViewLaws::component_counted))]
     pub fn export(&mut self, alloc: Global, name: &str, ty: TypeRef) -> Result<(), EncodeError>
-        ensures added { OnOk result (component_type_tree self.new ≡ with_decl (component_type_tree self.old) (tree.Export name.now ty)) }
+        ensures added { OnOk result
+            (component_type_tree self.new ≡ with_decl (component_type_tree self.old) (tree.Export name.now ty)) }
         ensures unchanged { OnErr result (component_type_tree self.new ≡ component_type_tree self.old) }
-        ensures fits { OnOk result ((length name.now < 2 ^ 32) × (decl_count (component_type_tree self.old) + 1 < 2 ^ 32)) }
-        ensures too_large { (n : ℕ) → result ≡ Err (EncodeError.TooLarge n) → (2 ^ 32 ≤ n) × ((n ≡ length name.now) ⊎ (n ≡ decl_count (component_type_tree self.old) + 1)) }
+        ensures fits { OnOk result
+            ((length name.now < 2 ^ 32) × (decl_count (component_type_tree self.old) + 1 < 2 ^ 32)) }
+        ensures too_large { (n : ℕ) → result ≡ Err (EncodeError.TooLarge n)
+            → (2 ^ 32 ≤ n) × ((n ≡ length name.now) ⊎ (n ≡ decl_count (component_type_tree self.old) + 1)) }
     {
         room_behind(self.decls.len())?;
         let name = short_name(alloc, name)?;
@@ -218,10 +239,12 @@ impl ModuleType {
     /// `TooLarge` has the number of declarations with this one, where that is above 2^32 - 1. A refusal adds nothing.
     #[tactic(auto, using(crate::proofs::ViewLaws::module_pushed, crate::proofs::ViewLaws::modules_counted))]
     pub fn core_ty(&mut self, _alloc: Global, ty: CoreType) -> Result<(), EncodeError>
-        ensures added { OnOk result (module_tree self.new ≡ with_module_decl (module_tree self.old) (core.CoreTy (core_tree ty))) }
+        ensures added { OnOk result
+            (module_tree self.new ≡ with_module_decl (module_tree self.old) (core.CoreTy (core_tree ty))) }
         ensures unchanged { OnErr result (module_tree self.new ≡ module_tree self.old) }
         ensures fits { OnOk result (module_count (module_tree self.old) + 1 < 2 ^ 32) }
-        ensures too_large { (n : ℕ) → result ≡ Err (EncodeError.TooLarge n) → (2 ^ 32 ≤ n) × (n ≡ module_count (module_tree self.old) + 1) }
+        ensures too_large { (n : ℕ) → result ≡ Err (EncodeError.TooLarge n)
+            → (2 ^ 32 ≤ n) × (n ≡ module_count (module_tree self.old) + 1) }
     {
         room_behind(self.decls.len())?;
         self.decls.push(ModuleDecl::CoreTy(ty))?;
@@ -233,10 +256,12 @@ impl ModuleType {
     /// `TooLarge` has the number of declarations with this one, where that is above 2^32 - 1. A refusal adds nothing.
     #[tactic(auto, using(crate::proofs::ViewLaws::module_pushed, crate::proofs::ViewLaws::modules_counted))]
     pub fn alias(&mut self, _alloc: Global, count: u32, index: u32) -> Result<(), EncodeError>
-        ensures added { OnOk result (module_tree self.new ≡ with_module_decl (module_tree self.old) (core.OuterAlias count index)) }
+        ensures added { OnOk result
+            (module_tree self.new ≡ with_module_decl (module_tree self.old) (core.OuterAlias count index)) }
         ensures unchanged { OnErr result (module_tree self.new ≡ module_tree self.old) }
         ensures fits { OnOk result (module_count (module_tree self.old) + 1 < 2 ^ 32) }
-        ensures too_large { (n : ℕ) → result ≡ Err (EncodeError.TooLarge n) → (2 ^ 32 ≤ n) × (n ≡ module_count (module_tree self.old) + 1) }
+        ensures too_large { (n : ℕ) → result ≡ Err (EncodeError.TooLarge n)
+            → (2 ^ 32 ≤ n) × (n ≡ module_count (module_tree self.old) + 1) }
     {
         room_behind(self.decls.len())?;
         self.decls.push(ModuleDecl::OuterAlias { count, index })?;
@@ -249,10 +274,12 @@ impl ModuleType {
     /// 2^32 - 1. A refusal adds nothing.
     #[tactic(auto, using(crate::proofs::ViewLaws::module_pushed, crate::proofs::ViewLaws::modules_counted))]
     pub fn export(&mut self, alloc: Global, name: &str, desc: CoreDesc) -> Result<(), EncodeError>
-        ensures added { OnOk result (module_tree self.new ≡ with_module_decl (module_tree self.old) (core.Export name.now desc)) }
+        ensures added { OnOk result
+            (module_tree self.new ≡ with_module_decl (module_tree self.old) (core.Export name.now desc)) }
         ensures unchanged { OnErr result (module_tree self.new ≡ module_tree self.old) }
         ensures fits { OnOk result ((length name.now < 2 ^ 32) × (module_count (module_tree self.old) + 1 < 2 ^ 32)) }
-        ensures too_large { (n : ℕ) → result ≡ Err (EncodeError.TooLarge n) → (2 ^ 32 ≤ n) × ((n ≡ length name.now) ⊎ (n ≡ module_count (module_tree self.old) + 1)) }
+        ensures too_large { (n : ℕ) → result ≡ Err (EncodeError.TooLarge n)
+            → (2 ^ 32 ≤ n) × ((n ≡ length name.now) ⊎ (n ≡ module_count (module_tree self.old) + 1)) }
     {
         room_behind(self.decls.len())?;
         let name = short_name(alloc, name)?;
@@ -272,10 +299,17 @@ impl ModuleType {
         name: &str,
         desc: CoreDesc,
     ) -> Result<(), EncodeError>
-        ensures added { OnOk result (module_tree self.new ≡ with_module_decl (module_tree self.old) (core.Import «module».now name.now desc)) }
+        ensures added { OnOk result
+            (module_tree self.new ≡ with_module_decl (module_tree self.old) (core.Import «module».now name.now desc)) }
         ensures unchanged { OnErr result (module_tree self.new ≡ module_tree self.old) }
-        ensures fits { OnOk result ((length «module».now < 2 ^ 32) × (length name.now < 2 ^ 32) × (module_count (module_tree self.old) + 1 < 2 ^ 32)) }
-        ensures too_large { (n : ℕ) → result ≡ Err (EncodeError.TooLarge n) → (2 ^ 32 ≤ n) × ((n ≡ length «module».now) ⊎ ((n ≡ length name.now) ⊎ (n ≡ module_count (module_tree self.old) + 1))) }
+        ensures fits { OnOk result
+            ((length «module».now < 2 ^ 32)
+            × (length name.now < 2 ^ 32)
+            × (module_count (module_tree self.old) + 1 < 2 ^ 32)) }
+        ensures too_large { (n : ℕ) → result ≡ Err (EncodeError.TooLarge n)
+            → (2 ^ 32 ≤ n)
+            × ((n ≡ length «module».now)
+            ⊎ ((n ≡ length name.now) ⊎ (n ≡ module_count (module_tree self.old) + 1))) }
     {
         room_behind(self.decls.len())?;
         let module = short_name(alloc, module)?;

@@ -15,15 +15,19 @@ pub fn one_reading()
 
 /// What is read as a component is one.
 pub fn what_is_read_is_a_component()
-    ensures { (scopes : ℕ) (bytes : List ℕ) (ss : Sections) → component_at scopes bytes ≡ Ok ss → ComponentForm ss bytes }
+    ensures { (scopes : ℕ) (bytes : List ℕ) (ss : Sections) → component_at scopes bytes ≡ Ok ss
+        → ComponentForm ss bytes }
 {}
 
 /// Each component is read as its sections, but where it has more open scopes than are followed.
 pub fn each_component_is_read()
-    ensures { (ss : Sections) (scopes : ℕ) (bytes : List ℕ) → ComponentForm ss bytes → (component_at scopes bytes ≡ Err TooDeep) ⊎ (component_at scopes bytes ≡ Ok ss) }
+    ensures { (ss : Sections) (scopes : ℕ) (bytes : List ℕ) → ComponentForm ss bytes
+        → (component_at scopes bytes ≡ Err TooDeep) ⊎ (component_at scopes bytes ≡ Ok ss) }
 {}
 
 /// What is read, and each fault but that too many scopes are open, is the same where more scopes are followed.
 pub fn more_scopes_read_alike()
-    ensures { (scopes more : ℕ) → scopes ≤ more → (bytes : List ℕ) → (component_at scopes bytes ≡ Err TooDeep) ⊎ (component_at scopes bytes ≡ component_at more bytes) }
+    ensures { (scopes more : ℕ) → scopes ≤ more
+        → (bytes : List ℕ)
+        → (component_at scopes bytes ≡ Err TooDeep) ⊎ (component_at scopes bytes ≡ component_at more bytes) }
 {}

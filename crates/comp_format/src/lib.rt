@@ -8,6 +8,7 @@ mod core_types;
 mod declare;
 mod error;
 pub mod laws;
+pub mod section;
 mod types;
 
 pub use core_types::{CoreDesc, CoreType, CoreVal, Limits, ModuleDecl, ModuleType};

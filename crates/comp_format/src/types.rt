@@ -58,7 +58,9 @@ pub enum DefinedType {
 /// A type of functions (`Binary.md`, `functype`). The names of its parameters differ.
 #[derive(Debug, Drop)]
 pub struct FuncType {
+    /// The parameters, in order: their names and types.
     pub params: Sequence<(Text, ValType)>,
+    /// The type of the result, where there is one.
     pub result: Option<ValType>,
 }
 
@@ -79,6 +81,7 @@ pub enum DefType {
 #[cycle(types)]
 #[derive(Debug, Drop)]
 pub struct ComponentType {
+    /// The declarations, in order.
     pub decls: Vec<Decl>,
 }
 
@@ -86,6 +89,7 @@ pub struct ComponentType {
 #[cycle(types)]
 #[derive(Debug, Drop)]
 pub struct InstanceType {
+    /// The declarations, in order.
     pub decls: Vec<Decl>,
 }
 
@@ -144,8 +148,11 @@ pub enum TypeRef {
 /// An item under a name: of this sort and index, for the import or the export of this name.
 #[derive(Debug, Drop)]
 pub struct Arg {
+    /// The name under which it stands.
     pub name: Text,
+    /// What it is.
     pub sort: Sort,
+    /// Its index in the index space of its sort.
     pub index: u32,
 }
 

@@ -14,24 +14,26 @@ use Rattle.comp_format.proofs.SectionLaws.{frame_form, framed_shorter, component
 use Rattle.comp_format.proofs.DepthLaws.{component_within}
 use Rattle.comp_reader.specs.declared.error.ReadError.{ReadError}
 use Rattle.comp_reader.specs.declared.error.ReadError.TheVariants as errors
+use Rattle.comp_reader.specs.declared.refusal.Refusal.{Refusal}
+use Rattle.comp_reader.specs.declared.refusal.Refusal.TheVariants as refusals
 use Rattle.comp_reader.specs.Nested.{sections_items, component_items}
-use Rattle.comp_reader.specs.Refusal.{Fails, SameFault}
+use Rattle.comp_reader.specs.Refusal.{Fails, SameFault, IsPlaced}
 
 -- the items that were read before, and those of the sections that are still read
 abbrev pub with_items : List ItemTree → Result Sections Fault → Result (List ItemTree) Fault
 with_items front read = read >>= λ ss. Ok (front ++ items_in ss)
 
 -- a refusal is the fault of what goes on from what failed
-pub fails_on : {X Y : Type 0} (e : ReadError) (r : Result X Fault) (f : X → Result Y Fault) → Fails e r → Fails e (r >>= f)
-fails_on errors.Memory r f h = tt
-fails_on (errors.Form at) r f h = ap (λ (q : Result _ Fault). q >>= f) h
-fails_on (errors.NotCarried at) r f h = ap (λ (q : Result _ Fault). q >>= f) h
+pub fails_on : {X Y : Type 0} (e : Refusal) (r : Result X Fault) (f : X → Result Y Fault) → Fails e r → Fails e (r >>= f)
+fails_on refusals.Memory r f h = tt
+fails_on (refusals.Form at) r f h = ap (λ (q : Result _ Fault). q >>= f) h
+fails_on (refusals.NotCarried at) r f h = ap (λ (q : Result _ Fault). q >>= f) h
 
 -- the same fault at another place
-pub same_fails : {Y : Type 0} (e f : ReadError) (r : Result Y Fault) → SameFault e f → Fails e r → Fails f r
-same_fails errors.Memory f r same h = subst (λ (x : ReadError). Fails x r) (sym same) tt
-same_fails (errors.Form at) f r same h = subst (λ (x : ReadError). Fails x r) (sym same.1) h
-same_fails (errors.NotCarried at) f r same h = subst (λ (x : ReadError). Fails x r) (sym same.1) h
+pub same_fails : {Y : Type 0} (e f : Refusal) (r : Result Y Fault) → SameFault e f → Fails e r → Fails f r
+same_fails refusals.Memory f r same h = subst (λ (x : Refusal). Fails x r) (sym same) tt
+same_fails (refusals.Form at) f r same h = subst (λ (x : Refusal). Fails x r) (sym same.1) h
+same_fails (refusals.NotCarried at) f r same h = subst (λ (x : Refusal). Fails x r) (sym same.1) h
 
 -- what stands behind a section that is read is shorter
 pub frame_shorter : (bytes : List ℕ) (f : (ℕ × List ℕ) × List ℕ) → frame_at bytes ≡ Ok f → length f.1 < length bytes
@@ -69,13 +71,13 @@ module _ (content : ℕ → List ℕ → Result Section Fault) where
       record { most = h.most - 1; enough = omega (arith, shorter, h.enough); so_far = ap (λ (l : List ItemTree). with_items l (sections_at content (h.most - 1) after)) new_is ∙ sym one_more ∙ h.so_far }
 
   -- a section has no frame
-  pub no_frame : (e : ReadError) (bytes : List ℕ) (front : List ItemTree) (rest : List ℕ) → 0 < length rest → Fails e (frame_at rest) → IsUnderWay bytes front rest → Fails e (with_items [] (sections_at content (length bytes) bytes))
+  pub no_frame : (e : Refusal) (bytes : List ℕ) (front : List ItemTree) (rest : List ℕ) → 0 < length rest → Fails e (frame_at rest) → IsUnderWay bytes front rest → Fails e (with_items [] (sections_at content (length bytes) bytes))
   no_frame e bytes front rest some failed h =
       subst (λ (r : Result (List ItemTree) Fault). Fails e r) (ap (with_items front) (sym (sections_next h.most rest some h.enough)) ∙ h.so_far)
       (fails_on e _ (λ ss. Ok (front ++ items_in ss)) (fails_on e (frame_at rest) _ failed))
 
   -- a section's content can't be read
-  pub no_content : (e : ReadError) (bytes : List ℕ) (front : List ItemTree) (rest : List ℕ) (id : ℕ) (inner after : List ℕ) → 0 < length rest → frame_at rest ≡ Ok ((id, inner), after)
+  pub no_content : (e : Refusal) (bytes : List ℕ) (front : List ItemTree) (rest : List ℕ) (id : ℕ) (inner after : List ℕ) → 0 < length rest → frame_at rest ≡ Ok ((id, inner), after)
       → Fails e (content id inner) → IsUnderWay bytes front rest → Fails e (with_items [] (sections_at content (length bytes) bytes))
   no_content e bytes front rest id inner after some framed failed h =
       let next : sections_at content h.most rest ≡ (content id inner >>= λ s. sections_at content (h.most - 1) after >>= λ ss. Ok (more s ss)) =
@@ -133,11 +135,11 @@ nested_adds scopes content trees e =
     (Nested content inner.0, ap (λ (q : Result Sections Fault). q >>= λ inner. Ok (Nested content inner)) inner.1, refl)
 
 -- a nested component that was not
-pub nested_fails : (e : ReadError) (scopes : ℕ) (content : List ℕ) → Fails e (component_at scopes content >>= λ ss. Ok (items_in ss)) → Fails e (content_at scopes 4 content)
+pub nested_fails : (e : Refusal) (scopes : ℕ) (content : List ℕ) → Fails e (component_at scopes content >>= λ ss. Ok (items_in ss)) → Fails e (content_at scopes 4 content)
 unfolding content_at content_with
-nested_fails errors.Memory scopes content h = tt
-nested_fails (errors.Form at) scopes content h = ap (λ (q : Result Sections Fault). q >>= λ inner. Ok (Nested content inner)) (failed_before (component_at scopes content) Form h)
-nested_fails (errors.NotCarried at) scopes content h = ap (λ (q : Result Sections Fault). q >>= λ inner. Ok (Nested content inner)) (failed_before (component_at scopes content) NotCarried h)
+nested_fails refusals.Memory scopes content h = tt
+nested_fails (refusals.Form at) scopes content h = ap (λ (q : Result Sections Fault). q >>= λ inner. Ok (Nested content inner)) (failed_before (component_at scopes content) Form h)
+nested_fails (refusals.NotCarried at) scopes content h = ap (λ (q : Result Sections Fault). q >>= λ inner. Ok (Nested content inner)) (failed_before (component_at scopes content) NotCarried h)
 
 -- ---- all
 
@@ -154,26 +156,29 @@ found_only scopes bytes read items e h =
       | inr same ↦ sym (ok_is (items_in ss.0) read ss.2) ∙ ap items_in (ok_is ss.0 h.0 (sym ss.1 ∙ same)) ∙ sym h.1
     ]
 
-pub refused_only : (e : ReadError) (scopes : ℕ) (bytes : List ℕ) (items : List ItemTree) → Fails e (component_at scopes bytes >>= λ ss. Ok (items_in ss)) → Reads bytes items → e ≡ errors.Memory
-refused_only errors.Memory scopes bytes items h reads = refl
-refused_only (errors.Form at) scopes bytes items h reads =
+pub refused_only : (e : Refusal) (scopes : ℕ) (bytes : List ℕ) (items : List ItemTree) → Fails e (component_at scopes bytes >>= λ ss. Ok (items_in ss)) → Reads bytes items → e ≡ refusals.Memory
+refused_only refusals.Memory scopes bytes items h reads = refl
+refused_only (refusals.Form at) scopes bytes items h reads =
     let failed = failed_before (component_at scopes bytes) Form h in
     elim (component_within reads.0 scopes bytes reads.2) [
       | inl deep ↦ absurd (deep_is_no_form (sym deep ∙ failed))
       | inr same ↦ never Form reads.0 (sym failed ∙ same)
     ]
-refused_only (errors.NotCarried at) scopes bytes items h reads =
+refused_only (refusals.NotCarried at) scopes bytes items h reads =
     let failed = failed_before (component_at scopes bytes) NotCarried h in
     elim (component_within reads.0 scopes bytes reads.2) [
       | inl deep ↦ absurd (deep_is_carried (sym deep ∙ failed))
       | inr same ↦ never NotCarried reads.0 (sym failed ∙ same)
     ]
 
-pub refused_form : (e : ReadError) (at scopes : ℕ) (bytes : List ℕ) → e ≡ errors.Form at → Fails e (component_at scopes bytes >>= λ ss. Ok (items_in ss)) → component_at scopes bytes ≡ Err Form
-refused_form e at scopes bytes is h = failed_before (component_at scopes bytes) Form (subst (λ (x : ReadError). Fails x (component_at scopes bytes >>= λ ss. Ok (items_in ss))) is h)
+pub refused_form : (e : Refusal) (at scopes : ℕ) (bytes : List ℕ) → e ≡ refusals.Form at → Fails e (component_at scopes bytes >>= λ ss. Ok (items_in ss)) → component_at scopes bytes ≡ Err Form
+refused_form e at scopes bytes is h = failed_before (component_at scopes bytes) Form (subst (λ (x : Refusal). Fails x (component_at scopes bytes >>= λ ss. Ok (items_in ss))) is h)
 
-pub refused_not_carried : (e : ReadError) (at scopes : ℕ) (bytes : List ℕ) → e ≡ errors.NotCarried at → Fails e (component_at scopes bytes >>= λ ss. Ok (items_in ss)) → component_at scopes bytes ≡ Err NotCarried
-refused_not_carried e at scopes bytes is h = failed_before (component_at scopes bytes) NotCarried (subst (λ (x : ReadError). Fails x (component_at scopes bytes >>= λ ss. Ok (items_in ss))) is h)
+pub refused_not_carried : (e : Refusal) (at scopes : ℕ) (bytes : List ℕ) → e ≡ refusals.NotCarried at → Fails e (component_at scopes bytes >>= λ ss. Ok (items_in ss)) → component_at scopes bytes ≡ Err NotCarried
+refused_not_carried e at scopes bytes is h = failed_before (component_at scopes bytes) NotCarried (subst (λ (x : Refusal). Fails x (component_at scopes bytes >>= λ ss. Ok (items_in ss))) is h)
 
-pub memory_is : (e f : ReadError) → SameFault e f → e ≡ errors.Memory → f ≡ errors.Memory
-memory_is e f same is = subst (λ (x : ReadError). SameFault x f) is same
+pub memory_is : (e : Refusal) (error : ReadError) → IsPlaced e error → e ≡ refusals.Memory → error ≡ errors.Memory
+memory_is e error placed is = subst (λ (x : Refusal). IsPlaced x error) is placed
+
+pub still_memory : (e f : Refusal) → SameFault e f → e ≡ refusals.Memory → f ≡ refusals.Memory
+still_memory e f same is = subst (λ (x : Refusal). SameFault x f) is same

@@ -7,8 +7,8 @@ use Rattle.std.proofs.lemmas.List.{append-nil}
 use Rattle.warg_values.specs.Reading.{◌>>=◌}
 use Rattle.comp_format.specs.Fault.{Fault, Form, NotCarried}
 use Rattle.comp_format.specs.Vectors.{ReaderOf, name_at, labelled_at}
-use Rattle.comp_reader.specs.declared.error.ReadError.{ReadError}
-use Rattle.comp_reader.specs.declared.error.ReadError.TheVariants as errors
+use Rattle.comp_reader.specs.declared.refusal.Refusal.{Refusal}
+use Rattle.comp_reader.specs.declared.refusal.Refusal.TheVariants as refusals
 use Rattle.comp_reader.specs.Refusal.{Fails}
 use Rattle.comp_reader.proofs.ManyLaws.{with_front}
 use Rattle.comp_reader.proofs.TextSets.{HasTexts}
@@ -44,15 +44,15 @@ module _ {X : Type 0} (behind : List ℕ → ReaderOf X) where
       sym one_more ∙ so_far
 
   -- a label could not be read
-  pub no_label : (e : ReadError) (front : List X) (seen : List (List ℕ)) (count i : ℕ) (bytes : List ℕ) (total : Result (List X × List ℕ) Fault) → i < count → Fails e (name_at bytes)
+  pub no_label : (e : Refusal) (front : List X) (seen : List (List ℕ)) (count i : ℕ) (bytes : List ℕ) (total : Result (List X × List ℕ) Fault) → i < count → Fails e (name_at bytes)
       → with_front front (labelled_at behind seen (count - i) bytes) ≡ total → Fails e total
   unfolding labelled_at
-  no_label errors.Memory front seen count i bytes total lt h so_far = tt
-  no_label (errors.Form at) front seen count i bytes total lt h so_far =
+  no_label refusals.Memory front seen count i bytes total lt h so_far = tt
+  no_label (refusals.Form at) front seen count i bytes total lt h so_far =
       let k : count - i ≡ suc (count - (i + 1)) = omega arith in
       let failed : with_front front (labelled_at behind seen (count - i) bytes) ≡ Err Form = rw (k, h) refl in
       sym so_far ∙ failed
-  no_label (errors.NotCarried at) front seen count i bytes total lt h so_far =
+  no_label (refusals.NotCarried at) front seen count i bytes total lt h so_far =
       let k : count - i ≡ suc (count - (i + 1)) = omega arith in
       let failed : with_front front (labelled_at behind seen (count - i) bytes) ≡ Err NotCarried = rw (k, h) refl in
       sym so_far ∙ failed
@@ -67,16 +67,16 @@ module _ {X : Type 0} (behind : List ℕ → ReaderOf X) where
       sym so_far ∙ failed
 
   -- what stands behind a label could not be read
-  pub no_value : (e : ReadError) (front : List X) (seen : List (List ℕ)) (count i : ℕ) (bytes label behind_label : List ℕ) (total : Result (List X × List ℕ) Fault) → i < count
+  pub no_value : (e : Refusal) (front : List X) (seen : List (List ℕ)) (count i : ℕ) (bytes label behind_label : List ℕ) (total : Result (List X × List ℕ) Fault) → i < count
       → name_at bytes ≡ Ok (label, behind_label) → list_any (bytes_eq label) seen ≡ false → Fails e (behind label behind_label)
       → with_front front (labelled_at behind seen (count - i) bytes) ≡ total → Fails e total
   unfolding labelled_at
-  no_value errors.Memory front seen count i bytes label behind_label total lt name new h so_far = tt
-  no_value (errors.Form at) front seen count i bytes label behind_label total lt name new h so_far =
+  no_value refusals.Memory front seen count i bytes label behind_label total lt name new h so_far = tt
+  no_value (refusals.Form at) front seen count i bytes label behind_label total lt name new h so_far =
       let k : count - i ≡ suc (count - (i + 1)) = omega arith in
       let failed : with_front front (labelled_at behind seen (count - i) bytes) ≡ Err Form = rw (k, name, new, h) refl in
       sym so_far ∙ failed
-  no_value (errors.NotCarried at) front seen count i bytes label behind_label total lt name new h so_far =
+  no_value (refusals.NotCarried at) front seen count i bytes label behind_label total lt name new h so_far =
       let k : count - i ≡ suc (count - (i + 1)) = omega arith in
       let failed : with_front front (labelled_at behind seen (count - i) bytes) ≡ Err NotCarried = rw (k, name, new, h) refl in
       sym so_far ∙ failed

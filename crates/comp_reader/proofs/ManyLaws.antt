@@ -4,8 +4,8 @@ use Rattle.std.proofs.lemmas.List.{append-nil}
 use Rattle.warg_values.specs.Reading.{◌>>=◌}
 use Rattle.comp_format.specs.Fault.{Fault, Form, NotCarried}
 use Rattle.comp_format.specs.Vectors.{ReaderOf, many_at}
-use Rattle.comp_reader.specs.declared.error.ReadError.{ReadError}
-use Rattle.comp_reader.specs.declared.error.ReadError.TheVariants as errors
+use Rattle.comp_reader.specs.declared.refusal.Refusal.{Refusal}
+use Rattle.comp_reader.specs.declared.refusal.Refusal.TheVariants as refusals
 use Rattle.comp_reader.specs.Refusal.{Fails}
 
 -- what was read before, and what is still read
@@ -25,15 +25,15 @@ module _ {X : Type 0} (one : ReaderOf X) where
       let one_more : with_front front (many_at one (count - i) bytes) ≡ with_front (front ++ x ∷ []) (many_at one (count - (i + 1)) after) = rw (k, h) (regroup front x (many_at one (count - (i + 1)) after)) in
       sym one_more ∙ so_far
 
-  pub ends : (e : ReadError) (front : List X) (count i : ℕ) (bytes : List ℕ) (total : Result (List X × List ℕ) Fault) → i < count → Fails e (one bytes)
+  pub ends : (e : Refusal) (front : List X) (count i : ℕ) (bytes : List ℕ) (total : Result (List X × List ℕ) Fault) → i < count → Fails e (one bytes)
       → with_front front (many_at one (count - i) bytes) ≡ total → Fails e total
   unfolding many_at
-  ends errors.Memory front count i bytes total lt h so_far = tt
-  ends (errors.Form at) front count i bytes total lt h so_far =
+  ends refusals.Memory front count i bytes total lt h so_far = tt
+  ends (refusals.Form at) front count i bytes total lt h so_far =
       let k : count - i ≡ suc (count - (i + 1)) = omega arith in
       let failed : with_front front (many_at one (count - i) bytes) ≡ Err Form = rw (k, h) refl in
       sym so_far ∙ failed
-  ends (errors.NotCarried at) front count i bytes total lt h so_far =
+  ends (refusals.NotCarried at) front count i bytes total lt h so_far =
       let k : count - i ≡ suc (count - (i + 1)) = omega arith in
       let failed : with_front front (many_at one (count - i) bytes) ≡ Err NotCarried = rw (k, h) refl in
       sym so_far ∙ failed

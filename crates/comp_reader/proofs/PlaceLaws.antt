@@ -22,8 +22,8 @@ use Rattle.comp_format.proofs.ItemLaws.{import_again, export_again}
 use Rattle.comp_format.proofs.SectionLaws.{frame_again, framed_shorter}
 use Rattle.comp_format.proofs.DepthLaws.{Below, core_or_deep, definition_or_deep}
 use Rattle.comp_format.proofs.ScopeLaws.{UsesUp, core_used, definition_used, alias_used, instance_used, core_instance_used, canon_used, import_used, export_used}
-use Rattle.comp_reader.specs.declared.error.ReadError.{ReadError}
-use Rattle.comp_reader.specs.declared.error.ReadError.TheVariants as errors
+use Rattle.comp_reader.specs.declared.refusal.Refusal.{Refusal}
+use Rattle.comp_reader.specs.declared.refusal.Refusal.TheVariants as refusals
 use Rattle.comp_reader.specs.declared.places.ItemPlace.{ItemPlace}
 use Rattle.comp_reader.specs.Refusal.{Fails}
 use Rattle.comp_reader.specs.Places.{SectionForm, InSection, ValueFirst, ItemFirst, StandsAt, is_one_item, count_at, behind_items_at, items_from_at}
@@ -31,12 +31,12 @@ use Rattle.comp_reader.proofs.ItemLaws.{deep_is_no_form, deep_is_carried}
 use Rattle.comp_reader.proofs.ValueLaws.{complete_is, first_or_deep, value_is_there}
 
 -- what is read but for depth is refused for want of memory alone
-pub only_memory : {X : Type 0} (e : ReadError) (r : Result X Fault) (x : X) → Below r (Ok x) → Fails e r → e ≡ errors.Memory
-only_memory errors.Memory r x h failed = refl
-only_memory (errors.Form at) r x (inl deep) failed = absurd (deep_is_no_form (sym deep ∙ failed))
-only_memory (errors.Form at) r x (inr is) failed = never Form x (sym failed ∙ is)
-only_memory (errors.NotCarried at) r x (inl deep) failed = absurd (deep_is_carried (sym deep ∙ failed))
-only_memory (errors.NotCarried at) r x (inr is) failed = never NotCarried x (sym failed ∙ is)
+pub only_memory : {X : Type 0} (e : Refusal) (r : Result X Fault) (x : X) → Below r (Ok x) → Fails e r → e ≡ refusals.Memory
+only_memory refusals.Memory r x h failed = refl
+only_memory (refusals.Form at) r x (inl deep) failed = absurd (deep_is_no_form (sym deep ∙ failed))
+only_memory (refusals.Form at) r x (inr is) failed = never Form x (sym failed ∙ is)
+only_memory (refusals.NotCarried at) r x (inl deep) failed = absurd (deep_is_carried (sym deep ∙ failed))
+only_memory (refusals.NotCarried at) r x (inr is) failed = never NotCarried x (sym failed ∙ is)
 
 -- ---- how many items a section has
 
@@ -125,7 +125,7 @@ module _ (s : Section) (number : ℕ) (section content behind item : List ℕ) (
           | inr is ↦ ap length found.2 ∙ length-append found.0 after ∙ ap (λ (l : List ℕ). length l + length after) (ok_is found.0 items (sym is ∙ read))
         ]
 
-    pub not_looked_up : (e : ReadError) → is_one_item id ≡ false → Fails e (items_from_at 200 id number inside) → e ≡ errors.Memory
+    pub not_looked_up : (e : Refusal) → is_one_item id ≡ false → Fails e (items_from_at 200 id number inside) → e ≡ refusals.Memory
     not_looked_up e many failed = let found = looked_up many in only_memory e (items_from_at 200 id number inside) found.0 found.1 failed
 
 -- ---- sections
@@ -138,10 +138,10 @@ front_section s rest after h id content behind framed count counted =
     (same.2, ok_is count (length (section_items s)) (sym counted ∙ rw (same.0, same.1) (section_count s h.0 h.2)))
 
 -- a section that is there is framed, and its items are counted
-pub framed_there : (e : ReadError) (id : ℕ) (content bytes behind : List ℕ) → Framed id content bytes behind → Fails e (frame_at bytes) → e ≡ errors.Memory
+pub framed_there : (e : Refusal) (id : ℕ) (content bytes behind : List ℕ) → Framed id content bytes behind → Fails e (frame_at bytes) → e ≡ refusals.Memory
 framed_there e id content bytes behind h failed = only_memory e (frame_at bytes) ((id, content), behind) (inr (frame_again id content bytes behind h)) failed
 
-pub counted_there : (e : ReadError) (s : Section) (rest after : List ℕ) → SectionForm s rest after → (id : ℕ) (content behind : List ℕ) → frame_at rest ≡ Ok ((id, content), behind) → Fails e (count_at id content) → e ≡ errors.Memory
+pub counted_there : (e : Refusal) (s : Section) (rest after : List ℕ) → SectionForm s rest after → (id : ℕ) (content behind : List ℕ) → frame_at rest ≡ Ok ((id, content), behind) → Fails e (count_at id content) → e ≡ refusals.Memory
 counted_there e s rest after h id content behind framed failed =
     let same = same_frame (section_id s) h.0 rest after h.1 id content behind framed in
     only_memory e (count_at id content) (length (section_items s)) (inr (rw (same.0, same.1) (section_count s h.0 h.2))) failed

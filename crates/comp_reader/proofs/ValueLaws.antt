@@ -10,7 +10,7 @@ use Rattle.comp_format.proofs.NumberLaws.{number_again, leb_shorter}
 use Rattle.comp_format.proofs.VectorLaws.{IsComplete}
 use Rattle.comp_format.proofs.DepthLaws.{Below, first_below}
 use Rattle.comp_format.proofs.ScopeLaws.{UsesUp, many_used}
-use Rattle.comp_reader.specs.declared.error.ReadError.{ReadError}
+use Rattle.comp_reader.specs.declared.refusal.Refusal.{Refusal}
 use Rattle.comp_reader.specs.Refusal.{Fails}
 use Rattle.comp_reader.specs.Places.{ValueFirst, behind_many_at}
 use Rattle.comp_reader.proofs.ItemLaws.{fails_on}
@@ -38,7 +38,7 @@ module _ {X : Type 0} (one : ReaderOf X) where
       let one_more : behind_many_at one (count - i) bytes ≡ behind_many_at one (count - (i + 1)) after = rw (k, h) (regroup x (many_at one (count - (i + 1)) after)) in
       sym one_more ∙ so_far
 
-  pub ends : (e : ReadError) (count i : ℕ) (bytes : List ℕ) (total : Result (List ℕ) Fault) → i < count → Fails e (one bytes) → behind_many_at one (count - i) bytes ≡ total → Fails e total
+  pub ends : (e : Refusal) (count i : ℕ) (bytes : List ℕ) (total : Result (List ℕ) Fault) → i < count → Fails e (one bytes) → behind_many_at one (count - i) bytes ≡ total → Fails e total
   unfolding many_at
   ends e count i bytes total lt h so_far =
       let k : count - i ≡ suc (count - (i + 1)) = omega arith in

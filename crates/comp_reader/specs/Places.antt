@@ -2,6 +2,7 @@
 use Rattle.std.specs.Prelude.{◌≡◌, ℕ, ◌+◌, ◌<◌, Bool, true, List, [], ◌++◌, length, take, drop, Result, Ok, Err, ◌==◌, if◌then◌else◌}
 use Rattle.std.specs.List.{flat_map}
 use Rattle.warg_values.specs.Reading.{◌>>=◌}
+use Rattle.comp_format.specs.SectionIds as ids
 use Rattle.comp_format.specs.Fault.{Fault, Form}
 use Rattle.comp_format.specs.Numbers.{FormOf, Number, number_at}
 use Rattle.comp_format.specs.Vectors.{ReaderOf, Many, many_at}
@@ -68,7 +69,7 @@ pub record StandsAt (number : ℕ) (bytes : List ℕ) (place : ItemPlace) : Type
 
 -- whether the section of an id is one item, and no vector of items
 abbrev pub is_one_item : ℕ → Bool
-is_one_item id = if id == 0 then true else if id == 1 then true else id == 4
+is_one_item id = if id == ids.custom then true else if id == ids.core_modules then true else id == ids.component
 
 -- how many items a section of this id has
 unfoldable pub count_at : ℕ → List ℕ → Result ℕ Fault
@@ -81,14 +82,14 @@ behind_many_at one count bytes = many_at one count bytes >>= λ xs. Ok xs.1
 -- the bytes behind so many items of the kind that sections of an id hold, where so many scopes may be open
 unfoldable pub behind_items_at : ℕ → ℕ → ℕ → List ℕ → Result (List ℕ) Fault
 behind_items_at scopes id count bytes =
-    if id == 2 then behind_many_at core_instance_at count bytes
-    else if id == 3 then behind_many_at (core_at scopes) count bytes
-    else if id == 5 then behind_many_at instance_at count bytes
-    else if id == 6 then behind_many_at alias_at count bytes
-    else if id == 7 then behind_many_at (definition_at scopes) count bytes
-    else if id == 8 then behind_many_at canon_at count bytes
-    else if id == 10 then behind_many_at import_at count bytes
-    else if id == 11 then behind_many_at export_at count bytes
+    if id == ids.core_instances then behind_many_at core_instance_at count bytes
+    else if id == ids.core_types then behind_many_at (core_at scopes) count bytes
+    else if id == ids.instances then behind_many_at instance_at count bytes
+    else if id == ids.aliases then behind_many_at alias_at count bytes
+    else if id == ids.types then behind_many_at (definition_at scopes) count bytes
+    else if id == ids.canons then behind_many_at canon_at count bytes
+    else if id == ids.imports then behind_many_at import_at count bytes
+    else if id == ids.exports then behind_many_at export_at count bytes
     else Err Form
 
 -- the bytes from an item on, in the content of a section of this id that is a vector of items

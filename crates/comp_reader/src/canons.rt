@@ -6,8 +6,8 @@ ghost use Rattle.comp_format.specs.declared.types.CanonOption.{CanonOption as ca
 ghost use Rattle.comp_format.specs.Canons.{option_at, lift_at, lower_at, canon_at};
 ghost use Rattle.comp_reader.specs.Refusal.{Gives};
 
-use crate::error::ReadError;
 use crate::read::{Field, byte_of, mark_of, number_of, vector_of};
+use crate::refusal::Refusal;
 use comp_format::{Canon, CanonOption};
 use std::alloc::Global;
 use warg_values::Sequence;
@@ -20,7 +20,7 @@ impl Field for CanonOption {
     ghost tree_at = { λ scopes. option_at };
 
     #[tactic(auto, unfolding(comp_format::specs::Canons::option_at))]
-    fn read(_alloc: Global, _scopes: u8, bytes: &[u8]) -> Result<(Self, &[u8]), ReadError> {
+    fn read(_alloc: Global, _scopes: u8, bytes: &[u8]) -> Result<(Self, &[u8]), Refusal> {
         let (byte, rest) = byte_of(bytes)?;
         if byte < 3 {
             return Ok((CanonOption::Encoding(byte), rest));
@@ -40,16 +40,17 @@ impl Field for CanonOption {
             }
             _ => {
                 if byte < 8 {
-                    return Err(ReadError::NotCarried(bytes.len()));
+                    return Err(Refusal::NotCarried(bytes.len()));
                 }
-                Err(ReadError::Form(bytes.len()))
+                Err(Refusal::Form(bytes.len()))
             }
         }
     }
 }
 
+/// A function made from a core function, behind its byte.
 #[tactic(auto, unfolding(comp_format::specs::Canons::lift_at))]
-fn lift_of(alloc: Global, bytes: &[u8]) -> Result<(Canon, &[u8]), ReadError>
+fn lift_of(alloc: Global, bytes: &[u8]) -> Result<(Canon, &[u8]), Refusal>
     ensures { Gives (λ x. (x.0, x.1.now)) result (lift_at bytes.now) }
 {
     let (func, rest) = number_of(mark_of(0, bytes)?)?;
@@ -59,8 +60,9 @@ fn lift_of(alloc: Global, bytes: &[u8]) -> Result<(Canon, &[u8]), ReadError>
     Ok((Canon::Lift { func, options, ty }, rest))
 }
 
+/// A core function made from a function, behind its byte.
 #[tactic(auto, unfolding(comp_format::specs::Canons::lower_at))]
-fn lower_of(alloc: Global, bytes: &[u8]) -> Result<(Canon, &[u8]), ReadError>
+fn lower_of(alloc: Global, bytes: &[u8]) -> Result<(Canon, &[u8]), Refusal>
     ensures { Gives (λ x. (x.0, x.1.now)) result (lower_at bytes.now) }
 {
     let (func, rest) = number_of(mark_of(0, bytes)?)?;
@@ -77,7 +79,7 @@ impl Field for Canon {
     ghost tree_at = { λ scopes. canon_at };
 
     #[tactic(auto, unfolding(comp_format::specs::Canons::canon_at))]
-    fn read(alloc: Global, _scopes: u8, bytes: &[u8]) -> Result<(Self, &[u8]), ReadError> {
+    fn read(alloc: Global, _scopes: u8, bytes: &[u8]) -> Result<(Self, &[u8]), Refusal> {
         let (byte, rest) = byte_of(bytes)?;
         match byte {
             0 => lift_of(alloc, rest),
@@ -94,7 +96,7 @@ impl Field for Canon {
                 let (ty, rest) = number_of(rest)?;
                 Ok((Canon::ResourceRep(ty), rest))
             }
-            _ => Err(ReadError::NotCarried(bytes.len())),
+            _ => Err(Refusal::NotCarried(bytes.len())),
         }
     }
 }

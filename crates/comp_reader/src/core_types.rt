@@ -8,8 +8,8 @@ ghost use Rattle.comp_format.specs.Views.{core_tree, module_decl_tree};
 ghost use Rattle.comp_reader.specs.Nested.{module_decls_at};
 ghost use Rattle.comp_reader.specs.Refusal.{Gives};
 
-use crate::error::ReadError;
 use crate::read::{Field, any_name_of, byte_of, carried_of, number_of, vector_of};
+use crate::refusal::Refusal;
 use comp_format::{CoreDesc, CoreType, CoreVal, Limits, ModuleDecl, ModuleType};
 use std::alloc::Global;
 use warg_values::Sequence;
@@ -30,14 +30,15 @@ fn core_value_of_byte(byte: u8) -> Option<CoreVal>
     }
 }
 
+/// A core value type.
 #[tactic(auto, unfolding(comp_format::specs::CoreTypes::core_value_at))]
-fn core_value_of(bytes: &[u8]) -> Result<(CoreVal, &[u8]), ReadError>
+fn core_value_of(bytes: &[u8]) -> Result<(CoreVal, &[u8]), Refusal>
     ensures { Gives (λ x. (x.0, x.1.now)) result (core_value_at bytes.now) }
 {
     let (byte, rest) = byte_of(bytes)?;
     match core_value_of_byte(byte) {
         Some(value) => Ok((value, rest)),
-        None => Err(ReadError::NotCarried(bytes.len())),
+        None => Err(Refusal::NotCarried(bytes.len())),
     }
 }
 
@@ -48,7 +49,7 @@ impl Field for CoreVal {
 
     ghost tree_at = { λ scopes. core_value_at };
 
-    fn read(_alloc: Global, _scopes: u8, bytes: &[u8]) -> Result<(Self, &[u8]), ReadError> {
+    fn read(_alloc: Global, _scopes: u8, bytes: &[u8]) -> Result<(Self, &[u8]), Refusal> {
         core_value_of(bytes)
     }
 }
@@ -64,8 +65,9 @@ fn is_reference(value: CoreVal) -> bool
     }
 }
 
+/// Limits, behind what they bound.
 #[tactic(auto, unfolding(comp_format::specs::CoreTypes::limits_at))]
-fn limits_of(bytes: &[u8]) -> Result<(Limits, &[u8]), ReadError>
+fn limits_of(bytes: &[u8]) -> Result<(Limits, &[u8]), Refusal>
     ensures { Gives (λ x. (x.0, x.1.now)) result (limits_at bytes.now) }
 {
     let (byte, rest) = byte_of(bytes)?;
@@ -80,36 +82,39 @@ fn limits_of(bytes: &[u8]) -> Result<(Limits, &[u8]), ReadError>
             let max = Some(max);
             Ok((Limits { min, max }, rest))
         }
-        _ => Err(ReadError::NotCarried(bytes.len())),
+        _ => Err(Refusal::NotCarried(bytes.len())),
     }
 }
 
+/// A table, behind its byte.
 #[tactic(auto, unfolding(comp_format::specs::CoreTypes::table_at))]
-fn table_of(bytes: &[u8]) -> Result<(CoreDesc, &[u8]), ReadError>
+fn table_of(bytes: &[u8]) -> Result<(CoreDesc, &[u8]), Refusal>
     ensures { Gives (λ x. (x.0, x.1.now)) result (table_at bytes.now) }
 {
     let (element, rest) = core_value_of(bytes)?;
     if !is_reference(element) {
-        return Err(ReadError::NotCarried(bytes.len()));
+        return Err(Refusal::NotCarried(bytes.len()));
     }
     let (limits, rest) = limits_of(rest)?;
     Ok((CoreDesc::Table { element, limits }, rest))
 }
 
+/// Whether a global is mutable.
 #[tactic(auto, unfolding(comp_format::specs::CoreTypes::mutable_at))]
-fn mutable_of(bytes: &[u8]) -> Result<(bool, &[u8]), ReadError>
+fn mutable_of(bytes: &[u8]) -> Result<(bool, &[u8]), Refusal>
     ensures { Gives (λ x. (x.0, x.1.now)) result (mutable_at bytes.now) }
 {
     let (byte, rest) = byte_of(bytes)?;
     match byte {
         0 => Ok((false, rest)),
         1 => Ok((true, rest)),
-        _ => Err(ReadError::NotCarried(bytes.len())),
+        _ => Err(Refusal::NotCarried(bytes.len())),
     }
 }
 
+/// A global, behind its byte.
 #[tactic(auto, unfolding(comp_format::specs::CoreTypes::global_at))]
-fn global_of(bytes: &[u8]) -> Result<(CoreDesc, &[u8]), ReadError>
+fn global_of(bytes: &[u8]) -> Result<(CoreDesc, &[u8]), Refusal>
     ensures { Gives (λ x. (x.0, x.1.now)) result (global_at bytes.now) }
 {
     let (value, rest) = core_value_of(bytes)?;
@@ -117,8 +122,9 @@ fn global_of(bytes: &[u8]) -> Result<(CoreDesc, &[u8]), ReadError>
     Ok((CoreDesc::Global { value, mutable }, rest))
 }
 
+/// The description of what a core module imports or exports.
 #[tactic(auto, unfolding(comp_format::specs::CoreTypes::core_desc_at))]
-fn core_desc_of(bytes: &[u8]) -> Result<(CoreDesc, &[u8]), ReadError>
+fn core_desc_of(bytes: &[u8]) -> Result<(CoreDesc, &[u8]), Refusal>
     ensures { Gives (λ x. (x.0, x.1.now)) result (core_desc_at bytes.now) }
 {
     let (byte, rest) = byte_of(bytes)?;
@@ -133,12 +139,13 @@ fn core_desc_of(bytes: &[u8]) -> Result<(CoreDesc, &[u8]), ReadError>
             Ok((CoreDesc::Memory(limits), rest))
         }
         3 => global_of(rest),
-        _ => Err(ReadError::NotCarried(bytes.len())),
+        _ => Err(Refusal::NotCarried(bytes.len())),
     }
 }
 
+/// An import of a core module, behind its byte.
 #[tactic(auto, unfolding(comp_format::specs::CoreTypes::module_import_at))]
-fn module_import_of(alloc: Global, bytes: &[u8]) -> Result<(ModuleDecl, &[u8]), ReadError>
+fn module_import_of(alloc: Global, bytes: &[u8]) -> Result<(ModuleDecl, &[u8]), Refusal>
     ensures { Gives (λ x. (module_decl_tree x.0, x.1.now)) result (module_import_at bytes.now) }
 {
     let (module, rest) = any_name_of(alloc, bytes)?;
@@ -147,8 +154,9 @@ fn module_import_of(alloc: Global, bytes: &[u8]) -> Result<(ModuleDecl, &[u8]), 
     Ok((ModuleDecl::Import { module, name, desc }, rest))
 }
 
+/// An alias of an outer core type, behind its byte.
 #[tactic(auto, unfolding(comp_format::specs::CoreTypes::module_alias_at))]
-fn module_alias_of(bytes: &[u8]) -> Result<(ModuleDecl, &[u8]), ReadError>
+fn module_alias_of(bytes: &[u8]) -> Result<(ModuleDecl, &[u8]), Refusal>
     ensures { Gives (λ x. (module_decl_tree x.0, x.1.now)) result (module_alias_at bytes.now) }
 {
     let rest = carried_of(1, carried_of(0x10, bytes)?)?;
@@ -157,8 +165,9 @@ fn module_alias_of(bytes: &[u8]) -> Result<(ModuleDecl, &[u8]), ReadError>
     Ok((ModuleDecl::OuterAlias { count, index }, rest))
 }
 
+/// An export of a core module, behind its byte.
 #[tactic(auto, unfolding(comp_format::specs::CoreTypes::module_export_at))]
-fn module_export_of(alloc: Global, bytes: &[u8]) -> Result<(ModuleDecl, &[u8]), ReadError>
+fn module_export_of(alloc: Global, bytes: &[u8]) -> Result<(ModuleDecl, &[u8]), Refusal>
     ensures { Gives (λ x. (module_decl_tree x.0, x.1.now)) result (module_export_at bytes.now) }
 {
     let (name, rest) = any_name_of(alloc, bytes)?;
@@ -166,8 +175,9 @@ fn module_export_of(alloc: Global, bytes: &[u8]) -> Result<(ModuleDecl, &[u8]), 
     Ok((ModuleDecl::Export { name, desc }, rest))
 }
 
+/// A type of core functions, behind its byte.
 #[tactic(auto, unfolding(comp_format::specs::CoreTypes::core_func_at))]
-fn core_func_of(alloc: Global, bytes: &[u8]) -> Result<(CoreType, &[u8]), ReadError>
+fn core_func_of(alloc: Global, bytes: &[u8]) -> Result<(CoreType, &[u8]), Refusal>
     ensures { Gives (λ x. (core_tree x.0, x.1.now)) result (core_func_at bytes.now) }
 {
     let (params, rest) = vector_of::<CoreVal>(alloc, 0, bytes)?;
@@ -182,7 +192,7 @@ fn core_func_of(alloc: Global, bytes: &[u8]) -> Result<(CoreType, &[u8]), ReadEr
 /// A core type in which at most so many scopes are open at one place.
 #[cycle(core_reading)]
 #[tactic(auto, using(crate::proofs::NestedLaws::core_is), unfolding(comp_format::specs::CoreTypes::core_with, comp_format::specs::CoreTypes::module_at))]
-pub fn core_of(alloc: Global, scopes: u8, bytes: &[u8]) -> Result<(CoreType, &[u8]), ReadError>
+pub fn core_of(alloc: Global, scopes: u8, bytes: &[u8]) -> Result<(CoreType, &[u8]), Refusal>
     ensures { Gives (λ x. (core_tree x.0, x.1.now)) result (core_at scopes bytes.now) }
 {
     let (byte, rest) = byte_of(bytes)?;
@@ -192,7 +202,7 @@ pub fn core_of(alloc: Global, scopes: u8, bytes: &[u8]) -> Result<(CoreType, &[u
             let (decls, rest) = module_decls_of(alloc, scopes, rest)?;
             Ok((CoreType::Module(ModuleType { decls }), rest))
         }
-        _ => Err(ReadError::NotCarried(bytes.len())),
+        _ => Err(Refusal::NotCarried(bytes.len())),
     }
 }
 
@@ -203,11 +213,11 @@ fn module_decls_of(
     alloc: Global,
     scopes: u8,
     bytes: &[u8],
-) -> Result<(Vec<ModuleDecl>, &[u8]), ReadError>
+) -> Result<(Vec<ModuleDecl>, &[u8]), Refusal>
     ensures { Gives (λ x. (map module_decl_tree x.0.items, x.1.now)) result (module_decls_at scopes bytes.now) }
 {
     if scopes == 0 {
-        return Err(ReadError::Memory);
+        return Err(Refusal::Memory);
     }
     let (count, rest) = number_of(bytes)?;
     many_module_decls_of(alloc, scopes - 1, count, rest)
@@ -220,8 +230,9 @@ fn many_module_decls_of(
     scopes: u8,
     count: u32,
     bytes: &[u8],
-) -> Result<(Vec<ModuleDecl>, &[u8]), ReadError>
-    ensures { Gives (λ x. (map module_decl_tree x.0.items, x.1.now)) result (many_at (module_decl_at (core_at scopes)) count bytes.now) }
+) -> Result<(Vec<ModuleDecl>, &[u8]), Refusal>
+    ensures { Gives (λ x. (map module_decl_tree x.0.items, x.1.now)) result
+        (many_at (module_decl_at (core_at scopes)) count bytes.now) }
 {
     let mut decls = Vec::new(alloc);
     let mut rest = bytes;
@@ -236,7 +247,7 @@ fn many_module_decls_of(
 /// A declaration of a module type.
 #[cycle(core_reading)]
 #[tactic(auto, unfolding(comp_format::specs::CoreTypes::module_decl_at))]
-fn module_decl_of(alloc: Global, scopes: u8, bytes: &[u8]) -> Result<(ModuleDecl, &[u8]), ReadError>
+fn module_decl_of(alloc: Global, scopes: u8, bytes: &[u8]) -> Result<(ModuleDecl, &[u8]), Refusal>
     ensures { Gives (λ x. (module_decl_tree x.0, x.1.now)) result (module_decl_at (core_at scopes) bytes.now) }
 {
     let (byte, rest) = byte_of(bytes)?;
@@ -248,7 +259,7 @@ fn module_decl_of(alloc: Global, scopes: u8, bytes: &[u8]) -> Result<(ModuleDecl
         }
         2 => module_alias_of(rest),
         3 => module_export_of(alloc, rest),
-        _ => Err(ReadError::NotCarried(bytes.len())),
+        _ => Err(Refusal::NotCarried(bytes.len())),
     }
 }
 
@@ -259,7 +270,7 @@ impl Field for CoreType {
 
     ghost tree_at = { core_at };
 
-    fn read(alloc: Global, scopes: u8, bytes: &[u8]) -> Result<(Self, &[u8]), ReadError> {
+    fn read(alloc: Global, scopes: u8, bytes: &[u8]) -> Result<(Self, &[u8]), Refusal> {
         core_of(alloc, scopes, bytes)
     }
 }

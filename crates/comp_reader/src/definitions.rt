@@ -10,9 +10,9 @@ ghost use Rattle.comp_reader.specs.Nested.{decls_at};
 ghost use Rattle.comp_reader.specs.Refusal.{Gives};
 
 use crate::core_types::core_of;
-use crate::error::ReadError;
 use crate::parts::{alias_of, description_of, export_name_of};
 use crate::read::{Field, byte_of, mark_of, number_of};
+use crate::refusal::Refusal;
 use crate::values::{defined_of, func_of};
 use comp_format::{Alias, ComponentType, CoreSort, Decl, DefType, InstanceType, Sort};
 use std::alloc::Global;
@@ -50,19 +50,21 @@ fn is_declared(alias: &Alias) -> bool
     }
 }
 
+/// An alias in a declaration, behind its byte.
 #[tactic(auto, unfolding(comp_format::specs::Definitions::inner_alias_at))]
-fn inner_alias_of(alloc: Global, bytes: &[u8]) -> Result<(Decl, &[u8]), ReadError>
+fn inner_alias_of(alloc: Global, bytes: &[u8]) -> Result<(Decl, &[u8]), Refusal>
     ensures { Gives (λ x. (decl_tree x.0, x.1.now)) result (inner_alias_at bytes.now) }
 {
     let (alias, rest) = alias_of(alloc, bytes)?;
     if !is_declared(&alias) {
-        return Err(ReadError::Form(bytes.len()));
+        return Err(Refusal::Form(bytes.len()));
     }
     Ok((Decl::Alias(alias), rest))
 }
 
+/// An import in a declaration, behind its byte.
 #[tactic(auto, unfolding(comp_format::specs::Definitions::described_at))]
-fn import_of(alloc: Global, bytes: &[u8]) -> Result<(Decl, &[u8]), ReadError>
+fn import_of(alloc: Global, bytes: &[u8]) -> Result<(Decl, &[u8]), Refusal>
     ensures { Gives (λ x. (decl_tree x.0, x.1.now)) result (described_at Import bytes.now) }
 {
     let (name, rest) = export_name_of(alloc, bytes)?;
@@ -70,8 +72,9 @@ fn import_of(alloc: Global, bytes: &[u8]) -> Result<(Decl, &[u8]), ReadError>
     Ok((Decl::Import { name, ty }, rest))
 }
 
+/// An export in a declaration, behind its byte.
 #[tactic(auto, unfolding(comp_format::specs::Definitions::described_at))]
-fn export_of(alloc: Global, bytes: &[u8]) -> Result<(Decl, &[u8]), ReadError>
+fn export_of(alloc: Global, bytes: &[u8]) -> Result<(Decl, &[u8]), Refusal>
     ensures { Gives (λ x. (decl_tree x.0, x.1.now)) result (described_at Export bytes.now) }
 {
     let (name, rest) = export_name_of(alloc, bytes)?;
@@ -81,7 +84,7 @@ fn export_of(alloc: Global, bytes: &[u8]) -> Result<(Decl, &[u8]), ReadError>
 
 /// A flag, and the index where there is one.
 #[tactic(auto, unfolding(comp_format::specs::Vectors::optional_at))]
-fn optional_of(bytes: &[u8]) -> Result<(Option<u32>, &[u8]), ReadError>
+fn optional_of(bytes: &[u8]) -> Result<(Option<u32>, &[u8]), Refusal>
     ensures { Gives (λ x. (x.0, x.1.now)) result (optional_at number_at bytes.now) }
 {
     let (byte, rest) = byte_of(bytes)?;
@@ -91,12 +94,13 @@ fn optional_of(bytes: &[u8]) -> Result<(Option<u32>, &[u8]), ReadError>
             let (index, rest) = number_of(rest)?;
             Ok((Some(index), rest))
         }
-        _ => Err(ReadError::Form(bytes.len())),
+        _ => Err(Refusal::Form(bytes.len())),
     }
 }
 
+/// A fresh resource, behind its byte.
 #[tactic(auto, unfolding(comp_format::specs::Definitions::resource_at))]
-fn resource_of(bytes: &[u8]) -> Result<(DefType, &[u8]), ReadError>
+fn resource_of(bytes: &[u8]) -> Result<(DefType, &[u8]), Refusal>
     ensures { Gives (λ x. (type_tree x.0, x.1.now)) result (resource_at bytes.now) }
 {
     let (destructor, rest) = optional_of(mark_of(0x7f, bytes)?)?;
@@ -106,7 +110,7 @@ fn resource_of(bytes: &[u8]) -> Result<(DefType, &[u8]), ReadError>
 /// A type in which at most so many scopes are open at one place.
 #[cycle(reading)]
 #[tactic(auto, using(crate::proofs::NestedLaws::definition_is, crate::proofs::ViewLaws::tree_defined), unfolding(comp_format::specs::Definitions::type_with))]
-pub fn type_of(alloc: Global, scopes: u8, bytes: &[u8]) -> Result<(DefType, &[u8]), ReadError>
+pub fn type_of(alloc: Global, scopes: u8, bytes: &[u8]) -> Result<(DefType, &[u8]), Refusal>
     ensures { Gives (λ x. (type_tree x.0, x.1.now)) result (definition_at scopes bytes.now) }
 {
     let (byte, rest) = byte_of(bytes)?;
@@ -139,11 +143,11 @@ fn decls_of(
     scopes: u8,
     imports: bool,
     bytes: &[u8],
-) -> Result<(Vec<Decl>, &[u8]), ReadError>
+) -> Result<(Vec<Decl>, &[u8]), Refusal>
     ensures { Gives (λ x. (map decl_tree x.0.items, x.1.now)) result (decls_at scopes imports bytes.now) }
 {
     if scopes == 0 {
-        return Err(ReadError::Memory);
+        return Err(Refusal::Memory);
     }
     let (count, rest) = number_of(bytes)?;
     many_decls_of(alloc, scopes - 1, imports, count, rest)
@@ -157,8 +161,9 @@ fn many_decls_of(
     imports: bool,
     count: u32,
     bytes: &[u8],
-) -> Result<(Vec<Decl>, &[u8]), ReadError>
-    ensures { Gives (λ x. (map decl_tree x.0.items, x.1.now)) result (many_at (decl_at imports (core_at scopes) (definition_at scopes)) count bytes.now) }
+) -> Result<(Vec<Decl>, &[u8]), Refusal>
+    ensures { Gives (λ x. (map decl_tree x.0.items, x.1.now)) result
+        (many_at (decl_at imports (core_at scopes) (definition_at scopes)) count bytes.now) }
 {
     let mut decls = Vec::new(alloc);
     let mut rest = bytes;
@@ -173,13 +178,9 @@ fn many_decls_of(
 /// A declaration, where there may be imports, or not.
 #[cycle(reading)]
 #[tactic(auto, unfolding(comp_format::specs::Definitions::decl_at))]
-fn decl_of(
-    alloc: Global,
-    scopes: u8,
-    imports: bool,
-    bytes: &[u8],
-) -> Result<(Decl, &[u8]), ReadError>
-    ensures { Gives (λ x. (decl_tree x.0, x.1.now)) result (decl_at imports (core_at scopes) (definition_at scopes) bytes.now) }
+fn decl_of(alloc: Global, scopes: u8, imports: bool, bytes: &[u8]) -> Result<(Decl, &[u8]), Refusal>
+    ensures { Gives (λ x. (decl_tree x.0, x.1.now)) result
+        (decl_at imports (core_at scopes) (definition_at scopes) bytes.now) }
 {
     let (byte, rest) = byte_of(bytes)?;
     match byte {
@@ -191,24 +192,24 @@ fn decl_of(
         2 => inner_alias_of(alloc, rest),
         3 => {
             if !imports {
-                return Err(ReadError::Form(bytes.len()));
+                return Err(Refusal::Form(bytes.len()));
             }
             import_of(alloc, rest)
         }
         4 => export_of(alloc, rest),
-        _ => Err(ReadError::Form(bytes.len())),
+        _ => Err(Refusal::Form(bytes.len())),
     }
 }
 
 /// A type in a declaration, which is no resource.
 #[cycle(reading)]
 #[tactic(auto, unfolding(comp_format::specs::Definitions::inner_type_at))]
-fn inner_type_of(alloc: Global, scopes: u8, bytes: &[u8]) -> Result<(Decl, &[u8]), ReadError>
+fn inner_type_of(alloc: Global, scopes: u8, bytes: &[u8]) -> Result<(Decl, &[u8]), Refusal>
     ensures { Gives (λ x. (decl_tree x.0, x.1.now)) result (inner_type_at (definition_at scopes) bytes.now) }
 {
     let (ty, rest) = type_of(alloc, scopes, bytes)?;
     match ty {
-        DefType::Resource { .. } => Err(ReadError::Form(bytes.len())),
+        DefType::Resource { .. } => Err(Refusal::Form(bytes.len())),
         ty => Ok((Decl::Ty(ty), rest)),
     }
 }
@@ -220,7 +221,7 @@ impl Field for DefType {
 
     ghost tree_at = { definition_at };
 
-    fn read(alloc: Global, scopes: u8, bytes: &[u8]) -> Result<(Self, &[u8]), ReadError> {
+    fn read(alloc: Global, scopes: u8, bytes: &[u8]) -> Result<(Self, &[u8]), Refusal> {
         type_of(alloc, scopes, bytes)
     }
 }

@@ -1,7 +1,6 @@
 //! Why bytes are no component.
 
 ghost use Rattle.std.specs.Prelude.{◌≡◌};
-ghost use Rattle.comp_reader.specs.Refusal.{SameFault};
 ghost use Rattle.comp_reader.specs.declared.error.ReadError.TheVariants.{Memory as no_memory};
 
 use std::alloc::{AllocError, AllocFailed};
@@ -15,35 +14,11 @@ pub enum ReadError {
     #[error("the bytes at {0} are no part of a component: check that the file is whole, and a component")]
     Form(usize),
     /// A form stands there that is not carried, as values, start sections and asynchronous functions.
-    #[error("the bytes at {0} are of a form that is not carried: leave out what uses it")]
+    #[error("the bytes at {0} are of a form that is not supported: leave out what uses it")]
     NotCarried(usize),
     /// No memory was left, or more than 200 scopes were open at one place.
-    #[error("out of memory: free some, or give the program more, and try again")]
+    #[error("out of memory, or more than 200 scopes are open at one place: free some memory, or nest less")]
     Memory,
-}
-
-impl ReadError {
-    /// The fault of a part that so many bytes stand behind.
-    pub(crate) fn before(self, behind: usize) -> Self
-        ensures { SameFault self result }
-    {
-        match self {
-            ReadError::Form(left) => ReadError::Form(left.saturating_add(behind)),
-            ReadError::NotCarried(left) => ReadError::NotCarried(left.saturating_add(behind)),
-            ReadError::Memory => ReadError::Memory,
-        }
-    }
-
-    /// The fault with its place in so many bytes, which was the number of bytes that were left there.
-    pub(crate) fn placed(self, len: usize) -> Self
-        ensures { SameFault self result }
-    {
-        match self {
-            ReadError::Form(left) => ReadError::Form(len.saturating_sub(left)),
-            ReadError::NotCarried(left) => ReadError::NotCarried(len.saturating_sub(left)),
-            ReadError::Memory => ReadError::Memory,
-        }
-    }
 }
 
 impl From<AllocError> for ReadError {

@@ -18,17 +18,10 @@ ghost use Rattle.comp_reader.specs.Views.{import_tree, export_tree};
 use crate::error::ReadError;
 use crate::parts::{ReadExport, ReadImport};
 use crate::read::{any_name_of, front_of, number_of, whole_of};
+use crate::refusal::Refusal;
+use comp_format::section::{self, CORE_HEADER, HEADER, MAGIC};
 use comp_format::{Alias, Canon, CoreInstance, CoreType, DefType, InstanceItem, Item};
 use std::alloc::Global;
-
-/// The magic bytes, the version and the layer of a component.
-pub const HEADER: [u8; 8] = [0x00, 0x61, 0x73, 0x6d, 0x0d, 0x00, 0x01, 0x00];
-
-/// The magic bytes and the version of a core module.
-const CORE_HEADER: [u8; 8] = [0x00, 0x61, 0x73, 0x6d, 0x01, 0x00, 0x00, 0x00];
-
-/// The id of the section of a nested component.
-const COMPONENT: u8 = 4;
 
 /// How many scopes are followed at one place: components, and types of components, instances and modules.
 pub const SCOPES: u8 = 200;
@@ -43,6 +36,7 @@ trait Listed: Drop {
     /// The item that it is.
     ghost item: { Tree → ItemTree };
 
+    /// The value as an item.
     fn into_item<'a>(self) -> Item<'a>
         ensures { item_tree result ≡ item (tree self) };
 }
@@ -156,9 +150,10 @@ impl Listed for ReadExport {
 }
 
 /// Adds values to items.
-fn push_all<T: Listed>(items: &mut Vec<Item<'_>>, values: Vec<T>) -> Result<(), ReadError>
-    ensures added { OnOk result (map item_tree items.new.items ≡ map item_tree items.old.items ++ map T.item (map T.tree values.items)) }
-    ensures err { IfErr result (λ e. e ≡ ReadError.Memory) }
+fn push_all<T: Listed>(items: &mut Vec<Item<'_>>, values: Vec<T>) -> Result<(), Refusal>
+    ensures added { OnOk result
+        (map item_tree items.new.items ≡ map item_tree items.old.items ++ map T.item (map T.tree values.items)) }
+    ensures err { IfErr result (λ e. e ≡ Refusal.Memory) }
 {
     for value in values {
         items.push(value.into_item())?;
@@ -168,11 +163,11 @@ fn push_all<T: Listed>(items: &mut Vec<Item<'_>>, values: Vec<T>) -> Result<(), 
 
 /// A section's id and content, and the bytes behind it.
 #[tactic(auto, unfolding(comp_format::specs::Sections::frame_at))]
-pub fn frame_of(bytes: &[u8]) -> Result<((u8, &[u8]), &[u8]), ReadError>
+pub fn frame_of(bytes: &[u8]) -> Result<((u8, &[u8]), &[u8]), Refusal>
     ensures { Gives (λ x. ((x.0.0, x.0.1.now), x.1.now)) result (frame_at bytes.now) }
 {
     match bytes {
-        [] => Err(ReadError::Form(0)),
+        [] => Err(Refusal::Form(0)),
         [id, rest @ ..] => {
             let (count, rest) = number_of(rest)?;
             let (content, rest) = front_of(count, rest)?;
@@ -190,63 +185,71 @@ fn push_section<'a>(
     id: u8,
     content: &'a [u8],
     items: &mut Vec<Item<'a>>,
-) -> Result<(), ReadError>
+) -> Result<(), Refusal>
     requires { id ≢ 4 }
-    ensures { Adds result (content_at scopes id content.now) (map item_tree items.old.items) (map item_tree items.new.items) }
+    ensures { Adds result (content_at scopes id content.now) (map item_tree items.old.items)
+        (map item_tree items.new.items) }
 {
     match id {
-        0 => {
+        section::CUSTOM => {
             let (name, bytes) = any_name_of(alloc, content)?;
             items.push(Item::Custom { name, bytes })?;
         }
-        1 => {
+        section::CORE_MODULE => {
             if !content.starts_with(&CORE_HEADER) {
-                return Err(ReadError::Form(content.len()));
+                return Err(Refusal::Form(content.len()));
             }
             items.push(Item::CoreModule { bytes: content })?;
         }
-        2 => push_all(items, whole_of::<CoreInstance>(alloc, scopes, content)?)?,
-        3 => push_all(items, whole_of::<CoreType>(alloc, scopes, content)?)?,
-        5 => push_all(items, whole_of::<InstanceItem>(alloc, scopes, content)?)?,
-        6 => push_all(items, whole_of::<Alias>(alloc, scopes, content)?)?,
-        7 => push_all(items, whole_of::<DefType>(alloc, scopes, content)?)?,
-        8 => push_all(items, whole_of::<Canon>(alloc, scopes, content)?)?,
-        9 => return Err(ReadError::NotCarried(at)),
-        10 => push_all(items, whole_of::<ReadImport>(alloc, scopes, content)?)?,
-        11 => push_all(items, whole_of::<ReadExport>(alloc, scopes, content)?)?,
-        12 => return Err(ReadError::NotCarried(at)),
-        _ => return Err(ReadError::Form(at)),
+        section::CORE_INSTANCE => push_all(
+            items,
+            whole_of::<CoreInstance>(alloc, scopes, content)?,
+        )?,
+        section::CORE_TYPE => push_all(items, whole_of::<CoreType>(alloc, scopes, content)?)?,
+        section::INSTANCE => push_all(items, whole_of::<InstanceItem>(alloc, scopes, content)?)?,
+        section::ALIAS => push_all(items, whole_of::<Alias>(alloc, scopes, content)?)?,
+        section::TYPE => push_all(items, whole_of::<DefType>(alloc, scopes, content)?)?,
+        section::CANON => push_all(items, whole_of::<Canon>(alloc, scopes, content)?)?,
+        section::START => return Err(Refusal::NotCarried(at)),
+        section::IMPORT => push_all(items, whole_of::<ReadImport>(alloc, scopes, content)?)?,
+        section::EXPORT => push_all(items, whole_of::<ReadExport>(alloc, scopes, content)?)?,
+        section::VALUE => return Err(Refusal::NotCarried(at)),
+        _ => return Err(Refusal::Form(at)),
     }
     Ok(())
 }
 
 /// The refusal of bytes that do not begin with the header of a component.
-pub fn no_header(bytes: &[u8]) -> ReadError
-    ensures { (left : ℕ) × (result ≡ ReadError.Form left) }
+pub fn no_header(bytes: &[u8]) -> Refusal
+    ensures { (left : ℕ) × (result ≡ Refusal.Form left) }
 {
-    let magic = bytes.starts_with(&HEADER[..4]);
+    let magic = bytes.starts_with(&MAGIC);
     let left = bytes.len();
-    ReadError::Form(if magic { left.saturating_sub(4) } else { left })
+    Refusal::Form(if magic {
+        left.saturating_sub(MAGIC.len())
+    } else {
+        left
+    })
 }
 
 /// The items of a component in which at most so many scopes are open at one place, itself among them.
 #[cycle(reading_items)]
 #[tactic(auto, using(crate::proofs::ItemLaws::component_is), unfolding(comp_format::specs::Sections::headed_at, comp_format::specs::Sections::behind_at))]
-fn items_of(alloc: Global, scopes: u8, bytes: &[u8]) -> Result<Vec<Item<'_>>, ReadError>
+fn items_of(alloc: Global, scopes: u8, bytes: &[u8]) -> Result<Vec<Item<'_>>, Refusal>
     ensures { Gives (λ items. map item_tree items.items) result (component_items scopes bytes.now) }
 {
     if scopes == 0 {
-        return Err(ReadError::Memory);
+        return Err(Refusal::Memory);
     }
     if !bytes.starts_with(&HEADER) {
         return Err(no_header(bytes));
     }
-    sections_of(alloc, scopes - 1, &bytes[8..])
+    sections_of(alloc, scopes - 1, &bytes[HEADER.len()..])
 }
 
 /// The items of sections, to the end of the bytes.
 #[cycle(reading_items)]
-fn sections_of(alloc: Global, scopes: u8, bytes: &[u8]) -> Result<Vec<Item<'_>>, ReadError>
+fn sections_of(alloc: Global, scopes: u8, bytes: &[u8]) -> Result<Vec<Item<'_>>, Refusal>
     ensures { Gives (λ items. map item_tree items.items) result (sections_items scopes bytes.now) }
 {
     let mut items = Vec::new(alloc);
@@ -273,10 +276,11 @@ fn any_section<'a>(
     id: u8,
     content: &'a [u8],
     items: &mut Vec<Item<'a>>,
-) -> Result<(), ReadError>
-    ensures { Adds result (content_at scopes id content.now) (map item_tree items.old.items) (map item_tree items.new.items) }
+) -> Result<(), Refusal>
+    ensures { Adds result (content_at scopes id content.now) (map item_tree items.old.items)
+        (map item_tree items.new.items) }
 {
-    if id != COMPONENT {
+    if id != section::COMPONENT {
         return push_section(alloc, scopes, at, id, content, items);
     }
     let _inner = items_of(alloc, scopes, content)?;
@@ -293,9 +297,11 @@ fn any_section<'a>(
 /// open, `Memory` is answered, so that no bytes exhaust the stack.
 pub fn read_items(alloc: Global, bytes: &[u8]) -> Result<Vec<Item<'_>>, ReadError>
     ensures found { IfOk result (λ items. Reads bytes.now (map item_tree items.items)) }
-    ensures only { (items : List ItemTree) → Reads bytes.now items → MatchResult result (λ v. map item_tree v.items ≡ items) (λ e. e ≡ ReadError.Memory) }
+    ensures only { (items : List ItemTree) → Reads bytes.now items
+        → MatchResult result (λ v. map item_tree v.items ≡ items) (λ e. e ≡ ReadError.Memory) }
     ensures form { (at : ℕ) → result ≡ Err (ReadError.Form at) → component_at 200 bytes.now ≡ Err no_form }
-    ensures not_carried { (at : ℕ) → result ≡ Err (ReadError.NotCarried at) → component_at 200 bytes.now ≡ Err not_carried }
+    ensures not_carried { (at : ℕ) → result ≡ Err (ReadError.NotCarried at)
+        → component_at 200 bytes.now ≡ Err not_carried }
 {
     match items_of(alloc, SCOPES, bytes) {
         Ok(items) => Ok(items),

@@ -12,10 +12,10 @@ mod items;
 mod parts;
 mod places;
 mod read;
-#[cfg(test)]
-mod tests;
+mod refusal;
 mod values;
 
+pub use comp_format::Item;
 pub use error::ReadError;
 pub use items::read_items;
 pub use places::{ItemPlace, RawSection, item_place, read_section};

@@ -12,8 +12,8 @@ ghost use Rattle.comp_format.specs.Items.{ImportTree, ExportTree, import_at, exp
 ghost use Rattle.comp_reader.specs.Refusal.{Gives};
 ghost use Rattle.comp_reader.specs.Views.{import_tree, export_tree, member_tree};
 
-use crate::error::ReadError;
 use crate::read::{Field, any_name_of, byte_of, mark_of, name_of, number_of, vector_of};
+use crate::refusal::Refusal;
 use comp_format::{Alias, Arg, CoreInstance, CoreSort, InstanceItem, Sort, TypeRef};
 use std::alloc::Global;
 use warg_values::{Sequence, Text};
@@ -34,19 +34,21 @@ fn core_sort_of_byte(byte: u8) -> Option<CoreSort>
     }
 }
 
+/// A core sort.
 #[tactic(auto, unfolding(comp_format::specs::Parts::core_sort_at))]
-fn core_sort_of(bytes: &[u8]) -> Result<(CoreSort, &[u8]), ReadError>
+fn core_sort_of(bytes: &[u8]) -> Result<(CoreSort, &[u8]), Refusal>
     ensures { Gives (λ x. (x.0, x.1.now)) result (core_sort_at bytes.now) }
 {
     let (byte, rest) = byte_of(bytes)?;
     match core_sort_of_byte(byte) {
         Some(sort) => Ok((sort, rest)),
-        None => Err(ReadError::Form(bytes.len())),
+        None => Err(Refusal::Form(bytes.len())),
     }
 }
 
+/// A sort.
 #[tactic(auto, unfolding(comp_format::specs::Parts::sort_at))]
-fn sort_of(bytes: &[u8]) -> Result<(Sort, &[u8]), ReadError>
+fn sort_of(bytes: &[u8]) -> Result<(Sort, &[u8]), Refusal>
     ensures { Gives (λ x. (x.0, x.1.now)) result (sort_at bytes.now) }
 {
     let (byte, rest) = byte_of(bytes)?;
@@ -56,17 +58,17 @@ fn sort_of(bytes: &[u8]) -> Result<(Sort, &[u8]), ReadError>
             Ok((Sort::Core(core), rest))
         }
         1 => Ok((Sort::Func, rest)),
-        2 => Err(ReadError::NotCarried(bytes.len())),
+        2 => Err(Refusal::NotCarried(bytes.len())),
         3 => Ok((Sort::Ty, rest)),
         4 => Ok((Sort::Component, rest)),
         5 => Ok((Sort::Instance, rest)),
-        _ => Err(ReadError::Form(bytes.len())),
+        _ => Err(Refusal::Form(bytes.len())),
     }
 }
 
 /// The description of a type, behind its byte.
 #[tactic(auto, unfolding(comp_format::specs::Parts::type_at))]
-fn type_of(bytes: &[u8]) -> Result<(TypeRef, &[u8]), ReadError>
+fn type_of(bytes: &[u8]) -> Result<(TypeRef, &[u8]), Refusal>
     ensures { Gives (λ x. (x.0, x.1.now)) result (type_at bytes.now) }
 {
     let (byte, rest) = byte_of(bytes)?;
@@ -76,12 +78,13 @@ fn type_of(bytes: &[u8]) -> Result<(TypeRef, &[u8]), ReadError>
             Ok((TypeRef::TyEqual(index), rest))
         }
         1 => Ok((TypeRef::TyFresh, rest)),
-        _ => Err(ReadError::Form(bytes.len())),
+        _ => Err(Refusal::Form(bytes.len())),
     }
 }
 
+/// The description of an import or export.
 #[tactic(auto, unfolding(comp_format::specs::Parts::description_at))]
-pub fn description_of(bytes: &[u8]) -> Result<(TypeRef, &[u8]), ReadError>
+pub fn description_of(bytes: &[u8]) -> Result<(TypeRef, &[u8]), Refusal>
     ensures { Gives (λ x. (x.0, x.1.now)) result (description_at bytes.now) }
 {
     let (byte, rest) = byte_of(bytes)?;
@@ -94,7 +97,7 @@ pub fn description_of(bytes: &[u8]) -> Result<(TypeRef, &[u8]), ReadError>
             let (index, rest) = number_of(rest)?;
             Ok((TypeRef::Func(index), rest))
         }
-        2 => Err(ReadError::NotCarried(bytes.len())),
+        2 => Err(Refusal::NotCarried(bytes.len())),
         3 => type_of(rest),
         4 => {
             let (index, rest) = number_of(rest)?;
@@ -104,13 +107,13 @@ pub fn description_of(bytes: &[u8]) -> Result<(TypeRef, &[u8]), ReadError>
             let (index, rest) = number_of(rest)?;
             Ok((TypeRef::Instance(index), rest))
         }
-        _ => Err(ReadError::Form(bytes.len())),
+        _ => Err(Refusal::Form(bytes.len())),
     }
 }
 
 /// A flag, and the description where there is one.
 #[tactic(auto, unfolding(comp_format::specs::Vectors::optional_at))]
-fn optional_of(bytes: &[u8]) -> Result<(Option<TypeRef>, &[u8]), ReadError>
+fn optional_of(bytes: &[u8]) -> Result<(Option<TypeRef>, &[u8]), Refusal>
     ensures { Gives (λ x. (x.0, x.1.now)) result (optional_at description_at bytes.now) }
 {
     let (byte, rest) = byte_of(bytes)?;
@@ -120,20 +123,20 @@ fn optional_of(bytes: &[u8]) -> Result<(Option<TypeRef>, &[u8]), ReadError>
             let (ty, rest) = description_of(rest)?;
             Ok((Some(ty), rest))
         }
-        _ => Err(ReadError::Form(bytes.len())),
+        _ => Err(Refusal::Form(bytes.len())),
     }
 }
 
 /// The name of an import or export, behind one of its two prefixes.
 #[tactic(auto, unfolding(comp_format::specs::Parts::export_name_at))]
-pub fn export_name_of(alloc: Global, bytes: &[u8]) -> Result<(Text, &[u8]), ReadError>
+pub fn export_name_of(alloc: Global, bytes: &[u8]) -> Result<(Text, &[u8]), Refusal>
     ensures { Gives (λ x. (x.0, x.1.now)) result (export_name_at bytes.now) }
 {
     let (byte, rest) = byte_of(bytes)?;
     match byte {
         0 => name_of(alloc, rest),
         1 => name_of(alloc, rest),
-        _ => Err(ReadError::Form(bytes.len())),
+        _ => Err(Refusal::Form(bytes.len())),
     }
 }
 
@@ -145,7 +148,7 @@ impl Field for Arg {
     ghost tree_at = { λ scopes. arg_at };
 
     #[tactic(auto, unfolding(comp_format::specs::Parts::arg_at))]
-    fn read(alloc: Global, _scopes: u8, bytes: &[u8]) -> Result<(Self, &[u8]), ReadError> {
+    fn read(alloc: Global, _scopes: u8, bytes: &[u8]) -> Result<(Self, &[u8]), Refusal> {
         let (name, rest) = name_of(alloc, bytes)?;
         let (sort, rest) = sort_of(rest)?;
         let (index, rest) = number_of(rest)?;
@@ -156,6 +159,7 @@ impl Field for Arg {
 /// An item under the name of an export.
 #[derive(Debug, Drop)]
 pub struct Member {
+    /// The item, and its name.
     pub arg: Arg,
 }
 
@@ -167,7 +171,7 @@ impl Field for Member {
     ghost tree_at = { λ scopes. member_at };
 
     #[tactic(auto, unfolding(comp_format::specs::Parts::member_at))]
-    fn read(alloc: Global, _scopes: u8, bytes: &[u8]) -> Result<(Self, &[u8]), ReadError> {
+    fn read(alloc: Global, _scopes: u8, bytes: &[u8]) -> Result<(Self, &[u8]), Refusal> {
         let (name, rest) = export_name_of(alloc, bytes)?;
         let (sort, rest) = sort_of(rest)?;
         let (index, rest) = number_of(rest)?;
@@ -177,7 +181,7 @@ impl Field for Member {
 }
 
 /// What members hold.
-fn args_of(alloc: Global, members: Vec<Member>) -> Result<Sequence<Arg>, ReadError>
+fn args_of(alloc: Global, members: Vec<Member>) -> Result<Sequence<Arg>, Refusal>
     ensures { Gives (λ args. args) result (Ok (map member_tree members.items)) }
 {
     let mut args = Sequence::new(alloc);
@@ -187,8 +191,9 @@ fn args_of(alloc: Global, members: Vec<Member>) -> Result<Sequence<Arg>, ReadErr
     Ok(args)
 }
 
+/// An instance of a component, behind its byte.
 #[tactic(auto, unfolding(comp_format::specs::Parts::instantiate_at))]
-fn instantiate_of(alloc: Global, bytes: &[u8]) -> Result<(InstanceItem, &[u8]), ReadError>
+fn instantiate_of(alloc: Global, bytes: &[u8]) -> Result<(InstanceItem, &[u8]), Refusal>
     ensures { Gives (λ x. (x.0, x.1.now)) result (instantiate_at bytes.now) }
 {
     let (component, rest) = number_of(bytes)?;
@@ -205,7 +210,7 @@ impl Field for InstanceItem {
     ghost tree_at = { λ scopes. instance_at };
 
     #[tactic(auto, unfolding(comp_format::specs::Parts::instance_at))]
-    fn read(alloc: Global, _scopes: u8, bytes: &[u8]) -> Result<(Self, &[u8]), ReadError> {
+    fn read(alloc: Global, _scopes: u8, bytes: &[u8]) -> Result<(Self, &[u8]), Refusal> {
         let (byte, rest) = byte_of(bytes)?;
         match byte {
             0 => instantiate_of(alloc, rest),
@@ -213,7 +218,7 @@ impl Field for InstanceItem {
                 let (members, rest) = vector_of::<Member>(alloc, 0, rest)?;
                 Ok((InstanceItem::Exports(args_of(alloc, members)?), rest))
             }
-            _ => Err(ReadError::Form(bytes.len())),
+            _ => Err(Refusal::Form(bytes.len())),
         }
     }
 }
@@ -231,8 +236,9 @@ fn is_outer(sort: Sort) -> bool
     }
 }
 
+/// An alias of an export of an instance, behind its sort and byte.
 #[tactic(auto, unfolding(comp_format::specs::Parts::alias_export_at))]
-fn alias_export_of(alloc: Global, sort: Sort, bytes: &[u8]) -> Result<(Alias, &[u8]), ReadError>
+fn alias_export_of(alloc: Global, sort: Sort, bytes: &[u8]) -> Result<(Alias, &[u8]), Refusal>
     ensures { Gives (λ x. (x.0, x.1.now)) result (alias_export_at sort bytes.now) }
 {
     let (instance, rest) = number_of(bytes)?;
@@ -245,8 +251,9 @@ fn alias_export_of(alloc: Global, sort: Sort, bytes: &[u8]) -> Result<(Alias, &[
     Ok((alias, rest))
 }
 
+/// An alias of an export of a core instance, behind its sort and byte.
 #[tactic(auto, unfolding(comp_format::specs::Parts::core_export_at))]
-fn core_export_of(alloc: Global, sort: CoreSort, bytes: &[u8]) -> Result<(Alias, &[u8]), ReadError>
+fn core_export_of(alloc: Global, sort: CoreSort, bytes: &[u8]) -> Result<(Alias, &[u8]), Refusal>
     ensures { Gives (λ x. (x.0, x.1.now)) result (core_export_at sort bytes.now) }
 {
     let (instance, rest) = number_of(bytes)?;
@@ -259,8 +266,9 @@ fn core_export_of(alloc: Global, sort: CoreSort, bytes: &[u8]) -> Result<(Alias,
     Ok((alias, rest))
 }
 
+/// An alias of an item of an outer scope, behind its sort and byte.
 #[tactic(auto, unfolding(comp_format::specs::Parts::outer_at))]
-fn outer_of(sort: Sort, bytes: &[u8]) -> Result<(Alias, &[u8]), ReadError>
+fn outer_of(sort: Sort, bytes: &[u8]) -> Result<(Alias, &[u8]), Refusal>
     ensures { Gives (λ x. (x.0, x.1.now)) result (outer_at sort bytes.now) }
 {
     let (count, rest) = number_of(bytes)?;
@@ -269,18 +277,18 @@ fn outer_of(sort: Sort, bytes: &[u8]) -> Result<(Alias, &[u8]), ReadError>
 }
 
 /// An alias of what a core instance exports, which has a core sort.
-fn of_core(alloc: Global, sort: Sort, bytes: &[u8]) -> Result<(Alias, &[u8]), ReadError>
+fn of_core(alloc: Global, sort: Sort, bytes: &[u8]) -> Result<(Alias, &[u8]), Refusal>
     ensures { Gives (λ x. (x.0, x.1.now)) result (of_core sort bytes.now) }
 {
     match sort {
         Sort::Core(core) => core_export_of(alloc, core, bytes),
-        _ => Err(ReadError::Form(bytes.len().saturating_add(1))),
+        _ => Err(Refusal::Form(bytes.len().saturating_add(1))),
     }
 }
 
 /// An alias, behind its sort.
 #[tactic(auto, unfolding(comp_format::specs::Parts::target_at))]
-fn target_of(alloc: Global, sort: Sort, bytes: &[u8]) -> Result<(Alias, &[u8]), ReadError>
+fn target_of(alloc: Global, sort: Sort, bytes: &[u8]) -> Result<(Alias, &[u8]), Refusal>
     ensures { Gives (λ x. (x.0, x.1.now)) result (target_at sort bytes.now) }
 {
     let (byte, rest) = byte_of(bytes)?;
@@ -289,16 +297,17 @@ fn target_of(alloc: Global, sort: Sort, bytes: &[u8]) -> Result<(Alias, &[u8]), 
         1 => of_core(alloc, sort, rest),
         2 => {
             if !is_outer(sort) {
-                return Err(ReadError::Form(bytes.len()));
+                return Err(Refusal::Form(bytes.len()));
             }
             outer_of(sort, rest)
         }
-        _ => Err(ReadError::Form(bytes.len())),
+        _ => Err(Refusal::Form(bytes.len())),
     }
 }
 
+/// An alias.
 #[tactic(auto, unfolding(comp_format::specs::Parts::alias_at))]
-pub fn alias_of(alloc: Global, bytes: &[u8]) -> Result<(Alias, &[u8]), ReadError>
+pub fn alias_of(alloc: Global, bytes: &[u8]) -> Result<(Alias, &[u8]), Refusal>
     ensures { Gives (λ x. (x.0, x.1.now)) result (alias_at bytes.now) }
 {
     let (sort, rest) = sort_of(bytes)?;
@@ -312,7 +321,7 @@ impl Field for Alias {
 
     ghost tree_at = { λ scopes. alias_at };
 
-    fn read(alloc: Global, _scopes: u8, bytes: &[u8]) -> Result<(Self, &[u8]), ReadError> {
+    fn read(alloc: Global, _scopes: u8, bytes: &[u8]) -> Result<(Self, &[u8]), Refusal> {
         alias_of(alloc, bytes)
     }
 }
@@ -325,7 +334,7 @@ impl Field for (Text, u32) {
     ghost tree_at = { λ scopes. core_arg_at };
 
     #[tactic(auto, unfolding(comp_format::specs::Parts::core_arg_at))]
-    fn read(alloc: Global, _scopes: u8, bytes: &[u8]) -> Result<(Self, &[u8]), ReadError> {
+    fn read(alloc: Global, _scopes: u8, bytes: &[u8]) -> Result<(Self, &[u8]), Refusal> {
         let (name, rest) = any_name_of(alloc, bytes)?;
         let rest = mark_of(0x12, rest)?;
         let (index, rest) = number_of(rest)?;
@@ -341,7 +350,7 @@ impl Field for (Text, CoreSort, u32) {
     ghost tree_at = { λ scopes. core_member_at };
 
     #[tactic(auto, unfolding(comp_format::specs::Parts::core_member_at))]
-    fn read(alloc: Global, _scopes: u8, bytes: &[u8]) -> Result<(Self, &[u8]), ReadError> {
+    fn read(alloc: Global, _scopes: u8, bytes: &[u8]) -> Result<(Self, &[u8]), Refusal> {
         let (name, rest) = any_name_of(alloc, bytes)?;
         let (sort, rest) = core_sort_of(rest)?;
         let (index, rest) = number_of(rest)?;
@@ -349,8 +358,9 @@ impl Field for (Text, CoreSort, u32) {
     }
 }
 
+/// A core instance of a core module, behind its byte.
 #[tactic(auto, unfolding(comp_format::specs::Parts::core_instantiate_at))]
-fn core_instantiate_of(alloc: Global, bytes: &[u8]) -> Result<(CoreInstance, &[u8]), ReadError>
+fn core_instantiate_of(alloc: Global, bytes: &[u8]) -> Result<(CoreInstance, &[u8]), Refusal>
     ensures { Gives (λ x. (x.0, x.1.now)) result (core_instantiate_at bytes.now) }
 {
     let (module, rest) = number_of(bytes)?;
@@ -367,7 +377,7 @@ impl Field for CoreInstance {
     ghost tree_at = { λ scopes. core_instance_at };
 
     #[tactic(auto, unfolding(comp_format::specs::Parts::core_instance_at))]
-    fn read(alloc: Global, _scopes: u8, bytes: &[u8]) -> Result<(Self, &[u8]), ReadError> {
+    fn read(alloc: Global, _scopes: u8, bytes: &[u8]) -> Result<(Self, &[u8]), Refusal> {
         let (byte, rest) = byte_of(bytes)?;
         match byte {
             0 => core_instantiate_of(alloc, rest),
@@ -375,7 +385,7 @@ impl Field for CoreInstance {
                 let (members, rest) = vector_of::<(Text, CoreSort, u32)>(alloc, 0, rest)?;
                 Ok((CoreInstance::Exports(Sequence::from_vec(members)), rest))
             }
-            _ => Err(ReadError::Form(bytes.len())),
+            _ => Err(Refusal::Form(bytes.len())),
         }
     }
 }
@@ -383,7 +393,9 @@ impl Field for CoreInstance {
 /// An import, as it is read.
 #[derive(Debug, Drop)]
 pub struct ReadImport {
+    /// Its name.
     pub name: Text,
+    /// Its description.
     pub ty: TypeRef,
 }
 
@@ -395,7 +407,7 @@ impl Field for ReadImport {
     ghost tree_at = { λ scopes. import_at };
 
     #[tactic(auto, unfolding(comp_format::specs::Items::import_at))]
-    fn read(alloc: Global, _scopes: u8, bytes: &[u8]) -> Result<(Self, &[u8]), ReadError> {
+    fn read(alloc: Global, _scopes: u8, bytes: &[u8]) -> Result<(Self, &[u8]), Refusal> {
         let (name, rest) = export_name_of(alloc, bytes)?;
         let (ty, rest) = description_of(rest)?;
         Ok((ReadImport { name, ty }, rest))
@@ -405,9 +417,13 @@ impl Field for ReadImport {
 /// An export, as it is read.
 #[derive(Debug, Drop)]
 pub struct ReadExport {
+    /// Its name.
     pub name: Text,
+    /// What it is.
     pub sort: Sort,
+    /// The index of what it exports.
     pub index: u32,
+    /// Its description, where there is one.
     pub ty: Option<TypeRef>,
 }
 
@@ -419,7 +435,7 @@ impl Field for ReadExport {
     ghost tree_at = { λ scopes. export_at };
 
     #[tactic(auto, unfolding(comp_format::specs::Items::export_at))]
-    fn read(alloc: Global, _scopes: u8, bytes: &[u8]) -> Result<(Self, &[u8]), ReadError> {
+    fn read(alloc: Global, _scopes: u8, bytes: &[u8]) -> Result<(Self, &[u8]), Refusal> {
         let (name, rest) = export_name_of(alloc, bytes)?;
         let (sort, rest) = sort_of(rest)?;
         let (index, rest) = number_of(rest)?;

@@ -8,23 +8,23 @@ ghost use Rattle.comp_format.specs.Vectors.{ReaderOf, front_at, name_at, any_nam
 ghost use Rattle.comp_format.specs.Sections.{whole_at};
 ghost use Rattle.comp_reader.specs.Refusal.{Gives};
 
-use crate::error::ReadError;
+use crate::refusal::Refusal;
 use std::alloc::Global;
 use std::collections::BTreeSet;
 use warg_values::Text;
 
 /// LEB128 in at most so many bytes. `at` bytes are left where the number begins.
 #[tactic(auto, unfolding(comp_format::specs::Numbers::leb_at))]
-fn leb_of(left: u8, at: usize, bytes: &[u8]) -> Result<(u64, &[u8]), ReadError>
+fn leb_of(left: u8, at: usize, bytes: &[u8]) -> Result<(u64, &[u8]), Refusal>
     requires { left ≤ 5 }
     ensures exact { Gives (λ x. (x.0, x.1.now)) result (leb_at left bytes.now) }
     ensures below { IfOk result (λ x. x.0 < 128 ^ left) }
 {
     if left == 0 {
-        return Err(ReadError::Form(at));
+        return Err(Refusal::Form(at));
     }
     match bytes {
-        [] => Err(ReadError::Form(at)),
+        [] => Err(Refusal::Form(at)),
         [byte, rest @ ..] => {
             if *byte < 128 {
                 return Ok((*byte as u64, rest));
@@ -37,34 +37,34 @@ fn leb_of(left: u8, at: usize, bytes: &[u8]) -> Result<(u64, &[u8]), ReadError>
 
 /// A number below 2^32.
 #[tactic(auto, unfolding(comp_format::specs::Numbers::number_at))]
-pub fn number_of(bytes: &[u8]) -> Result<(u32, &[u8]), ReadError>
+pub fn number_of(bytes: &[u8]) -> Result<(u32, &[u8]), Refusal>
     ensures { Gives (λ x. (x.0, x.1.now)) result (number_at bytes.now) }
 {
     let (number, rest) = leb_of(5, bytes.len(), bytes)?;
     match u32::try_from(number) {
         Ok(number) => Ok((number, rest)),
-        Err(_) => Err(ReadError::Form(bytes.len())),
+        Err(_) => Err(Refusal::Form(bytes.len())),
     }
 }
 
 /// Signed LEB128, from 0 on, in at most so many bytes. `at` bytes are left where the number begins.
 #[tactic(auto, unfolding(comp_format::specs::Numbers::signed_leb_at))]
-fn signed_leb_of(left: u8, at: usize, bytes: &[u8]) -> Result<(u64, &[u8]), ReadError>
+fn signed_leb_of(left: u8, at: usize, bytes: &[u8]) -> Result<(u64, &[u8]), Refusal>
     requires { left ≤ 5 }
     ensures exact { Gives (λ x. (x.0, x.1.now)) result (signed_leb_at left bytes.now) }
     ensures below { IfOk result (λ x. x.0 < 128 ^ left) }
 {
     if left == 0 {
-        return Err(ReadError::Form(at));
+        return Err(Refusal::Form(at));
     }
     match bytes {
-        [] => Err(ReadError::Form(at)),
+        [] => Err(Refusal::Form(at)),
         [byte, rest @ ..] => {
             if *byte < 64 {
                 return Ok((*byte as u64, rest));
             }
             if *byte < 128 {
-                return Err(ReadError::Form(at));
+                return Err(Refusal::Form(at));
             }
             let (high, rest) = signed_leb_of(left - 1, at, rest)?;
             Ok((*byte as u64 - 128 + 128 * high, rest))
@@ -74,31 +74,32 @@ fn signed_leb_of(left: u8, at: usize, bytes: &[u8]) -> Result<(u64, &[u8]), Read
 
 /// The index of a type, as a value type has it.
 #[tactic(auto, unfolding(comp_format::specs::Numbers::signed_index_at))]
-pub fn signed_index_of(bytes: &[u8]) -> Result<(u32, &[u8]), ReadError>
+pub fn signed_index_of(bytes: &[u8]) -> Result<(u32, &[u8]), Refusal>
     ensures { Gives (λ x. (x.0, x.1.now)) result (signed_index_at bytes.now) }
 {
     let (number, rest) = signed_leb_of(5, bytes.len(), bytes)?;
     match u32::try_from(number) {
         Ok(number) => Ok((number, rest)),
-        Err(_) => Err(ReadError::Form(bytes.len())),
+        Err(_) => Err(Refusal::Form(bytes.len())),
     }
 }
 
 /// So many bytes, and the bytes behind them.
 #[tactic(auto, unfolding(comp_format::specs::Vectors::front_at))]
-pub fn front_of(count: u32, bytes: &[u8]) -> Result<(&[u8], &[u8]), ReadError>
+pub fn front_of(count: u32, bytes: &[u8]) -> Result<(&[u8], &[u8]), Refusal>
     ensures { Gives (λ x. (x.0.now, x.1.now)) result (front_at count bytes.now) }
 {
     let count = count as usize;
     if bytes.len() < count {
-        return Err(ReadError::Form(bytes.len()));
+        return Err(Refusal::Form(bytes.len()));
     }
     Ok(bytes.split_at(count))
 }
 
 /// Bytes as a text, where they are UTF-8.
 fn text_of(bytes: &[u8]) -> Option<&str>
-    ensures { MatchOption result (is_utf8 bytes.now ≡ false) (λ text. (is_utf8 bytes.now ≡ true) × (text.now ≡ bytes.now)) }
+    ensures { MatchOption result (is_utf8 bytes.now ≡ false)
+        (λ text. (is_utf8 bytes.now ≡ true) × (text.now ≡ bytes.now)) }
 {
     match str::from_utf8(bytes) {
         Ok(text) => Some(text),
@@ -108,22 +109,22 @@ fn text_of(bytes: &[u8]) -> Option<&str>
 
 /// A name, which is not empty.
 #[tactic(auto, unfolding(comp_format::specs::Vectors::name_at))]
-fn str_of(bytes: &[u8]) -> Result<(&str, &[u8]), ReadError>
+fn str_of(bytes: &[u8]) -> Result<(&str, &[u8]), Refusal>
     ensures { Gives (λ x. (x.0.now, x.1.now)) result (name_at bytes.now) }
 {
     let (count, rest) = number_of(bytes)?;
     let (text, after) = front_of(count, rest)?;
     if count == 0 {
-        return Err(ReadError::Form(bytes.len()));
+        return Err(Refusal::Form(bytes.len()));
     }
     match text_of(text) {
         Some(text) => Ok((text, after)),
-        None => Err(ReadError::Form(bytes.len())),
+        None => Err(Refusal::Form(bytes.len())),
     }
 }
 
 /// A name, which is not empty, as a text of its own.
-pub fn name_of(alloc: Global, bytes: &[u8]) -> Result<(Text, &[u8]), ReadError>
+pub fn name_of(alloc: Global, bytes: &[u8]) -> Result<(Text, &[u8]), Refusal>
     ensures { Gives (λ x. (x.0, x.1.now)) result (name_at bytes.now) }
 {
     let (text, after) = str_of(bytes)?;
@@ -132,50 +133,50 @@ pub fn name_of(alloc: Global, bytes: &[u8]) -> Result<(Text, &[u8]), ReadError>
 
 /// A name that may be empty.
 #[tactic(auto, unfolding(comp_format::specs::Vectors::any_name_at))]
-pub fn any_name_of(alloc: Global, bytes: &[u8]) -> Result<(Text, &[u8]), ReadError>
+pub fn any_name_of(alloc: Global, bytes: &[u8]) -> Result<(Text, &[u8]), Refusal>
     ensures { Gives (λ x. (x.0, x.1.now)) result (any_name_at bytes.now) }
 {
     let (count, rest) = number_of(bytes)?;
     let (text, after) = front_of(count, rest)?;
     match text_of(text) {
         Some(text) => Ok((Text::copy_of(alloc, text)?, after)),
-        None => Err(ReadError::Form(bytes.len())),
+        None => Err(Refusal::Form(bytes.len())),
     }
 }
 
 /// The byte at the front.
-pub fn byte_of(bytes: &[u8]) -> Result<(u8, &[u8]), ReadError>
+pub fn byte_of(bytes: &[u8]) -> Result<(u8, &[u8]), Refusal>
     ensures { Gives (λ x. (x.0, x.1.now)) result (byte_at bytes.now) }
 {
     match bytes {
-        [] => Err(ReadError::Form(0)),
+        [] => Err(Refusal::Form(0)),
         [byte, rest @ ..] => Ok((*byte, rest)),
     }
 }
 
 /// The bytes behind this one byte.
 #[tactic(auto, unfolding(comp_format::specs::Vectors::mark_at))]
-pub fn mark_of(mark: u8, bytes: &[u8]) -> Result<&[u8], ReadError>
+pub fn mark_of(mark: u8, bytes: &[u8]) -> Result<&[u8], Refusal>
     ensures { Gives (λ x. x.now) result (mark_at mark bytes.now) }
 {
     let (byte, rest) = byte_of(bytes)?;
     if byte == mark {
         Ok(rest)
     } else {
-        Err(ReadError::Form(bytes.len()))
+        Err(Refusal::Form(bytes.len()))
     }
 }
 
 /// The bytes behind this one byte, where others stand for forms that are not carried.
 #[tactic(auto, unfolding(comp_format::specs::Vectors::carried_at))]
-pub fn carried_of(mark: u8, bytes: &[u8]) -> Result<&[u8], ReadError>
+pub fn carried_of(mark: u8, bytes: &[u8]) -> Result<&[u8], Refusal>
     ensures { Gives (λ x. x.now) result (carried_at mark bytes.now) }
 {
     let (byte, rest) = byte_of(bytes)?;
     if byte == mark {
         Ok(rest)
     } else {
-        Err(ReadError::NotCarried(bytes.len()))
+        Err(Refusal::NotCarried(bytes.len()))
     }
 }
 
@@ -189,16 +190,18 @@ pub trait Field: Drop {
     /// The reading where so many scopes may be open.
     ghost tree_at: { ℕ → ReaderOf Tree };
 
-    fn read(alloc: Global, scopes: u8, bytes: &[u8]) -> Result<(Self, &[u8]), ReadError>
+    /// The value at the front, and the bytes behind it.
+    fn read(alloc: Global, scopes: u8, bytes: &[u8]) -> Result<(Self, &[u8]), Refusal>
         ensures { Gives (λ x. (tree x.0, x.1.now)) result (tree_at scopes bytes.now) };
 }
 
+/// So many values.
 fn many_of<T: Field>(
     alloc: Global,
     scopes: u8,
     count: u32,
     bytes: &[u8],
-) -> Result<(Vec<T>, &[u8]), ReadError>
+) -> Result<(Vec<T>, &[u8]), Refusal>
     ensures { Gives (λ x. (map T.tree x.0.items, x.1.now)) result (many_at (T.tree_at scopes) count bytes.now) }
 {
     let mut values = Vec::new(alloc);
@@ -217,7 +220,7 @@ pub fn vector_of<T: Field>(
     alloc: Global,
     scopes: u8,
     bytes: &[u8],
-) -> Result<(Vec<T>, &[u8]), ReadError>
+) -> Result<(Vec<T>, &[u8]), Refusal>
     ensures { Gives (λ x. (map T.tree x.0.items, x.1.now)) result (vector_at (T.tree_at scopes) bytes.now) }
 {
     let (count, rest) = number_of(bytes)?;
@@ -226,12 +229,12 @@ pub fn vector_of<T: Field>(
 
 /// A vector that is all of the bytes.
 #[tactic(auto, unfolding(comp_format::specs::Sections::whole_at))]
-pub fn whole_of<T: Field>(alloc: Global, scopes: u8, bytes: &[u8]) -> Result<Vec<T>, ReadError>
+pub fn whole_of<T: Field>(alloc: Global, scopes: u8, bytes: &[u8]) -> Result<Vec<T>, Refusal>
     ensures { Gives (λ values. map T.tree values.items) result (whole_at (T.tree_at scopes) bytes.now) }
 {
     let (values, rest) = vector_of(alloc, scopes, bytes)?;
     if !rest.is_empty() {
-        return Err(ReadError::Form(rest.len()));
+        return Err(Refusal::Form(rest.len()));
     }
     Ok(values)
 }
@@ -241,7 +244,8 @@ pub trait Labelled: Drop {
     /// The reading behind a label.
     ghost behind_at: { List ℕ → ReaderOf Self };
 
-    fn read_behind(alloc: Global, label: Text, bytes: &[u8]) -> Result<(Self, &[u8]), ReadError>
+    /// The value behind its label, and the bytes behind it.
+    fn read_behind(alloc: Global, label: Text, bytes: &[u8]) -> Result<(Self, &[u8]), Refusal>
         ensures { Gives (λ x. (x.0, x.1.now)) result (behind_at label bytes.now) };
 }
 
@@ -250,7 +254,7 @@ fn labelled_many_of<T: Labelled>(
     alloc: Global,
     count: u32,
     bytes: &[u8],
-) -> Result<(Vec<T>, &[u8]), ReadError>
+) -> Result<(Vec<T>, &[u8]), Refusal>
     ensures { Gives (λ x. (x.0.items, x.1.now)) result (labelled_at T.behind_at [] count bytes.now) }
 {
     let mut seen: BTreeSet<&str> = BTreeSet::new(alloc);
@@ -260,7 +264,7 @@ fn labelled_many_of<T: Labelled>(
         let (label, behind) = str_of(rest)?;
         let added = seen.insert(label)?;
         if !added {
-            return Err(ReadError::Form(rest.len()));
+            return Err(Refusal::Form(rest.len()));
         }
         let label = Text::copy_of(alloc, label)?;
         let (value, after) = T::read_behind(alloc, label, behind)?;
@@ -272,7 +276,7 @@ fn labelled_many_of<T: Labelled>(
 
 /// How many values under labels that differ there are, and the values.
 #[tactic(auto, unfolding(comp_format::specs::Vectors::labelled_vector_at))]
-pub fn labelled_of<T: Labelled>(alloc: Global, bytes: &[u8]) -> Result<(Vec<T>, &[u8]), ReadError>
+pub fn labelled_of<T: Labelled>(alloc: Global, bytes: &[u8]) -> Result<(Vec<T>, &[u8]), Refusal>
     ensures { Gives (λ x. (x.0.items, x.1.now)) result (labelled_vector_at T.behind_at bytes.now) }
 {
     let (count, rest) = number_of(bytes)?;

@@ -6,10 +6,10 @@ ghost use Rattle.comp_format.specs.Vectors.{optional_at, label_alone};
 ghost use Rattle.comp_format.specs.Types.{primitive_of, value_at, field_at, case_at, record_at, variant_at, tuple_at, flags_at, enum_at, result_at, defined_of, result_type_at, func_at};
 ghost use Rattle.comp_reader.specs.Refusal.{Gives};
 
-use crate::error::ReadError;
 use crate::read::{
     Field, Labelled, byte_of, labelled_of, mark_of, number_of, signed_index_of, vector_of,
 };
+use crate::refusal::Refusal;
 use comp_format::{DefinedType, FuncType, Primitive, ValType};
 use std::alloc::Global;
 use warg_values::{Sequence, Text};
@@ -39,17 +39,18 @@ fn primitive_of_byte(byte: u8) -> Option<Primitive>
 /// The byte of error contexts, which are not carried.
 const ERROR_CONTEXT: u8 = 0x64;
 
+/// A value type: a byte, or the index of a type.
 #[tactic(auto, unfolding(comp_format::specs::Types::value_at))]
-pub fn value_of(bytes: &[u8]) -> Result<(ValType, &[u8]), ReadError>
+pub fn value_of(bytes: &[u8]) -> Result<(ValType, &[u8]), Refusal>
     ensures { Gives (λ x. (x.0, x.1.now)) result (value_at bytes.now) }
 {
     match bytes {
-        [] => Err(ReadError::Form(0)),
+        [] => Err(Refusal::Form(0)),
         [byte, rest @ ..] => match primitive_of_byte(*byte) {
             Some(primitive) => Ok((ValType::Primitive(primitive), rest)),
             None => {
                 if *byte == ERROR_CONTEXT {
-                    return Err(ReadError::NotCarried(bytes.len()));
+                    return Err(Refusal::NotCarried(bytes.len()));
                 }
                 let (index, rest) = signed_index_of(bytes)?;
                 Ok((ValType::Index(index), rest))
@@ -65,14 +66,14 @@ impl Field for ValType {
 
     ghost tree_at = { λ scopes. value_at };
 
-    fn read(_alloc: Global, _scopes: u8, bytes: &[u8]) -> Result<(Self, &[u8]), ReadError> {
+    fn read(_alloc: Global, _scopes: u8, bytes: &[u8]) -> Result<(Self, &[u8]), Refusal> {
         value_of(bytes)
     }
 }
 
 /// A flag, and the value type where there is one.
 #[tactic(auto, unfolding(comp_format::specs::Vectors::optional_at))]
-fn optional_of(bytes: &[u8]) -> Result<(Option<ValType>, &[u8]), ReadError>
+fn optional_of(bytes: &[u8]) -> Result<(Option<ValType>, &[u8]), Refusal>
     ensures { Gives (λ x. (x.0, x.1.now)) result (optional_at value_at bytes.now) }
 {
     let (byte, rest) = byte_of(bytes)?;
@@ -82,7 +83,7 @@ fn optional_of(bytes: &[u8]) -> Result<(Option<ValType>, &[u8]), ReadError>
             let (ty, rest) = value_of(rest)?;
             Ok((Some(ty), rest))
         }
-        _ => Err(ReadError::Form(bytes.len())),
+        _ => Err(Refusal::Form(bytes.len())),
     }
 }
 
@@ -90,7 +91,7 @@ impl Labelled for (Text, ValType) {
     ghost behind_at = { field_at };
 
     #[tactic(auto, unfolding(comp_format::specs::Types::field_at, comp_format::specs::Vectors::under_label))]
-    fn read_behind(_alloc: Global, label: Text, bytes: &[u8]) -> Result<(Self, &[u8]), ReadError> {
+    fn read_behind(_alloc: Global, label: Text, bytes: &[u8]) -> Result<(Self, &[u8]), Refusal> {
         let (ty, rest) = value_of(bytes)?;
         Ok(((label, ty), rest))
     }
@@ -100,7 +101,7 @@ impl Labelled for (Text, Option<ValType>) {
     ghost behind_at = { case_at };
 
     #[tactic(auto, unfolding(comp_format::specs::Types::case_at))]
-    fn read_behind(_alloc: Global, label: Text, bytes: &[u8]) -> Result<(Self, &[u8]), ReadError> {
+    fn read_behind(_alloc: Global, label: Text, bytes: &[u8]) -> Result<(Self, &[u8]), Refusal> {
         let (ty, rest) = optional_of(bytes)?;
         let rest = mark_of(0, rest)?;
         Ok(((label, ty), rest))
@@ -111,71 +112,77 @@ impl Labelled for Text {
     ghost behind_at = { label_alone };
 
     #[tactic(auto, unfolding(comp_format::specs::Vectors::label_alone))]
-    fn read_behind(_alloc: Global, label: Text, bytes: &[u8]) -> Result<(Self, &[u8]), ReadError> {
+    fn read_behind(_alloc: Global, label: Text, bytes: &[u8]) -> Result<(Self, &[u8]), Refusal> {
         Ok((label, bytes))
     }
 }
 
+/// A record, behind its byte.
 #[tactic(auto, unfolding(comp_format::specs::Types::record_at))]
-fn record_of(alloc: Global, bytes: &[u8]) -> Result<(DefinedType, &[u8]), ReadError>
+fn record_of(alloc: Global, bytes: &[u8]) -> Result<(DefinedType, &[u8]), Refusal>
     ensures { Gives (λ x. (x.0, x.1.now)) result (record_at bytes.now) }
 {
     let (fields, rest) = labelled_of::<(Text, ValType)>(alloc, bytes)?;
     if fields.is_empty() {
-        return Err(ReadError::Form(bytes.len()));
+        return Err(Refusal::Form(bytes.len()));
     }
     Ok((DefinedType::RecordOf(Sequence::from_vec(fields)), rest))
 }
 
+/// A variant, behind its byte.
 #[tactic(auto, unfolding(comp_format::specs::Types::variant_at))]
-fn variant_of(alloc: Global, bytes: &[u8]) -> Result<(DefinedType, &[u8]), ReadError>
+fn variant_of(alloc: Global, bytes: &[u8]) -> Result<(DefinedType, &[u8]), Refusal>
     ensures { Gives (λ x. (x.0, x.1.now)) result (variant_at bytes.now) }
 {
     let (cases, rest) = labelled_of::<(Text, Option<ValType>)>(alloc, bytes)?;
     if cases.is_empty() {
-        return Err(ReadError::Form(bytes.len()));
+        return Err(Refusal::Form(bytes.len()));
     }
     Ok((DefinedType::VariantOf(Sequence::from_vec(cases)), rest))
 }
 
+/// A tuple, behind its byte.
 #[tactic(auto, unfolding(comp_format::specs::Types::tuple_at))]
-fn tuple_of(alloc: Global, bytes: &[u8]) -> Result<(DefinedType, &[u8]), ReadError>
+fn tuple_of(alloc: Global, bytes: &[u8]) -> Result<(DefinedType, &[u8]), Refusal>
     ensures { Gives (λ x. (x.0, x.1.now)) result (tuple_at bytes.now) }
 {
     let (parts, rest) = vector_of::<ValType>(alloc, 0, bytes)?;
     if parts.is_empty() {
-        return Err(ReadError::Form(bytes.len()));
+        return Err(Refusal::Form(bytes.len()));
     }
     Ok((DefinedType::TupleOf(Sequence::from_vec(parts)), rest))
 }
 
+/// Flags, behind their byte.
 #[tactic(auto, unfolding(comp_format::specs::Types::flags_at))]
-fn flags_of(alloc: Global, bytes: &[u8]) -> Result<(DefinedType, &[u8]), ReadError>
+fn flags_of(alloc: Global, bytes: &[u8]) -> Result<(DefinedType, &[u8]), Refusal>
     ensures { Gives (λ x. (x.0, x.1.now)) result (flags_at bytes.now) }
 {
     let (labels, rest) = labelled_of::<Text>(alloc, bytes)?;
     if labels.is_empty() {
-        return Err(ReadError::Form(bytes.len()));
+        return Err(Refusal::Form(bytes.len()));
     }
     if 32 < labels.len() {
-        return Err(ReadError::Form(bytes.len()));
+        return Err(Refusal::Form(bytes.len()));
     }
     Ok((DefinedType::FlagsOf(Sequence::from_vec(labels)), rest))
 }
 
+/// An enumeration, behind its byte.
 #[tactic(auto, unfolding(comp_format::specs::Types::enum_at))]
-fn enum_of(alloc: Global, bytes: &[u8]) -> Result<(DefinedType, &[u8]), ReadError>
+fn enum_of(alloc: Global, bytes: &[u8]) -> Result<(DefinedType, &[u8]), Refusal>
     ensures { Gives (λ x. (x.0, x.1.now)) result (enum_at bytes.now) }
 {
     let (labels, rest) = labelled_of::<Text>(alloc, bytes)?;
     if labels.is_empty() {
-        return Err(ReadError::Form(bytes.len()));
+        return Err(Refusal::Form(bytes.len()));
     }
     Ok((DefinedType::EnumOf(Sequence::from_vec(labels)), rest))
 }
 
+/// A result, behind its byte.
 #[tactic(auto, unfolding(comp_format::specs::Types::result_at))]
-fn result_of(bytes: &[u8]) -> Result<(DefinedType, &[u8]), ReadError>
+fn result_of(bytes: &[u8]) -> Result<(DefinedType, &[u8]), Refusal>
     ensures { Gives (λ x. (x.0, x.1.now)) result (result_at bytes.now) }
 {
     let (ok, rest) = optional_of(bytes)?;
@@ -185,7 +192,7 @@ fn result_of(bytes: &[u8]) -> Result<(DefinedType, &[u8]), ReadError>
 
 /// A type of values that has parts, behind its byte, where the byte is one of such a type.
 #[tactic(auto, unfolding(comp_format::specs::Types::defined_of))]
-pub fn defined_of(alloc: Global, byte: u8, rest: &[u8]) -> Result<(DefinedType, &[u8]), ReadError>
+pub fn defined_of(alloc: Global, byte: u8, rest: &[u8]) -> Result<(DefinedType, &[u8]), Refusal>
     ensures { Gives (λ x. (x.0, x.1.now)) result (defined_of byte rest.now) }
 {
     match byte {
@@ -213,14 +220,14 @@ pub fn defined_of(alloc: Global, byte: u8, rest: &[u8]) -> Result<(DefinedType, 
         }
         _ => match primitive_of_byte(byte) {
             Some(primitive) => Ok((DefinedType::Primitive(primitive), rest)),
-            None => Err(ReadError::NotCarried(rest.len().saturating_add(1))),
+            None => Err(Refusal::NotCarried(rest.len().saturating_add(1))),
         },
     }
 }
 
 /// The result of a function.
 #[tactic(auto, unfolding(comp_format::specs::Types::result_type_at))]
-fn result_type_of(bytes: &[u8]) -> Result<(Option<ValType>, &[u8]), ReadError>
+fn result_type_of(bytes: &[u8]) -> Result<(Option<ValType>, &[u8]), Refusal>
     ensures { Gives (λ x. (x.0, x.1.now)) result (result_type_at bytes.now) }
 {
     let (byte, rest) = byte_of(bytes)?;
@@ -230,13 +237,13 @@ fn result_type_of(bytes: &[u8]) -> Result<(Option<ValType>, &[u8]), ReadError>
             Ok((Some(ty), rest))
         }
         1 => Ok((None, mark_of(0, rest)?)),
-        _ => Err(ReadError::Form(bytes.len())),
+        _ => Err(Refusal::Form(bytes.len())),
     }
 }
 
 /// A type of functions, behind its byte.
 #[tactic(auto, unfolding(comp_format::specs::Types::func_at))]
-pub fn func_of(alloc: Global, bytes: &[u8]) -> Result<(FuncType, &[u8]), ReadError>
+pub fn func_of(alloc: Global, bytes: &[u8]) -> Result<(FuncType, &[u8]), Refusal>
     ensures { Gives (λ x. (x.0, x.1.now)) result (func_at bytes.now) }
 {
     let (params, rest) = labelled_of::<(Text, ValType)>(alloc, bytes)?;

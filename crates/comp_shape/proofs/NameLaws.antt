@@ -9,7 +9,7 @@ use Rattle.comp_format.specs.Items.{ExportTree, ItemTree, Ty, Export, ExportName
 use Rattle.comp_format.specs.Sections.{Section, Types, Exports, Sections, none, more, ContentForm, SectionsForm, section_items, items_in}
 use Rattle.comp_shape.specs.declared.shape.Entity.{Entity}
 use Rattle.comp_shape.specs.FirstForm.{is_first_form, are_first_form, InFirstForm}
-use Rattle.comp_shape.specs.Shape.{ValueTree, Value, EntityTree, IsType, ShapeTree, Known, definition_tree, is_taken, with_export, after, after_all, nothing_known, shape}
+use Rattle.comp_shape.specs.Shape.{ValueTree, Value, EntityTree, IsType, ShapeTree, SpaceTree, definition_tree, is_taken, with_export, after, after_all, nothing_known, shape}
 use Rattle.comp_shape.specs.Views.{entries}
 use Rattle.comp_shape.proofs.FirstLaws.{both}
 
@@ -56,37 +56,37 @@ named_push (x ∷ xs) e h n = (h.0, named_push xs e h.1 n)
 some_is : {X : Type 0} (x y : X) → Some x ≡ Some y → x ≡ y
 some_is x y e = cc
 
-chosen : (b : Bool) (k n : Known) (e : List ℕ × EntityTree) (types : List ValueTree) → 0 < length e.0 → AreNamed k.exports → cond b None (Some (record { types = types; exports = k.exports ++ e ∷ [] })) ≡ Some n → AreNamed n.exports
+chosen : (b : Bool) (k n : SpaceTree) (e : List ℕ × EntityTree) (types : List ValueTree) → 0 < length e.0 → AreNamed k.exports → cond b None (Some (record { types = types; exports = k.exports ++ e ∷ [] })) ≡ Some n → AreNamed n.exports
 chosen true k n e types name h is = absurd cc
-chosen false k n e types name h is = subst (λ (m : Known). AreNamed m.exports) (some_is (record { types = types; exports = k.exports ++ e ∷ [] }) n is) (named_push k.exports e h name)
+chosen false k n e types name h is = subst (λ (m : SpaceTree). AreNamed m.exports) (some_is (record { types = types; exports = k.exports ++ e ∷ [] }) n is) (named_push k.exports e h name)
 
-export_kept : (k n : Known) (e : ExportTree) (o : Option ValueTree) → 0 < length e.name → AreNamed k.exports → option_and_then (with_export k e) o ≡ Some n → AreNamed n.exports
+export_kept : (k n : SpaceTree) (e : ExportTree) (o : Option ValueTree) → 0 < length e.name → AreNamed k.exports → option_and_then (with_export k e) o ≡ Some n → AreNamed n.exports
 export_kept k n e None name h is = absurd cc
 export_kept k n e (Some t) name h is = chosen (is_taken e.name k.exports) k n (e.name, IsType (Value t)) _ name h is
 
-type_kept : (k n : Known) (o : Option ValueTree) → AreNamed k.exports → option_map (λ t. record k { types = k.types ++ t ∷ [] }) o ≡ Some n → AreNamed n.exports
+type_kept : (k n : SpaceTree) (o : Option ValueTree) → AreNamed k.exports → option_map (λ t. record k { types = k.types ++ t ∷ [] }) o ≡ Some n → AreNamed n.exports
 type_kept k n None h is = absurd cc
-type_kept k n (Some t) h is = subst (λ (m : Known). AreNamed m.exports) (some_is _ n is) h
+type_kept k n (Some t) h is = subst (λ (m : SpaceTree). AreNamed m.exports) (some_is _ n is) h
 
-kept : (k n : Known) (item : ItemTree) → HasName item → AreNamed k.exports → after k item ≡ Some n → AreNamed n.exports
+kept : (k n : SpaceTree) (item : ItemTree) → HasName item → AreNamed k.exports → after k item ≡ Some n → AreNamed n.exports
 unfolding after
 kept k n (Ty d) name h is = type_kept k n (definition_tree d) h is
 kept k n (Export e) name h is = export_kept k n e (slice_get k.types e.index) name h is
 kept k n _ name h is = absurd cc
 
-all_kept : (k n : Known) (items : List ItemTree) → AllByRecursion HasName items → AreNamed k.exports → after_all k items ≡ Some n → AreNamed n.exports
+all_kept : (k n : SpaceTree) (items : List ItemTree) → AllByRecursion HasName items → AreNamed k.exports → after_all k items ≡ Some n → AreNamed n.exports
 unfolding after_all
-all_kept k n [] names h is = subst (λ (m : Known). AreNamed m.exports) (some_is k n is) h
+all_kept k n [] names h is = subst (λ (m : SpaceTree). AreNamed m.exports) (some_is k n is) h
 all_kept k n (item ∷ items) names h is = go (after k item) refl is (λ j step rest. all_kept j n items names.1 (kept k j item names.0 h step) rest)
   where
-    go : (o : Option Known) → after k item ≡ o → option_and_then (λ next. after_all next items) o ≡ Some n → ((j : Known) → after k item ≡ Some j → after_all j items ≡ Some n → AreNamed n.exports) → AreNamed n.exports
+    go : (o : Option SpaceTree) → after k item ≡ o → option_and_then (λ next. after_all next items) o ≡ Some n → ((j : SpaceTree) → after k item ≡ Some j → after_all j items ≡ Some n → AreNamed n.exports) → AreNamed n.exports
     go None step e later = absurd cc
     go (Some j) step e later = later j step e
 
 shape_named : (items : List ItemTree) (s : ShapeTree) → AllByRecursion HasName items → shape items ≡ Some s → AreNamed s.exports
 shape_named items s names is = go (after_all nothing_known items) refl is
   where
-    go : (o : Option Known) → after_all nothing_known items ≡ o → option_map (λ k. record { imports = []; exports = k.exports }) o ≡ Some s → AreNamed s.exports
+    go : (o : Option SpaceTree) → after_all nothing_known items ≡ o → option_map (λ k. record { imports = []; exports = k.exports }) o ≡ Some s → AreNamed s.exports
     go None step e = absurd cc
     go (Some k) step e = subst (λ (t : ShapeTree). AreNamed t.exports) (some_is _ s e) (all_kept nothing_known k items names tt step)
 

@@ -21,7 +21,7 @@ use Rattle.comp_format.specs.Views as types
 use Rattle.comp_reader.proofs.TextSets.{no_texts, more_texts, was_there, was_missing}
 use Rattle.comp_shape.specs.FirstForm.{InFirstForm, is_primitive, is_plain_type, is_plain_item}
 use Rattle.comp_shape.specs.declared.shape.Entity.{Entity}
-use Rattle.comp_shape.specs.Shape.{ValueTree, Primitive, Value, EntityTree, IsType, Known, part_trees, definition_tree, is_taken, with_export, after, after_all, nothing_known, BreaksFirst}
+use Rattle.comp_shape.specs.Shape.{ValueTree, Primitive, Value, EntityTree, IsType, SpaceTree, part_trees, definition_tree, is_taken, with_export, after, after_all, nothing_known, BreaksFirst}
 use Rattle.comp_shape.specs.Views.{entries, has_name, tree_in, plain_tree, AreNamesOf, IsPlain}
 use Rattle.comp_shape.proofs.FirstLaws.{both, plain_items}
 
@@ -34,12 +34,12 @@ taken_is [] name = refl
 taken_is (e ∷ es) name = ap (λ (b : Bool). bytes_eq (str_to_ascii_lowercase name) (str_to_ascii_lowercase e.0) || b) (taken_is es name)
 
 -- the export names a type that is there, and its name is taken
-pub after_taken : (k : Known) (e : ExportTree) (t : ValueTree) → slice_get k.types e.index ≡ Some t → is_taken e.name k.exports ≡ true → after k (Export e) ≡ None
+pub after_taken : (k : SpaceTree) (e : ExportTree) (t : ValueTree) → slice_get k.types e.index ≡ Some t → is_taken e.name k.exports ≡ true → after k (Export e) ≡ None
 unfolding after
 after_taken k e t here taken = rw (here, taken) refl
 
 -- or is its own
-pub after_own : (k : Known) (e : ExportTree) (t : ValueTree) → slice_get k.types e.index ≡ Some t → is_taken e.name k.exports ≡ false → after k (Export e) ≡ with_export k e t
+pub after_own : (k : SpaceTree) (e : ExportTree) (t : ValueTree) → slice_get k.types e.index ≡ Some t → is_taken e.name k.exports ≡ false → after k (Export e) ≡ with_export k e t
 unfolding after
 after_own k e t here own = rw here refl
 
@@ -74,34 +74,34 @@ exported types new_types exports new_exports e t own a b = rw (own, a, b) refl
 
 -- ---- one item after the other
 
-pub after_push : (k m n : Known) (xs : List ItemTree) (x : ItemTree) → after_all k xs ≡ Some m → after m x ≡ Some n → after_all k (xs ++ x ∷ []) ≡ Some n
+pub after_push : (k m n : SpaceTree) (xs : List ItemTree) (x : ItemTree) → after_all k xs ≡ Some m → after m x ≡ Some n → after_all k (xs ++ x ∷ []) ≡ Some n
 unfolding after_all
-after_push k m n [] x e here = let same : k ≡ m = some_is k m e in ap (λ (j : Known). option_and_then (λ next. Some next) (after j x)) same ∙ rw here refl
+after_push k m n [] x e here = let same : k ≡ m = some_is k m e in ap (λ (j : SpaceTree). option_and_then (λ next. Some next) (after j x)) same ∙ rw here refl
 after_push k m n (y ∷ ys) x e here = go (after k y) refl e (λ j h. after_push j m n ys x h here)
   where
-    go : (o : Option Known) → after k y ≡ o → option_and_then (λ next. after_all next ys) o ≡ Some m → ((j : Known) → after_all j ys ≡ Some m → after_all j (ys ++ x ∷ []) ≡ Some n) → option_and_then (λ next. after_all next (ys ++ x ∷ [])) (after k y) ≡ Some n
+    go : (o : Option SpaceTree) → after k y ≡ o → option_and_then (λ next. after_all next ys) o ≡ Some m → ((j : SpaceTree) → after_all j ys ≡ Some m → after_all j (ys ++ x ∷ []) ≡ Some n) → option_and_then (λ next. after_all next (ys ++ x ∷ [])) (after k y) ≡ Some n
     go None is h later = absurd cc
     go (Some j) is h later = rw is (later j h)
 
-pub after_stop : (k m : Known) (xs rest : List ItemTree) (x : ItemTree) → after_all k xs ≡ Some m → after m x ≡ None → after_all k (xs ++ x ∷ rest) ≡ None
+pub after_stop : (k m : SpaceTree) (xs rest : List ItemTree) (x : ItemTree) → after_all k xs ≡ Some m → after m x ≡ None → after_all k (xs ++ x ∷ rest) ≡ None
 unfolding after_all
-after_stop k m [] rest x e here = let same : k ≡ m = some_is k m e in ap (λ (j : Known). option_and_then (λ next. after_all next rest) (after j x)) same ∙ rw here refl
+after_stop k m [] rest x e here = let same : k ≡ m = some_is k m e in ap (λ (j : SpaceTree). option_and_then (λ next. after_all next rest) (after j x)) same ∙ rw here refl
 after_stop k m (y ∷ ys) rest x e here = go (after k y) refl e (λ j h. after_stop j m ys rest x h here)
   where
-    go : (o : Option Known) → after k y ≡ o → option_and_then (λ next. after_all next ys) o ≡ Some m → ((j : Known) → after_all j ys ≡ Some m → after_all j (ys ++ x ∷ rest) ≡ None) → option_and_then (λ next. after_all next (ys ++ x ∷ rest)) (after k y) ≡ None
+    go : (o : Option SpaceTree) → after k y ≡ o → option_and_then (λ next. after_all next ys) o ≡ Some m → ((j : SpaceTree) → after_all j ys ≡ Some m → after_all j (ys ++ x ∷ rest) ≡ None) → option_and_then (λ next. after_all next (ys ++ x ∷ rest)) (after k y) ≡ None
     go None is h later = absurd cc
     go (Some j) is h later = rw is (later j h)
 
 -- ---- a loop over items
 
 -- an item that breaks a rule
-pub loop_stops : (items : List Item) (i : ℕ) (d : Item) (k : Known) → i < length items → after_all nothing_known (map item_tree (take i items)) ≡ Some k → after k (item_tree (get_or items i d)) ≡ None → after_all nothing_known (map item_tree items) ≡ None
+pub loop_stops : (items : List Item) (i : ℕ) (d : Item) (k : SpaceTree) → i < length items → after_all nothing_known (map item_tree (take i items)) ≡ Some k → after k (item_tree (get_or items i d)) ≡ None → after_all nothing_known (map item_tree items) ≡ None
 loop_stops items i d k lt e here =
     let cut : items ≡ take i items ++ get_or items i d ∷ drop (suc i) items = sym (take-append-drop i items) ∙ ap (λ (l : List Item). take i items ++ l) (drop-cons items i d lt) in
     ap (λ (l : List Item). after_all nothing_known (map item_tree l)) cut ∙ ap (after_all nothing_known) (map-append item_tree (take i items) (get_or items i d ∷ drop (suc i) items))
     ∙ after_stop nothing_known k (map item_tree (take i items)) (map item_tree (drop (suc i) items)) (item_tree (get_or items i d)) e here
 
-pub loop_breaks : (items : List Item) (i : ℕ) (d : Item) (k : Known) → i < length items → after_all nothing_known (map item_tree (take i items)) ≡ Some k → after k (item_tree (get_or items i d)) ≡ None → BreaksFirst (map item_tree items) i
+pub loop_breaks : (items : List Item) (i : ℕ) (d : Item) (k : SpaceTree) → i < length items → after_all nothing_known (map item_tree (take i items)) ≡ Some k → after k (item_tree (get_or items i d)) ≡ None → BreaksFirst (map item_tree items) i
 loop_breaks items i d k lt e here = record {
   item = item_tree (get_or items i d);
   so_far = k;
@@ -111,7 +111,7 @@ loop_breaks items i d k lt e here = record {
 }
 
 -- an item that keeps them
-pub loop_adds : (items : List Item) (i : ℕ) (d : Item) (k n : Known) → i < length items → after_all nothing_known (map item_tree (take i items)) ≡ Some k → after k (item_tree (get_or items i d)) ≡ Some n → after_all nothing_known (map item_tree (take (i + 1) items)) ≡ Some n
+pub loop_adds : (items : List Item) (i : ℕ) (d : Item) (k n : SpaceTree) → i < length items → after_all nothing_known (map item_tree (take i items)) ≡ Some k → after k (item_tree (get_or items i d)) ≡ Some n → after_all nothing_known (map item_tree (take (i + 1) items)) ≡ Some n
 loop_adds items i d k n lt e here =
     ap (λ (l : List Item). after_all nothing_known (map item_tree l)) (take_more items i d lt) ∙ ap (after_all nothing_known) (map_push item_tree (take i items) (get_or items i d))
     ∙ after_push nothing_known k n (map item_tree (take i items)) (item_tree (get_or items i d)) e here
@@ -131,7 +131,7 @@ has_tree (definition.Defined _) e = absurd cc
 has_tree _ e = absurd cc
 
 -- and stands in the index space of types
-pub type_added : (k : Known) (d : definition.TypeTree) → is_plain_type d ≡ true → after k (Ty d) ≡ Some (record k { types = k.types ++ tree_in (definition_tree d) ∷ [] })
+pub type_added : (k : SpaceTree) (d : definition.TypeTree) → is_plain_type d ≡ true → after k (Ty d) ≡ Some (record k { types = k.types ++ tree_in (definition_tree d) ∷ [] })
 unfolding after
 type_added k d e = ap (λ (o : Option ValueTree). option_map (λ t. record k { types = k.types ++ t ∷ [] }) o) (has_tree d e)
 

@@ -8,6 +8,7 @@ use Rattle.comp_format.specs.declared.types.DefinedType.{DefinedType}
 use Rattle.comp_format.specs.declared.types.DefinedType.TheVariants as defined
 use Rattle.comp_format.specs.declared.types.Sort.{Sort}
 use Rattle.comp_format.specs.declared.types.Sort.TheVariants as sort
+use Rattle.comp_format.specs.SectionIds as ids
 use Rattle.comp_format.specs.Definitions.{TypeTree, Defined}
 use Rattle.comp_format.specs.Items.{ExportTree, ItemTree, Ty, Export}
 use Rattle.comp_format.specs.Sections.{Section, Types, Exports, Sections, none, more, ComponentForm, header, section_items, items_in, section_id}
@@ -55,7 +56,7 @@ pub record InFirstForm (bytes : List ℕ) (items : List ItemTree) : Type 0 where
 
 -- Sections are of the first form where their ids and their items are: a section without items has an id, too.
 abbrev pub is_plain_id : ℕ → Bool
-is_plain_id id = (id == 7) || (id == 11)
+is_plain_id id = (id == ids.types) || (id == ids.exports)
 
 abbrev pub have_plain_ids : Sections → Bool
 have_plain_ids none = true

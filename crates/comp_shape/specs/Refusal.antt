@@ -15,11 +15,6 @@ IsNotBuiltOrMemory errors.Memory = Unit {0}
 IsNotBuiltOrMemory (errors.NotBuilt at) = Unit {0}
 IsNotBuiltOrMemory _ = ⊥
 
-abbrev pub IsIndexOrMemory : ShapeError → Type 0
-IsIndexOrMemory errors.Memory = Unit {0}
-IsIndexOrMemory (errors.Index at) = Unit {0}
-IsIndexOrMemory _ = ⊥
-
 abbrev pub IsOfItems : ShapeError → Type 0
 IsOfItems errors.Memory = Unit {0}
 IsOfItems (errors.Index at) = Unit {0}

@@ -23,12 +23,12 @@ mutual
     none : ValueTrees
     more : ValueTree → ValueTrees → ValueTrees
 
-pub data TypeTree : Type 0 where
-  Value : ValueTree → TypeTree
+pub data TypeShapeTree : Type 0 where
+  Value : ValueTree → TypeShapeTree
 
 -- what is imported or exported
 pub data EntityTree : Type 0 where
-  IsType : TypeTree → EntityTree
+  IsType : TypeShapeTree → EntityTree
 
 pub record ShapeTree : Type 0 where
   pub imports : List (List ℕ × EntityTree)
@@ -57,7 +57,7 @@ definition_tree (definition.Defined d) = defined_tree d
 definition_tree _ = None
 
 -- What stands in the index space of types after some items, and what they export.
-pub record Known : Type 0 where
+pub record SpaceTree : Type 0 where
   pub types : List ValueTree
   pub exports : List (List ℕ × EntityTree)
 
@@ -66,19 +66,19 @@ abbrev pub is_taken : List ℕ → List (List ℕ × EntityTree) → Bool
 is_taken name exports = list_any (λ e. str_eq_ignore_ascii_case name e.0) exports
 
 -- An export names a type that is there, and has a name of its own. It stands in the index space too.
-abbrev pub with_export : Known → ExportTree → ValueTree → Option Known
+abbrev pub with_export : SpaceTree → ExportTree → ValueTree → Option SpaceTree
 with_export k e t = if is_taken e.name k.exports then None else Some (record { types = k.types ++ t ∷ []; exports = k.exports ++ (e.name, IsType (Value t)) ∷ [] })
 
-unfoldable pub after : Known → ItemTree → Option Known
+unfoldable pub after : SpaceTree → ItemTree → Option SpaceTree
 after k (Ty d) = option_map (λ t. record k { types = k.types ++ t ∷ [] }) (definition_tree d)
 after k (Export e) = option_and_then (with_export k e) (slice_get k.types e.index)
 after k _ = None
 
-unfoldable pub after_all : Known → List ItemTree → Option Known
+unfoldable pub after_all : SpaceTree → List ItemTree → Option SpaceTree
 after_all k [] = Some k
 after_all k (item ∷ items) = option_and_then (λ next. after_all next items) (after k item)
 
-abbrev pub nothing_known : Known
+abbrev pub nothing_known : SpaceTree
 nothing_known = record { types = []; exports = [] }
 
 -- the shape that the items of a component have, where they keep the rules
@@ -88,7 +88,7 @@ shape items = option_map (λ k. record { imports = []; exports = k.exports }) (a
 -- The item of this number is the first that breaks a rule: of what is known after those in front of it, nothing follows.
 pub record BreaksFirst (items : List ItemTree) (number : ℕ) : Type 0 where
   pub item : ItemTree
-  pub so_far : Known
+  pub so_far : SpaceTree
   pub in_front : after_all nothing_known (take number items) ≡ Some so_far
   pub is_item : slice_get items number ≡ Some item
   pub breaks : after so_far item ≡ None

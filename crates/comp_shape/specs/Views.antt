@@ -17,7 +17,7 @@ use Rattle.comp_shape.specs.declared.shape.Entity.{Entity}
 use Rattle.comp_shape.specs.declared.shape.Entity.TheVariants as entity
 use Rattle.comp_shape.specs.declared.shape.Shape.{Shape}
 use Rattle.comp_shape.specs.declared.space.Space.{Space}
-use Rattle.comp_shape.specs.Shape.{Known, definition_tree, ValueTree, none, trees_of, Primitive, TupleOf, TypeTree, Value, EntityTree, IsType, ShapeTree}
+use Rattle.comp_shape.specs.Shape.{SpaceTree, definition_tree, ValueTree, none, trees_of, Primitive, TupleOf, TypeShapeTree, Value, EntityTree, IsType, ShapeTree}
 
 abbrev pub value_step : ValueShape-F ValueTree → ValueTree
 value_step (layer.Primitive p) = Primitive p
@@ -26,7 +26,7 @@ value_step (layer.TupleOf parts) = TupleOf (trees_of parts.items)
 abbrev pub value_tree : ValueShape → ValueTree
 value_tree = fold-ValueShape ValueTree value_step
 
-abbrev pub type_tree : TypeShape → TypeTree
+abbrev pub type_tree : TypeShape → TypeShapeTree
 type_tree (type.Value v) = Value (value_tree v)
 
 abbrev pub entity_tree : Entity → EntityTree
@@ -47,7 +47,7 @@ abbrev pub plain_tree : DefType → ValueTree
 plain_tree t = tree_in (definition_tree (types.type_tree t))
 
 -- what a space knows
-abbrev pub known : Space → Known
+abbrev pub known : Space → SpaceTree
 known s = record { types = map (λ t. plain_tree t.now) s.types.items; exports = entries s.exports.items }
 
 -- whether a set of names has this one

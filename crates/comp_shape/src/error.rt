@@ -16,16 +16,16 @@ pub enum ShapeError {
     #[error("the bytes at {0} are no part of a component: check that the file is whole, and a component")]
     Form(usize),
     /// A form stands there that is not carried, as values, start sections and asynchronous functions.
-    #[error("the bytes at {0} are of a form that is not carried: leave out what uses it")]
+    #[error("the bytes at {0} are of a form that is not supported: leave out what uses it")]
     NotCarried(usize),
     /// An export names a type that is not there, or has the name of an earlier one, letter case set aside.
     #[error("the item at {0} names nothing that is there, or has the name of another one: build the component anew")]
     Index(usize),
     /// The section is not of the first form.
-    #[error("the section at {0} has no shape yet: leave out all but primitive and tuple types and their exports")]
+    #[error("the section at {0} is not supported: leave out all but primitive and tuple types and their exports")]
     NotBuilt(usize),
     /// No memory was left, or more than 200 scopes were open at one place.
-    #[error("out of memory: free some, or give the program more, and try again")]
+    #[error("out of memory, or more than 200 scopes are open at one place: free some memory, or nest less")]
     Memory,
 }
 

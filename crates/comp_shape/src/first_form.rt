@@ -10,13 +10,12 @@ ghost use Rattle.comp_reader.specs.Places.{StandsAt};
 ghost use Rattle.comp_shape.specs.Refusal.{IsNotBuiltOrMemory};
 
 use crate::error::ShapeError;
+use comp_format::section::{self, HEADER};
 use comp_format::{DefType, DefinedType, Item, Sort, ValType};
 use comp_reader::{ItemPlace, item_place, read_section};
 use std::alloc::Global;
 
-/// How many bytes the header of a component has.
-const HEADER: usize = 8;
-
+/// Whether a part of a tuple is a primitive.
 fn is_primitive(part: &ValType) -> bool
     ensures { result ≡ is_primitive part.now }
 {
@@ -26,6 +25,7 @@ fn is_primitive(part: &ValType) -> bool
     }
 }
 
+/// Whether all parts of a tuple are primitives.
 fn are_primitive(parts: &[ValType]) -> bool
     ensures { result ≡ list_all is_primitive parts.now }
 {
@@ -61,7 +61,8 @@ fn is_plain_item(item: &Item<'_>) -> bool
 
 /// The number of the first item that is of no section of the first form.
 fn other_item(items: &[Item<'_>]) -> Option<usize>
-    ensures { MatchOption result (list_all is_plain_item (map item_tree items.now) ≡ true) (IsFirstOther (map item_tree items.now)) }
+    ensures { MatchOption result (list_all is_plain_item (map item_tree items.now) ≡ true)
+        (IsFirstOther (map item_tree items.now)) }
 {
     for (number, item) in items.iter().enumerate() {
         if !is_plain_item(item) {
@@ -78,7 +79,11 @@ fn other_place(
     items: &[Item<'_>],
 ) -> Result<Option<ItemPlace>, ShapeError>
     requires { Reads bytes.now (map item_tree items.now) }
-    ensures found { IfOk result (λ found. MatchOption found (list_all is_plain_item (map item_tree items.now) ≡ true) (λ place. (number : ℕ) × IsFirstOther (map item_tree items.now) number × StandsAt number bytes.now place)) }
+    ensures found { IfOk result
+        (λ found.
+        MatchOption found (list_all is_plain_item (map item_tree items.now) ≡ true)
+        (λ place.
+        (number : ℕ) × IsFirstOther (map item_tree items.now) number × StandsAt number bytes.now place)) }
     ensures only { IfErr result (λ e. e ≡ ShapeError.Memory) }
 {
     match other_item(items) {
@@ -95,14 +100,20 @@ fn other_place(
 fn is_plain_id(id: u8) -> bool
     ensures { result ≡ is_plain_id id }
 {
-    id == 7 || id == 11
+    id == section::TYPE || id == section::EXPORT
 }
 
 /// How many bytes are left from the first section on whose id is none of the first form, where the bytes are sections.
 fn other_id(sections: &[u8]) -> Result<Option<usize>, ShapeError>
     ensures plain { result ≡ Ok None → (ss : Sections) → SectionsForm ss sections.now → have_plain_ids ss ≡ true }
-    ensures other { (left : ℕ) → result ≡ Ok (Some left) → (ss : Sections) → SectionsForm ss sections.now → have_plain_ids ss ≡ false }
-    ensures first { (left : ℕ) → result ≡ Ok (Some left) → (ss : Sections) → SectionsForm ss sections.now → FirstNot has_plain_id sections.now left }
+    ensures other { (left : ℕ) → result ≡ Ok (Some left)
+        → (ss : Sections)
+        → SectionsForm ss sections.now
+        → have_plain_ids ss ≡ false }
+    ensures first { (left : ℕ) → result ≡ Ok (Some left)
+        → (ss : Sections)
+        → SectionsForm ss sections.now
+        → FirstNot has_plain_id sections.now left }
     ensures only { IfErr result (λ e. e ≡ ShapeError.Memory) }
 {
     let mut rest = sections;
@@ -124,11 +135,14 @@ fn other_id(sections: &[u8]) -> Result<Option<usize>, ShapeError>
 pub fn check_first_form(alloc: Global, bytes: &[u8], items: &[Item<'_>]) -> Result<(), ShapeError>
     requires { Reads bytes.now (map item_tree items.now) }
     ensures first { OnOk result (InFirstForm bytes.now (map item_tree items.now)) }
-    ensures not_built { (at : ℕ) → result ≡ Err (ShapeError.NotBuilt at) → (others : List ItemTree) → InFirstForm bytes.now others → ⊥ }
+    ensures not_built { (at : ℕ) → result ≡ Err (ShapeError.NotBuilt at)
+        → (others : List ItemTree)
+        → InFirstForm bytes.now others
+        → ⊥ }
     ensures place { (at : ℕ) → result ≡ Err (ShapeError.NotBuilt at) → StandsFirstOther bytes.now at }
     ensures only { IfErr result IsNotBuiltOrMemory }
 {
-    let (_, sections) = bytes.split_at(HEADER);
+    let (_, sections) = bytes.split_at(HEADER.len());
     let left = match other_id(sections) {
         Ok(left) => left,
         Err(error) => return Err(error),

@@ -18,9 +18,11 @@ use std::alloc::Global;
 /// open, `Memory` is answered, so that no bytes exhaust the stack.
 pub fn read_items(alloc: Global, bytes: &[u8]) -> Result<Vec<Item<'_>>, ShapeError>
     ensures found { IfOk result (λ items. Reads bytes.now (map item_tree items.items)) }
-    ensures only { (items : List ItemTree) → Reads bytes.now items → MatchResult result (λ v. map item_tree v.items ≡ items) (λ e. e ≡ ShapeError.Memory) }
+    ensures only { (items : List ItemTree) → Reads bytes.now items
+        → MatchResult result (λ v. map item_tree v.items ≡ items) (λ e. e ≡ ShapeError.Memory) }
     ensures form { (at : ℕ) → result ≡ Err (ShapeError.Form at) → component_at 200 bytes.now ≡ Err no_form }
-    ensures not_carried { (at : ℕ) → result ≡ Err (ShapeError.NotCarried at) → component_at 200 bytes.now ≡ Err not_carried }
+    ensures not_carried { (at : ℕ) → result ≡ Err (ShapeError.NotCarried at)
+        → component_at 200 bytes.now ≡ Err not_carried }
     ensures no_index { (at : ℕ) → result ≡ Err (ShapeError.Index at) → ⊥ }
     ensures all_built { (at : ℕ) → result ≡ Err (ShapeError.NotBuilt at) → ⊥ }
 {

@@ -5,6 +5,7 @@
 //! description.
 #![tactic(auto)]
 
+mod broken;
 mod error;
 mod first_form;
 mod items;
@@ -13,6 +14,7 @@ mod shape;
 mod space;
 mod values;
 
+pub use comp_format::{Item, Primitive};
 pub use error::ShapeError;
 pub use items::read_items;
 pub use read::{read_component, read_shape};

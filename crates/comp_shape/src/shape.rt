@@ -28,6 +28,8 @@ pub enum Entity {
 /// What a component imports and exports, in the order of its bytes.
 #[derive(Debug, Drop)]
 pub struct Shape {
+    /// The imports: their names, and what they are.
     pub imports: Vec<(Text, Entity)>,
+    /// The exports: their names, and what they are.
     pub exports: Vec<(Text, Entity)>,
 }

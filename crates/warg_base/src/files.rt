@@ -1,13 +1,13 @@
 //! Files, as the outside gives and takes them.
 
-ghost use Rattle.std.specs.Prelude.{◌≡◌, ◌≤◌, ℕ, Option, Some, None, IfOk, IfSome, IsErrOf, OnOk, OnErr};
+ghost use Rattle.std.specs.Prelude.{◌≡◌, ◌≤◌, ℕ, Option, Some, None, is_some, IfOk, IfSome, IsErrOf, OnOk, OnErr};
 ghost use Rattle.warg_values.specs.Faults.{Rose};
-ghost use Rattle.warg_base.specs.Files.{FileMap, LeavesPartlyWritten, file_at, with_file};
+ghost use Rattle.warg_base.specs.Files.{FileMap, LeavesPartlyRemoved, LeavesPartlyWritten, file_at, paths_under, with_file, without_path};
 ghost use Rattle.warg_base.specs.declared.files.FileError.TheVariants.{Memory as no_memory};
 
 use std::alloc::{AllocError, AllocFailed, Global};
 use thiserror::Error;
-use warg_values::Memory;
+use warg_values::{Memory, Text};
 
 /// Why a file could not be read or written.
 #[derive(Clone, Copy, Debug, PartialEq, Eq, Error)]
@@ -73,6 +73,34 @@ pub trait Files {
 
         ensures written { OnOk result (IfSome (told self.old) (λ files. told self.new ≡ Some (with_file files path.now bytes.now))) }
         ensures refused { OnErr result (LeavesPartlyWritten (told self.old) (told self.new) path.now bytes.now) }
+        ensures not_missing { IsErrOf result FileError.Missing → ⊥ }
+        ensures failed { IsErrOf result FileError.Failed → Rose (faults self.old) (faults self.new) };
+
+    /// Whether a file has this path. A folder is none.
+    fn is_file(&mut self, alloc: Global, path: &str) -> Result<bool, FileError>
+        ensures never_falls { faults self.old ≤ faults self.new }
+        ensures kept { told self.new ≡ told self.old }
+
+        ensures answer { IfOk result (λ there. IfSome (told self.old) (λ files. there ≡ is_some (file_at files path.now))) }
+        ensures not_missing { IsErrOf result FileError.Missing → ⊥ }
+        ensures failed { IsErrOf result FileError.Failed → Rose (faults self.old) (faults self.new) };
+
+    /// Takes the file at `path` away, or the folder at `path` with all that lies under it. One that is missing is none.
+    fn remove(&mut self, alloc: Global, path: &str) -> Result<(), FileError>
+        ensures never_falls { faults self.old ≤ faults self.new }
+
+        ensures removed { OnOk result (IfSome (told self.old) (λ files. told self.new ≡ Some (without_path files path.now))) }
+        ensures refused { OnErr result (LeavesPartlyRemoved (told self.old) (told self.new) path.now) }
+        ensures not_missing { IsErrOf result FileError.Missing → ⊥ }
+        ensures failed { IsErrOf result FileError.Failed → Rose (faults self.old) (faults self.new) };
+
+    /// The paths of the files under the folder at `path`, and under its folders, ascending by their bytes. A folder that is
+    /// missing has none.
+    fn list(&mut self, alloc: Global, path: &str) -> Result<Vec<Text>, FileError>
+        ensures never_falls { faults self.old ≤ faults self.new }
+        ensures kept { told self.new ≡ told self.old }
+
+        ensures listed { IfOk result (λ paths. IfSome (told self.old) (λ files. paths.items ≡ paths_under files path.now)) }
         ensures not_missing { IsErrOf result FileError.Missing → ⊥ }
         ensures failed { IsErrOf result FileError.Failed → Rose (faults self.old) (faults self.new) };
 }

@@ -9,9 +9,13 @@ use std::fs::{File, OpenFile, OpenOptions};
 use std::io::{ErrorKind, Read, Write};
 use std::rt::Files as RuntimeFiles;
 use std::{fs, io};
+use warg_values::Text;
 
 /// How many bytes one turn of reading asks for.
 const CHUNK: usize = 65_536;
+
+/// How many bytes of names one turn asks for. No name is cut, since none is longer than 255 bytes.
+const NAMES: usize = 4_096;
 
 /// A file that has not ended after so many turns of reading is a fault.
 const TURNS: u64 = 4_294_967_296;
@@ -47,8 +51,13 @@ fn is_missing(error: &io::Error) -> bool {
     error.kind() == ErrorKind::NotFound
 }
 
+/// Whether nothing is at a path, or a file stands where a folder of the path should.
+fn is_absent(error: &io::Error) -> bool {
+    matches!(error.kind(), ErrorKind::NotFound | ErrorKind::NotADirectory)
+}
+
 /// One turn of reading: a call that was interrupted before it read anything is made again.
-fn turn(file: &mut File, buffer: &mut [u8]) -> io::Result<usize>
+fn turn<R: Read>(file: &mut R, buffer: &mut [u8]) -> io::Result<usize>
     ensures { IfOk result (λ count. count ≤ length buffer.old) }
 {
     for _ in 0..u64::MAX {
@@ -92,6 +101,84 @@ fn replace<R: RuntimeFiles<File = File>>(rt: &R, path: &str, bytes: &[u8]) -> io
     file.write_all(bytes)
 }
 
+/// Takes a file away, or a folder with all that lies under it.
+fn remove_all<R: RuntimeFiles>(alloc: Global, rt: &R, path: &str) -> io::Result<()> {
+    match fs::symlink_metadata(rt, path) {
+        Ok(found) if found.is_dir() => rt.remove_dir_all(alloc, path),
+        Ok(_) => rt.remove_file(path),
+        Err(error) if is_absent(&error) => Ok(()),
+        Err(error) => Err(error),
+    }
+}
+
+/// The names in a folder, but its own and that of the folder above.
+fn names_in<R: RuntimeFiles>(alloc: Global, rt: &R, folder: &str) -> io::Result<Vec<String>> {
+    let mut reader = rt.open_dir(folder)?;
+    let mut buffer = vec![in alloc; 0u8; NAMES]?;
+    let mut names = Vec::new(alloc);
+    for _ in 0..TURNS {
+        let count = turn(&mut reader, &mut buffer)?;
+        if count == 0 {
+            return Ok(names);
+        }
+        push_names(alloc, &mut names, &buffer[..count])?;
+    }
+    Err(io::Error::from(ErrorKind::Other))
+}
+
+/// Adds names, each of which a NUL ends. One that is no UTF-8 is a fault, since no path can name it.
+fn push_names(alloc: Global, names: &mut Vec<String>, bytes: &[u8]) -> io::Result<()> {
+    for name in bytes.split(|byte| *byte == 0) {
+        if name.is_empty() || name == b".".as_slice() || name == b"..".as_slice() {
+            continue;
+        }
+        match str::from_utf8(name) {
+            Ok(name) => names.push(String::from_str(alloc, name)?)?,
+            Err(_) => return Err(io::Error::from(ErrorKind::InvalidData)),
+        }
+    }
+    Ok(())
+}
+
+/// The paths of the files under a folder and its folders, ascending. Each folder is opened once.
+fn files_under<R: RuntimeFiles>(alloc: Global, rt: &R, path: &str) -> io::Result<Vec<Text>> {
+    let mut folders = Vec::new(alloc);
+    folders.push(format!(in alloc; "{path}/")?)?;
+    let mut files = Vec::new(alloc);
+    for _ in 0..TURNS {
+        let Some(folder) = folders.pop() else {
+            files.sort()?;
+            return Ok(files);
+        };
+        push_files(alloc, rt, &folder, &mut folders, &mut files)?;
+    }
+    Err(io::Error::from(ErrorKind::Other))
+}
+
+/// Adds the files of a folder, whose path ends with a slash, and its folders. One that is missing has none.
+fn push_files<R: RuntimeFiles>(
+    alloc: Global,
+    rt: &R,
+    folder: &String,
+    folders: &mut Vec<String>,
+    files: &mut Vec<Text>,
+) -> io::Result<()> {
+    let names = match names_in(alloc, rt, folder.as_str()) {
+        Ok(names) => names,
+        Err(error) if is_absent(&error) => return Ok(()),
+        Err(error) => return Err(error),
+    };
+    for name in names {
+        let path = format!(in alloc; "{folder}{name}")?;
+        if fs::symlink_metadata(rt, path.as_str())?.is_dir() {
+            folders.push(format!(in alloc; "{path}/")?)?;
+        } else {
+            files.push(Text::new(path))?;
+        }
+    }
+    Ok(())
+}
+
 impl<'r, R: RuntimeFiles<File = File>> Files for HostFiles<'r, R> {
     ghost faults = { λ h. h.faults };
 
@@ -112,6 +199,28 @@ impl<'r, R: RuntimeFiles<File = File>> Files for HostFiles<'r, R> {
     fn write(&mut self, _alloc: Global, path: &str, bytes: &[u8]) -> Result<(), FileError> {
         match replace(self.rt, path, bytes) {
             Ok(()) => Ok(()),
+            Err(error) => Err(self.fault_of(error)),
+        }
+    }
+
+    fn is_file(&mut self, _alloc: Global, path: &str) -> Result<bool, FileError> {
+        match fs::metadata(self.rt, path) {
+            Ok(found) => Ok(found.is_file()),
+            Err(error) if is_absent(&error) => Ok(false),
+            Err(error) => Err(self.fault_of(error)),
+        }
+    }
+
+    fn remove(&mut self, alloc: Global, path: &str) -> Result<(), FileError> {
+        match remove_all(alloc, self.rt, path) {
+            Ok(()) => Ok(()),
+            Err(error) => Err(self.fault_of(error)),
+        }
+    }
+
+    fn list(&mut self, alloc: Global, path: &str) -> Result<Vec<Text>, FileError> {
+        match files_under(alloc, self.rt, path) {
+            Ok(paths) => Ok(paths),
             Err(error) => Err(self.fault_of(error)),
         }
     }

@@ -1,9 +1,11 @@
 //! Files in memory.
 
-ghost use Rattle.std.specs.Prelude.{◌≡◌, ◌≤◌, ◌++◌, ◌∷◌, [], ◌↔◌, Some, None, IfOk, IsErrOf, OnOk, OnErr, Contains};
+ghost use Rattle.std.specs.Prelude.{◌≡◌, ◌≤◌, ◌++◌, ◌∷◌, [], ◌↔◌, ◌||◌, not, nat_eq, filter, bytes_eq, Some, None, is_some, IfOk, IsErrOf, OnOk, OnErr, Contains};
 ghost use Rattle.std.specs.FinMap as map;
+ghost use Rattle.std.specs.BTreeMap.{keys};
+ghost use Rattle.std.specs.List.{starts_with};
 ghost use Rattle.warg_values.specs.Faults.{Rose, after_call, one_more};
-ghost use Rattle.warg_base.specs.Files.{LeavesPartlyWritten, file_at, with_file};
+ghost use Rattle.warg_base.specs.Files.{LeavesPartlyRemoved, LeavesPartlyWritten, file_at, paths_under, with_file, without_path};
 ghost use Rattle.warg_base.specs.Failures.{has_file_failed};
 
 use crate::files::{FileError, Files};
@@ -93,4 +95,80 @@ impl Files for MemoryFiles {
         self.files.insert(path, bytes)?;
         Ok(())
     }
+
+    fn is_file(&mut self, alloc: Global, path: &str) -> Result<bool, FileError>
+        ensures never_falls { self.old.schedule.faults ≤ self.new.schedule.faults }
+        ensures kept { self.new.files ≡ self.old.files }
+        ensures answer { IfOk result (λ there. there ≡ is_some (file_at self.old.files path.now)) }
+        ensures not_missing { IsErrOf result FileError.Missing → ⊥ }
+        ensures failed { IsErrOf result FileError.Failed ↔ Contains self.old.schedule.failing (one_more self.old.schedule.calls) }
+        ensures counted { IsErrOf result FileError.Failed → Rose self.old.schedule.faults self.new.schedule.faults }
+        ensures scheduled { self.new.schedule ≡ after_call self.old.schedule (has_file_failed result) }
+    {
+        if self.schedule.fails_now() {
+            return Err(FileError::Failed);
+        }
+        let path = Text::copy_of(alloc, path)?;
+        Ok(self.files.get(&path).is_some())
+    }
+
+    fn remove(&mut self, alloc: Global, path: &str) -> Result<(), FileError>
+        ensures never_falls { self.old.schedule.faults ≤ self.new.schedule.faults }
+        ensures removed { OnOk result (self.new.files ≡ without_path self.old.files path.now) }
+        ensures refused { OnErr result (LeavesPartlyRemoved (Some self.old.files) (Some self.new.files) path.now) }
+        ensures unchanged { OnErr result (self.new.files ≡ self.old.files) }
+        ensures not_missing { IsErrOf result FileError.Missing → ⊥ }
+        ensures failed { IsErrOf result FileError.Failed ↔ Contains self.old.schedule.failing (one_more self.old.schedule.calls) }
+        ensures counted { IsErrOf result FileError.Failed → Rose self.old.schedule.faults self.new.schedule.faults }
+        ensures scheduled { self.new.schedule ≡ after_call self.old.schedule (has_file_failed result) }
+    {
+        if self.schedule.fails_now() {
+            return Err(FileError::Failed);
+        }
+        let folder = format!(in alloc; "{path}/")?;
+        retain_outside(&mut self.files, path, folder.as_str());
+        Ok(())
+    }
+
+    fn list(&mut self, alloc: Global, path: &str) -> Result<Vec<Text>, FileError>
+        ensures never_falls { self.old.schedule.faults ≤ self.new.schedule.faults }
+        ensures kept { self.new.files ≡ self.old.files }
+        ensures listed { IfOk result (λ paths. paths.items ≡ paths_under self.old.files path.now) }
+        ensures not_missing { IsErrOf result FileError.Missing → ⊥ }
+        ensures failed { IsErrOf result FileError.Failed ↔ Contains self.old.schedule.failing (one_more self.old.schedule.calls) }
+        ensures counted { IsErrOf result FileError.Failed → Rose self.old.schedule.faults self.new.schedule.faults }
+        ensures scheduled { self.new.schedule ≡ after_call self.old.schedule (has_file_failed result) }
+    {
+        if self.schedule.fails_now() {
+            return Err(FileError::Failed);
+        }
+        let folder = format!(in alloc; "{path}/")?;
+        Ok(paths_with(alloc, &self.files, folder.as_str())?)
+    }
+}
+
+/// Drops the file of this path and all files whose path begins with the folder's, which ends with a slash.
+fn retain_outside(files: &mut BTreeMap<Text, Bytes>, path: &str, folder: &str)
+    ensures { files.new.entries ≡ filter (λ e. not (bytes_eq e.0 path.now || starts_with nat_eq e.0 folder.now)) files.old.entries }
+{
+    files.retain(|file, _| {
+        file.as_str() != path && !file.as_str().as_bytes().starts_with(folder.as_bytes())
+    });
+}
+
+/// The paths that begin with the folder's, which ends with a slash.
+fn paths_with(
+    alloc: Global,
+    files: &BTreeMap<Text, Bytes>,
+    folder: &str,
+) -> Result<Vec<Text>, Memory>
+    ensures { IfOk result (λ paths. paths.items ≡ filter (λ q. starts_with nat_eq q folder.now) (keys files.now)) }
+{
+    let mut paths = Vec::new(alloc);
+    for file in files.keys() {
+        if file.as_str().as_bytes().starts_with(folder.as_bytes()) {
+            paths.push(file.try_clone(alloc)?)?;
+        }
+    }
+    Ok(paths)
 }

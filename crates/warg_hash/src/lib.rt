@@ -6,6 +6,3 @@ mod name;
 
 pub use hash::{AnyHash, KeyId, LogId, RecordId};
 pub use name::{NameError, PackageName};
-
-#[cfg(test)]
-mod tests;

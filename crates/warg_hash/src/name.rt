@@ -38,7 +38,7 @@ impl From<Memory> for NameError {
     }
 }
 
-// Lower-case letters and digits.
+/// Lower-case letters and digits.
 fn are_letters_and_digits(text: &[u8]) -> bool
     ensures { result ≡ list_all (λ b. is_lower b || is_digit b) text.now }
 {
@@ -46,7 +46,7 @@ fn are_letters_and_digits(text: &[u8]) -> bool
         .all(|b| b.is_ascii_lowercase() || b.is_ascii_digit())
 }
 
-// A lower-case letter, and then lower-case letters and digits.
+/// A lower-case letter, and then lower-case letters and digits.
 fn is_word(text: &[u8]) -> bool
     ensures { result ≡ is_word text.now }
 {
@@ -56,14 +56,14 @@ fn is_word(text: &[u8]) -> bool
     }
 }
 
-// Words joined by hyphens.
+/// Words joined by hyphens.
 fn is_label(text: &str) -> bool
     ensures { result ≡ is_label text.now }
 {
     text.split('-').all(|word| is_word(word.as_bytes()))
 }
 
-// Two labels with a colon between them.
+/// Two labels with a colon between them.
 fn is_package_name(text: &str) -> bool
     ensures { result ≡ is_package_name text.now }
 {
@@ -75,8 +75,8 @@ fn is_package_name(text: &str) -> bool
 
 /// The name of a package: a namespace and a name in it, `namespace:name`.
 ///
-/// Both are words joined by hyphens; a word is a lower-case letter, and then lower-case letters and
-/// digits. Names are equal, are ordered and hash by their text, and a clause sees the text's bytes.
+/// Both are words joined by hyphens; a word is a lower-case letter, and then lower-case letters and digits. Names are
+/// equal, are ordered and hash by their text, and a clause sees the text's bytes.
 #[derive(Debug, Drop)]
 pub struct PackageName {
     text: Text,

@@ -15,10 +15,10 @@ use Rattle.warg_log.specs.declared.keys.KeyFacts.{KeyFacts}
 use Rattle.warg_log.specs.Agrees.{Agrees}
 use Rattle.warg_log.specs.History.{key_in, key_with, has_id, holds, word_on, last_or, is_known_permission, same_version, release_in, released, yank_in, is_released, is_yanked, standing, releases_of, namespace_in, namespace_of}
 use Rattle.warg_log.specs.Keys.{given, taken}
-use Rattle.warg_log.specs.Known.{Known, nothing, is_held, place_among, each_unheld, yanked_fault, yank_fault, known_fault, known_step, known_entries_fault, known_steps, yanked_at}
+use Rattle.warg_log.specs.Facts.{PlainFacts, nothing, is_held, place_among, each_unheld, yanked_breach, yank_breach, known_breach, known_step, known_entries_breach, known_steps, yanked_at}
 use Rattle.warg_log.specs.Permissions.{set_of, all_of}
 use Rattle.warg_log.specs.Places.{place_of, versions_of, AreDistinct, with_content}
-use Rattle.warg_log.specs.Rules.{Fault, broken, each_unpermitted, entry_fault, entries_fault, ReleaseAgain, YankUnreleased, YankYanked, NamespaceTaken, Unpermitted}
+use Rattle.warg_log.specs.Rules.{Breach, broken, each_unpermitted, entry_breach, entries_breach, ReleaseAgain, YankUnreleased, YankYanked, NamespaceTaken, Unpermitted}
 use Rattle.warg_log.proofs.PermissionLaws.{bytes_sym, has-all_of, has-set_of, holds-push, give-held, take-held}
 use Rattle.warg_log.proofs.ReleaseLaws.{same_version-is, same_version-refl, same-sym, versions-push, AreDistinct-push}
 
@@ -34,35 +34,35 @@ places_known v past (r ∷ rs) = by (same_version v r.0) (place_among v (map (st
     by false (Some i) c h = h
 
 yanks_known : (v : Parts) (past : List PlainEntry) (rs : List (Parts × List ℕ))
-    → yank_fault v (map (standing past) rs) (place_among v (map (standing past) rs)) ≡ broken (not (list_any (λ r. same_version v r.0) rs)) (YankUnreleased v) (broken (is_yanked v past) (YankYanked v) None)
+    → yank_breach v (map (standing past) rs) (place_among v (map (standing past) rs)) ≡ broken (not (list_any (λ r. same_version v r.0) rs)) (YankUnreleased v) (broken (is_yanked v past) (YankYanked v) None)
 yanks_known v past [] = refl
 yanks_known v past (r ∷ rs) = elim (cases_Bool (same_version v r.0)) [
   | inl here ↦ rw here (rw (sym (same_version-is v r.0 here)) (content (is_yanked v past) r.1))
   | inr other ↦ rw other (later (place_among v (map (standing past) rs)) ∙ yanks_known v past rs)
 ]
   where
-    content : (b : Bool) (c : List ℕ) → yanked_fault v (cond b None (Some c)) ≡ broken b (YankYanked v) None
+    content : (b : Bool) (c : List ℕ) → yanked_breach v (cond b None (Some c)) ≡ broken b (YankYanked v) None
     content true c = refl
     content false c = refl
 
-    later : (o : Option ℕ) → yank_fault v (standing past r ∷ map (standing past) rs) (option_map suc o) ≡ yank_fault v (map (standing past) rs) o
+    later : (o : Option ℕ) → yank_breach v (standing past r ∷ map (standing past) rs) (option_map suc o) ≡ yank_breach v (map (standing past) rs) o
     later None = refl
     later (Some i) = refl
 
 -- ---- what is judged
 
-each_agrees : {kind : Kind} {k : Known} {past : List PlainEntry} (a : Agrees kind k past) (signer : List ℕ) (ps : List (List ℕ)) → each_unheld signer k ps ≡ each_unpermitted kind signer past ps
+each_agrees : {kind : Kind} {k : PlainFacts} {past : List PlainEntry} (a : Agrees kind k past) (signer : List ℕ) (ps : List (List ℕ)) → each_unheld signer k ps ≡ each_unpermitted kind signer past ps
 each_agrees a signer [] = refl
 each_agrees a signer (p ∷ ps) = rw (a.held signer p, each_agrees a signer ps) refl
 
-pub fault-agrees : {kind : Kind} {k : Known} {past : List PlainEntry} (a : Agrees kind k past) (signer : List ℕ) (opens : Bool) (e : PlainEntry) → known_fault signer opens k e ≡ entry_fault kind signer opens past e
-fault-agrees a signer opens (Init key algorithm) = refl
-fault-agrees a signer opens (GrantFlat key permissions) = each_agrees a signer permissions
-fault-agrees a signer opens (RevokeFlat key_id permissions) = each_agrees a signer permissions
-fault-agrees {past = past} a signer opens (Release version content) = rw (a.held signer (codes "release"), a.releases, places_known version past (released past)) refl
-fault-agrees {past = past} a signer opens (Yank version) = rw (a.held signer (codes "yank"), a.releases, yanks_known version past (released past)) refl
-fault-agrees a signer opens (DefineNamespace namespace) = rw (a.held signer (codes "defineNamespace"), a.spaces namespace) refl
-fault-agrees a signer opens (ImportNamespace namespace registry) = rw (a.held signer (codes "importNamespace"), a.spaces namespace) refl
+pub breach-agrees : {kind : Kind} {k : PlainFacts} {past : List PlainEntry} (a : Agrees kind k past) (signer : List ℕ) (opens : Bool) (e : PlainEntry) → known_breach signer opens k e ≡ entry_breach kind signer opens past e
+breach-agrees a signer opens (Init key algorithm) = refl
+breach-agrees a signer opens (GrantFlat key permissions) = each_agrees a signer permissions
+breach-agrees a signer opens (RevokeFlat key_id permissions) = each_agrees a signer permissions
+breach-agrees {past = past} a signer opens (Release version content) = rw (a.held signer (codes "release"), a.releases, places_known version past (released past)) refl
+breach-agrees {past = past} a signer opens (Yank version) = rw (a.held signer (codes "yank"), a.releases, yanks_known version past (released past)) refl
+breach-agrees a signer opens (DefineNamespace namespace) = rw (a.held signer (codes "defineNamespace"), a.spaces namespace) refl
+breach-agrees a signer opens (ImportNamespace namespace registry) = rw (a.held signer (codes "importNamespace"), a.spaces namespace) refl
 
 -- ---- one more entry: what the lists say
 
@@ -124,29 +124,29 @@ yanked_kept past e no_release no_yank all v h = yanks_kept past e no_yank v ∙ 
 
 -- ---- permissions
 
-known_word : {kind : Kind} {k : Known} {past : List PlainEntry} (a : Agrees kind k past) (id q : List ℕ) (e : PlainEntry) → word_on kind id q e ≡ None → is_held k id q ≡ holds kind id q (past ++ e ∷ [])
+known_word : {kind : Kind} {k : PlainFacts} {past : List PlainEntry} (a : Agrees kind k past) (id q : List ℕ) (e : PlainEntry) → word_on kind id q e ≡ None → is_held k id q ≡ holds kind id q (past ++ e ∷ [])
 known_word {kind} {k} {past} a id q e is = a.held id q ∙ sym (holds-push kind id q past e ∙ rw is refl)
 
-init_held : {kind : Kind} {k : Known} {past : List PlainEntry} (a : Agrees kind k past) (key algorithm id q : List ℕ) → is_held (known_step kind k (Init key algorithm)) id q ≡ holds kind id q (past ++ Init key algorithm ∷ [])
+init_held : {kind : Kind} {k : PlainFacts} {past : List PlainEntry} (a : Agrees kind k past) (key algorithm id q : List ℕ) → is_held (known_step kind k (Init key algorithm)) id q ≡ holds kind id q (past ++ Init key algorithm ∷ [])
 init_held {kind} {k} {past} a key algorithm id q =
     give-held (bytes_eq (sha256 key) id) (is_known_permission q) (last_or false (filter_map (word_on kind id q) past)) (is_permission kind q) (k.keys id) key q (all_of kind) (a.held id q) (has-all_of kind q)
     ∙ sym (holds-push kind id q past (Init key algorithm))
 
-grant_held : {kind : Kind} {k : Known} {past : List PlainEntry} (a : Agrees kind k past) (key : List ℕ) (permissions : List (List ℕ)) (id q : List ℕ) → is_held (known_step kind k (GrantFlat key permissions)) id q ≡ holds kind id q (past ++ GrantFlat key permissions ∷ [])
+grant_held : {kind : Kind} {k : PlainFacts} {past : List PlainEntry} (a : Agrees kind k past) (key : List ℕ) (permissions : List (List ℕ)) (id q : List ℕ) → is_held (known_step kind k (GrantFlat key permissions)) id q ≡ holds kind id q (past ++ GrantFlat key permissions ∷ [])
 grant_held {kind} {k} {past} a key permissions id q =
     give-held (bytes_eq (sha256 key) id) (is_known_permission q) (last_or false (filter_map (word_on kind id q) past)) (list_any (bytes_eq q) permissions) (k.keys id) key q (set_of permissions) (a.held id q) (has-set_of q permissions)
     ∙ sym (holds-push kind id q past (GrantFlat key permissions))
 
-revoke_held : {kind : Kind} {k : Known} {past : List PlainEntry} (a : Agrees kind k past) (key_id : List ℕ) (permissions : List (List ℕ)) (id q : List ℕ) → is_held (known_step kind k (RevokeFlat key_id permissions)) id q ≡ holds kind id q (past ++ RevokeFlat key_id permissions ∷ [])
+revoke_held : {kind : Kind} {k : PlainFacts} {past : List PlainEntry} (a : Agrees kind k past) (key_id : List ℕ) (permissions : List (List ℕ)) (id q : List ℕ) → is_held (known_step kind k (RevokeFlat key_id permissions)) id q ≡ holds kind id q (past ++ RevokeFlat key_id permissions ∷ [])
 revoke_held {kind} {k} {past} a key_id permissions id q =
     take-held (bytes_eq key_id id) (is_known_permission q) (last_or false (filter_map (word_on kind id q) past)) (list_any (bytes_eq q) permissions) (k.keys id) q (set_of permissions) (a.held id q) (has-set_of q permissions)
     ∙ sym (holds-push kind id q past (RevokeFlat key_id permissions))
 
 -- ---- a release
 
-fault_gone : (b : Bool) (f : Fault) (next : Option Fault) → broken b f next ≡ None → (b ≡ false) × (next ≡ None)
-fault_gone true f next h = absurd cc
-fault_gone false f next h = (refl, h)
+breach_gone : (b : Bool) (f : Breach) (next : Option Breach) → broken b f next ≡ None → (b ≡ false) × (next ≡ None)
+breach_gone true f next h = absurd cc
+breach_gone false f next h = (refl, h)
 
 place_gone : (v : Parts) (o : Option ℕ) → is_some o ≡ false → o ≡ None
 place_gone v None h = refl
@@ -243,7 +243,7 @@ space_more past e name state is free n =
 
 -- ---- one more entry
 
-taken_space : {kind : Kind} {k : Known} {past : List PlainEntry} (a : Agrees kind k past) (e : PlainEntry) (name : List ℕ) (state : Option (List ℕ)) → namespace_in e ≡ Some (name, state)
+taken_space : {kind : Kind} {k : PlainFacts} {past : List PlainEntry} (a : Agrees kind k past) (e : PlainEntry) (name : List ℕ) (state : Option (List ℕ)) → namespace_in e ≡ Some (name, state)
     → is_some (namespace_of name past) ≡ false → (n : List ℕ) → cond (bytes_eq name n) (Some state) (k.namespaces n) ≡ namespace_of n (past ++ e ∷ [])
 taken_space {past = past} a e name state is free n = rw (a.spaces n) (sym (space_more past e name state is (none (namespace_of name past) free) n))
   where
@@ -251,7 +251,7 @@ taken_space {past = past} a e name state is free n = rw (a.spaces n) (sym (space
     none None h = refl
     none (Some x) h = absurd (false≢true (sym h))
 
-pub step-agrees : {kind : Kind} {k : Known} {past : List PlainEntry} (a : Agrees kind k past) (signer : List ℕ) (opens : Bool) (e : PlainEntry) → entry_fault kind signer opens past e ≡ None → Agrees kind (known_step kind k e) (past ++ e ∷ [])
+pub step-agrees : {kind : Kind} {k : PlainFacts} {past : List PlainEntry} (a : Agrees kind k past) (signer : List ℕ) (opens : Bool) (e : PlainEntry) → entry_breach kind signer opens past e ≡ None → Agrees kind (known_step kind k e) (past ++ e ∷ [])
 step-agrees {kind} {k} {past} a signer opens (Init key algorithm) ok = record {
   key = λ id. given_key (bytes_eq (sha256 key) id) (k.keys id) key (all_of kind) ∙ ap (λ o. option_or o (cond (bytes_eq (sha256 key) id) (Some key) None)) (a.key id) ∙ sym (key_more id key past (Init key algorithm) refl);
   held = init_held a key algorithm;
@@ -277,8 +277,8 @@ step-agrees {kind} {k} {past} a signer opens (RevokeFlat key_id permissions) ok 
   spaces = λ n. a.spaces n ∙ sym (spaces_kept past (RevokeFlat key_id permissions) n refl);
 }
 step-agrees {kind} {k} {past} a signer opens (Release version content) ok =
-    let judged = (fault_gone (not (holds kind signer (codes "release") past)) (Unpermitted signer (codes "release")) (broken (is_released version past) (ReleaseAgain version) None) ok).1 in
-    let fresh : is_released version past ≡ false = (fault_gone (is_released version past) (ReleaseAgain version) None judged).0 in
+    let judged = (breach_gone (not (holds kind signer (codes "release") past)) (Unpermitted signer (codes "release")) (broken (is_released version past) (ReleaseAgain version) None) ok).1 in
+    let fresh : is_released version past ≡ false = (breach_gone (is_released version past) (ReleaseAgain version) None judged).0 in
     let unplaced : place_among version k.releases ≡ None = place_gone version (place_among version k.releases) (rw a.releases (places_known version past (released past) ∙ fresh)) in
     record {
       key = λ id. a.key id ∙ sym (keys_kept past (Release version content) id refl);
@@ -289,8 +289,8 @@ step-agrees {kind} {k} {past} a signer opens (Release version content) ok =
       spaces = λ n. a.spaces n ∙ sym (spaces_kept past (Release version content) n refl);
     }
 step-agrees {kind} {k} {past} a signer opens (Yank version) ok =
-    let judged = (fault_gone (not (holds kind signer (codes "yank") past)) (Unpermitted signer (codes "yank")) (broken (not (is_released version past)) (YankUnreleased version) (broken (is_yanked version past) (YankYanked version) None)) ok).1 in
-    let there : not (is_released version past) ≡ false = (fault_gone (not (is_released version past)) (YankUnreleased version) (broken (is_yanked version past) (YankYanked version) None) judged).0 in
+    let judged = (breach_gone (not (holds kind signer (codes "yank") past)) (Unpermitted signer (codes "yank")) (broken (not (is_released version past)) (YankUnreleased version) (broken (is_yanked version past) (YankYanked version) None)) ok).1 in
+    let there : not (is_released version past) ≡ false = (breach_gone (not (is_released version past)) (YankUnreleased version) (broken (is_yanked version past) (YankYanked version) None) judged).0 in
     record {
       key = λ id. a.key id ∙ sym (keys_kept past (Yank version) id refl);
       held = λ id q. known_word a id q (Yank version) refl;
@@ -304,8 +304,8 @@ step-agrees {kind} {k} {past} a signer opens (Yank version) ok =
     other v false is unreleased there = refl
     other v true is unreleased there = absurd (false≢true (sym there ∙ ap not (subst (λ w. is_released w past ≡ false) (same_version-is v version is) unreleased)))
 step-agrees {kind} {k} {past} a signer opens (DefineNamespace namespace) ok =
-    let judged = (fault_gone (not (holds kind signer (codes "defineNamespace") past)) (Unpermitted signer (codes "defineNamespace")) (broken (is_some (namespace_of namespace past)) (NamespaceTaken namespace) None) ok).1 in
-    let free = (fault_gone (is_some (namespace_of namespace past)) (NamespaceTaken namespace) None judged).0 in
+    let judged = (breach_gone (not (holds kind signer (codes "defineNamespace") past)) (Unpermitted signer (codes "defineNamespace")) (broken (is_some (namespace_of namespace past)) (NamespaceTaken namespace) None) ok).1 in
+    let free = (breach_gone (is_some (namespace_of namespace past)) (NamespaceTaken namespace) None judged).0 in
     record {
       key = λ id. a.key id ∙ sym (keys_kept past (DefineNamespace namespace) id refl);
       held = λ id q. known_word a id q (DefineNamespace namespace) refl;
@@ -315,8 +315,8 @@ step-agrees {kind} {k} {past} a signer opens (DefineNamespace namespace) ok =
       spaces = taken_space a (DefineNamespace namespace) namespace None refl free;
     }
 step-agrees {kind} {k} {past} a signer opens (ImportNamespace namespace registry) ok =
-    let judged = (fault_gone (not (holds kind signer (codes "importNamespace") past)) (Unpermitted signer (codes "importNamespace")) (broken (is_some (namespace_of namespace past)) (NamespaceTaken namespace) None) ok).1 in
-    let free = (fault_gone (is_some (namespace_of namespace past)) (NamespaceTaken namespace) None judged).0 in
+    let judged = (breach_gone (not (holds kind signer (codes "importNamespace") past)) (Unpermitted signer (codes "importNamespace")) (broken (is_some (namespace_of namespace past)) (NamespaceTaken namespace) None) ok).1 in
+    let free = (breach_gone (is_some (namespace_of namespace past)) (NamespaceTaken namespace) None judged).0 in
     record {
       key = λ id. a.key id ∙ sym (keys_kept past (ImportNamespace namespace registry) id refl);
       held = λ id q. known_word a id q (ImportNamespace namespace registry) refl;
@@ -336,25 +336,25 @@ no_more_entries : (past : List PlainEntry) → past ≡ past ++ []
 no_more_entries [] = refl
 no_more_entries (x ∷ past) = ap (λ ys. x ∷ ys) (no_more_entries past)
 
-pub faults-agree : (kind : Kind) (k : Known) (past : List PlainEntry) (a : Agrees kind k past) (signer : List ℕ) (opens : Bool) (es : List PlainEntry) → known_entries_fault kind signer opens k es ≡ entries_fault kind signer opens past es
-faults-agree kind k past a signer opens [] = refl
-faults-agree kind k past a signer opens (e ∷ es) =
-    ap (λ f. option_or f (known_entries_fault kind signer false (known_step kind k e) es)) (fault-agrees a signer opens e)
-    ∙ by (entry_fault kind signer opens past e) refl (λ is. faults-agree kind (known_step kind k e) (past ++ e ∷ []) (step-agrees a signer opens e is) signer false es)
+pub breaches-agree : (kind : Kind) (k : PlainFacts) (past : List PlainEntry) (a : Agrees kind k past) (signer : List ℕ) (opens : Bool) (es : List PlainEntry) → known_entries_breach kind signer opens k es ≡ entries_breach kind signer opens past es
+breaches-agree kind k past a signer opens [] = refl
+breaches-agree kind k past a signer opens (e ∷ es) =
+    ap (λ f. option_or f (known_entries_breach kind signer false (known_step kind k e) es)) (breach-agrees a signer opens e)
+    ∙ by (entry_breach kind signer opens past e) refl (λ is. breaches-agree kind (known_step kind k e) (past ++ e ∷ []) (step-agrees a signer opens e is) signer false es)
   where
-    by : (f : Option Fault) → entry_fault kind signer opens past e ≡ f
-        → (entry_fault kind signer opens past e ≡ None → known_entries_fault kind signer false (known_step kind k e) es ≡ entries_fault kind signer false (past ++ e ∷ []) es)
-        → option_or f (known_entries_fault kind signer false (known_step kind k e) es) ≡ option_or f (entries_fault kind signer false (past ++ e ∷ []) es)
+    by : (f : Option Breach) → entry_breach kind signer opens past e ≡ f
+        → (entry_breach kind signer opens past e ≡ None → known_entries_breach kind signer false (known_step kind k e) es ≡ entries_breach kind signer false (past ++ e ∷ []) es)
+        → option_or f (known_entries_breach kind signer false (known_step kind k e) es) ≡ option_or f (entries_breach kind signer false (past ++ e ∷ []) es)
     by None is rest = rest is
     by (Some f) is rest = refl
 
-pub steps-agree : (kind : Kind) (k : Known) (past : List PlainEntry) (a : Agrees kind k past) (signer : List ℕ) (opens : Bool) (es : List PlainEntry) → entries_fault kind signer opens past es ≡ None → Agrees kind (known_steps kind k es) (past ++ es)
+pub steps-agree : (kind : Kind) (k : PlainFacts) (past : List PlainEntry) (a : Agrees kind k past) (signer : List ℕ) (opens : Bool) (es : List PlainEntry) → entries_breach kind signer opens past es ≡ None → Agrees kind (known_steps kind k es) (past ++ es)
 steps-agree kind k past a signer opens [] ok = subst (Agrees kind k) (no_more_entries past) a
 steps-agree kind k past a signer opens (e ∷ es) ok =
-    let parts = none_of (entry_fault kind signer opens past e) (entries_fault kind signer false (past ++ e ∷ []) es) ok in
+    let parts = none_of (entry_breach kind signer opens past e) (entries_breach kind signer false (past ++ e ∷ []) es) ok in
     subst (Agrees kind (known_steps kind (known_step kind k e) es)) (one_more past e es) (steps-agree kind (known_step kind k e) (past ++ e ∷ []) (step-agrees a signer opens e parts.0) signer false es parts.1)
   where
-    none_of : (f g : Option Fault) → option_or f g ≡ None → (f ≡ None) × (g ≡ None)
+    none_of : (f g : Option Breach) → option_or f g ≡ None → (f ≡ None) × (g ≡ None)
     none_of None g h = (refl, h)
     none_of (Some f) g h = absurd cc
 

@@ -8,29 +8,29 @@ use Rattle.warg_log.specs.declared.error.ValidationError.{ValidationError}
 use Rattle.warg_log.specs.declared.error.ValidationError.TheVariants as error
 use Rattle.warg_log.specs.declared.head.Head.{Head}
 use Rattle.warg_log.specs.Agrees.{Agrees}
-use Rattle.warg_log.specs.Faults.{IsFault, wants_memory}
+use Rattle.warg_log.specs.Breaches.{IsBreach, wants_memory}
 use Rattle.warg_log.specs.History.{last_or}
-use Rattle.warg_log.specs.Known.{Known, known_steps, known_entries_fault, lacks_opening, signer_by}
+use Rattle.warg_log.specs.Facts.{PlainFacts, known_steps, known_entries_breach, lacks_opening, signer_by}
 use Rattle.warg_log.specs.Lawful.{IsLawful}
-use Rattle.warg_log.specs.Rules.{Fault, Signed, Accepts, entries_of, head_of, head_from, head_rules, broken, FirstEntryNotInit, BadSignature, signature_fault, signed_text, lacks_init, is_first, signer_key, fault_of}
-use Rattle.warg_log.proofs.AgreesLaws.{faults-agree, steps-agree}
+use Rattle.warg_log.specs.Rules.{Breach, Signed, Accepts, entries_of, head_of, head_from, head_rules, broken, FirstEntryNotInit, BadSignature, signature_breach, signed_text, lacks_init, is_first, signer_key, breach_of}
+use Rattle.warg_log.proofs.AgreesLaws.{breaches-agree, steps-agree}
 
--- what a fault or what comes after it says
-fault_first : (e : ValidationError) (x y : Option Fault) → IsFault e x → IsFault e (option_or x y)
-fault_first (error.ProtocolVersion version) x y h = rw h refl
-fault_first (error.PreviousRecord expected found) x y h = rw h refl
-fault_first (error.TimeLower head time) x y h = rw h refl
-fault_first error.FirstEntryNotInit x y h = rw h refl
-fault_first (error.UnknownKey key_id) x y h = rw h refl
-fault_first (error.BadSignature key_id) x y h = rw h refl
-fault_first error.InitAgain x y h = rw h refl
-fault_first (error.HashAlgorithm found) x y h = rw h refl
-fault_first (error.Unpermitted key_id permission) x y h = rw h refl
-fault_first (error.ReleaseAgain version) x y h = rw h refl
-fault_first (error.YankUnreleased version) x y h = rw h refl
-fault_first (error.YankYanked version) x y h = rw h refl
-fault_first (error.NamespaceTaken namespace) x y h = rw h refl
-fault_first error.Memory x y h = tt
+-- what a breach or what comes after it says
+breach_first : (e : ValidationError) (x y : Option Breach) → IsBreach e x → IsBreach e (option_or x y)
+breach_first (error.ProtocolVersion version) x y h = rw h refl
+breach_first (error.PreviousRecord expected found) x y h = rw h refl
+breach_first (error.TimeLower head time) x y h = rw h refl
+breach_first error.FirstEntryNotInit x y h = rw h refl
+breach_first (error.UnknownKey key_id) x y h = rw h refl
+breach_first (error.BadSignature key_id) x y h = rw h refl
+breach_first error.InitAgain x y h = rw h refl
+breach_first (error.HashAlgorithm found) x y h = rw h refl
+breach_first (error.Unpermitted key_id permission) x y h = rw h refl
+breach_first (error.ReleaseAgain version) x y h = rw h refl
+breach_first (error.YankUnreleased version) x y h = rw h refl
+breach_first (error.YankYanked version) x y h = rw h refl
+breach_first (error.NamespaceTaken namespace) x y h = rw h refl
+breach_first error.Memory x y h = tt
 
 lacks-follows : (head : Option Head) (log : List Signed) (s : Signed) → head ≡ head_of log → lacks_opening head s ≡ lacks_init log s
 lacks-follows head [] s is = rw is refl
@@ -40,40 +40,40 @@ opens-follows : (head : Option Head) (log : List Signed) → head ≡ head_of lo
 opens-follows head [] is = rw is refl
 opens-follows head (r ∷ log) is = rw is refl
 
-signer-follows : {kind : Kind} (head : Option Head) (k : Known) (log : List Signed) (s : Signed) → head ≡ head_of log → Agrees kind k (entries_of log) → signer_by head k s ≡ signer_key log s
+signer-follows : {kind : Kind} (head : Option Head) (k : PlainFacts) (log : List Signed) (s : Signed) → head ≡ head_of log → Agrees kind k (entries_of log) → signer_by head k s ≡ signer_key log s
 signer-follows head k [] s is a = rw is refl
 signer-follows head k (r ∷ log) s is a = rw is (a.key s.key_id)
 
 -- the rules, by what is kept
-fault-follows : (kind : Kind) (accepts : Accepts) (head : Option Head) (k : Known) (log : List Signed) (s : Signed) → head ≡ head_of log → Agrees kind k (entries_of log)
-    → option_or (head_rules head s (broken (lacks_opening head s) FirstEntryNotInit (signature_fault kind accepts s (signer_by head k s)))) (known_entries_fault kind s.key_id (not (is_some head)) k s.rec.entries) ≡ fault_of kind accepts log s
-fault-follows kind accepts head k log s is a =
-    rw (lacks-follows head log s is, signer-follows head k log s is a, opens-follows head log is, faults-agree kind k (entries_of log) a s.key_id (is_first log) s.rec.entries, is) refl
+breach-follows : (kind : Kind) (accepts : Accepts) (head : Option Head) (k : PlainFacts) (log : List Signed) (s : Signed) → head ≡ head_of log → Agrees kind k (entries_of log)
+    → option_or (head_rules head s (broken (lacks_opening head s) FirstEntryNotInit (signature_breach kind accepts s (signer_by head k s)))) (known_entries_breach kind s.key_id (not (is_some head)) k s.rec.entries) ≡ breach_of kind accepts log s
+breach-follows kind accepts head k log s is a =
+    rw (lacks-follows head log s is, signer-follows head k log s is a, opens-follows head log is, breaches-agree kind k (entries_of log) a s.key_id (is_first log) s.rec.entries, is) refl
 
 -- a record that obeys the rules of the record itself
-pub passed : (kind : Kind) (accepts : Accepts) (head : Option Head) (k : Known) (log : List Signed) (s : Signed) (key : List ℕ) → head ≡ head_of log → Agrees kind k (entries_of log)
-    → ((next : Option Fault) → head_rules head s next ≡ next) → lacks_opening head s ≡ false → signer_by head k s ≡ Some key → accepts key (signed_text kind s.contents) s.signature ≡ true
-    → known_entries_fault kind s.key_id (not (is_some head)) k s.rec.entries ≡ fault_of kind accepts log s
+pub passed : (kind : Kind) (accepts : Accepts) (head : Option Head) (k : PlainFacts) (log : List Signed) (s : Signed) (key : List ℕ) → head ≡ head_of log → Agrees kind k (entries_of log)
+    → ((next : Option Breach) → head_rules head s next ≡ next) → lacks_opening head s ≡ false → signer_by head k s ≡ Some key → accepts key (signed_text kind s.contents) s.signature ≡ true
+    → known_entries_breach kind s.key_id (not (is_some head)) k s.rec.entries ≡ breach_of kind accepts log s
 passed kind accepts head k log s key is a heads opened signs good =
-    let own : broken (lacks_opening head s) FirstEntryNotInit (signature_fault kind accepts s (signer_by head k s)) ≡ None = rw (opened, signs, good) refl in
-    sym (ap (λ f. option_or f (known_entries_fault kind s.key_id (not (is_some head)) k s.rec.entries)) (heads (broken (lacks_opening head s) FirstEntryNotInit (signature_fault kind accepts s (signer_by head k s))) ∙ own)) ∙ fault-follows kind accepts head k log s is a
+    let own : broken (lacks_opening head s) FirstEntryNotInit (signature_breach kind accepts s (signer_by head k s)) ≡ None = rw (opened, signs, good) refl in
+    sym (ap (λ f. option_or f (known_entries_breach kind s.key_id (not (is_some head)) k s.rec.entries)) (heads (broken (lacks_opening head s) FirstEntryNotInit (signature_breach kind accepts s (signer_by head k s))) ∙ own)) ∙ breach-follows kind accepts head k log s is a
 
 -- errors of the record itself
-pub head-refused : (kind : Kind) (accepts : Accepts) (head : Option Head) (k : Known) (log : List Signed) (s : Signed) (e : ValidationError) → head ≡ head_of log → Agrees kind k (entries_of log)
-    → ((next : Option Fault) → IsFault e (head_rules head s next)) → IsFault e (fault_of kind accepts log s)
-head-refused kind accepts head k log s e is a refused = subst (IsFault e) (fault-follows kind accepts head k log s is a) (fault_first e _ _ (refused _))
+pub head-refused : (kind : Kind) (accepts : Accepts) (head : Option Head) (k : PlainFacts) (log : List Signed) (s : Signed) (e : ValidationError) → head ≡ head_of log → Agrees kind k (entries_of log)
+    → ((next : Option Breach) → IsBreach e (head_rules head s next)) → IsBreach e (breach_of kind accepts log s)
+head-refused kind accepts head k log s e is a refused = subst (IsBreach e) (breach-follows kind accepts head k log s is a) (breach_first e _ _ (refused _))
 
-pub signer-refused : (kind : Kind) (accepts : Accepts) (head : Option Head) (k : Known) (log : List Signed) (s : Signed) (e : ValidationError) → head ≡ head_of log → Agrees kind k (entries_of log)
-    → ((next : Option Fault) → head_rules head s next ≡ next) → IsFault e (broken (lacks_opening head s) FirstEntryNotInit (signature_fault kind accepts s (signer_by head k s))) → IsFault e (fault_of kind accepts log s)
+pub signer-refused : (kind : Kind) (accepts : Accepts) (head : Option Head) (k : PlainFacts) (log : List Signed) (s : Signed) (e : ValidationError) → head ≡ head_of log → Agrees kind k (entries_of log)
+    → ((next : Option Breach) → head_rules head s next ≡ next) → IsBreach e (broken (lacks_opening head s) FirstEntryNotInit (signature_breach kind accepts s (signer_by head k s))) → IsBreach e (breach_of kind accepts log s)
 signer-refused kind accepts head k log s e is a heads refused =
-    subst (IsFault e) (fault-follows kind accepts head k log s is a) (fault_first e _ _ (subst (IsFault e) (sym (heads (broken (lacks_opening head s) FirstEntryNotInit (signature_fault kind accepts s (signer_by head k s))))) refused))
+    subst (IsBreach e) (breach-follows kind accepts head k log s is a) (breach_first e _ _ (subst (IsBreach e) (sym (heads (broken (lacks_opening head s) FirstEntryNotInit (signature_breach kind accepts s (signer_by head k s))))) refused))
 
-pub signature-refused : (kind : Kind) (accepts : Accepts) (head : Option Head) (k : Known) (log : List Signed) (s : Signed) (key : List ℕ) → head ≡ head_of log → Agrees kind k (entries_of log)
-    → ((next : Option Fault) → head_rules head s next ≡ next) → lacks_opening head s ≡ false → signer_by head k s ≡ Some key → accepts key (signed_text kind s.contents) s.signature ≡ false
-    → fault_of kind accepts log s ≡ Some (BadSignature s.key_id)
+pub signature-refused : (kind : Kind) (accepts : Accepts) (head : Option Head) (k : PlainFacts) (log : List Signed) (s : Signed) (key : List ℕ) → head ≡ head_of log → Agrees kind k (entries_of log)
+    → ((next : Option Breach) → head_rules head s next ≡ next) → lacks_opening head s ≡ false → signer_by head k s ≡ Some key → accepts key (signed_text kind s.contents) s.signature ≡ false
+    → breach_of kind accepts log s ≡ Some (BadSignature s.key_id)
 signature-refused kind accepts head k log s key is a heads opened signs bad =
-    let own : broken (lacks_opening head s) FirstEntryNotInit (signature_fault kind accepts s (signer_by head k s)) ≡ Some (BadSignature s.key_id) = rw (opened, signs, bad) refl in
-    sym (fault-follows kind accepts head k log s is a) ∙ ap (λ f. option_or f (known_entries_fault kind s.key_id (not (is_some head)) k s.rec.entries)) (heads (broken (lacks_opening head s) FirstEntryNotInit (signature_fault kind accepts s (signer_by head k s))) ∙ own)
+    let own : broken (lacks_opening head s) FirstEntryNotInit (signature_breach kind accepts s (signer_by head k s)) ≡ Some (BadSignature s.key_id) = rw (opened, signs, bad) refl in
+    sym (breach-follows kind accepts head k log s is a) ∙ ap (λ f. option_or f (known_entries_breach kind s.key_id (not (is_some head)) k s.rec.entries)) (heads (broken (lacks_opening head s) FirstEntryNotInit (signature_breach kind accepts s (signer_by head k s))) ∙ own)
 
 -- one more record
 pub entries-push : (log : List Signed) (s : Signed) → entries_of (log ++ s ∷ []) ≡ entries_of log ++ s.rec.entries
@@ -96,11 +96,11 @@ head-push (r ∷ log) s = ap (λ x. Some (head_from x)) (last r log)
     last r [] = refl
     last r (x ∷ log) = last x log
 
-pub agrees-push : (kind : Kind) (accepts : Accepts) (head : Option Head) (k : Known) (log : List Signed) (s : Signed) → head ≡ head_of log → Agrees kind k (entries_of log)
-    → known_entries_fault kind s.key_id (not (is_some head)) k s.rec.entries ≡ None → Agrees kind (known_steps kind k s.rec.entries) (entries_of (log ++ s ∷ []))
+pub agrees-push : (kind : Kind) (accepts : Accepts) (head : Option Head) (k : PlainFacts) (log : List Signed) (s : Signed) → head ≡ head_of log → Agrees kind k (entries_of log)
+    → known_entries_breach kind s.key_id (not (is_some head)) k s.rec.entries ≡ None → Agrees kind (known_steps kind k s.rec.entries) (entries_of (log ++ s ∷ []))
 agrees-push kind accepts head k log s is a ok =
     subst (Agrees kind (known_steps kind k s.rec.entries)) (sym (entries-push log s))
-    (steps-agree kind k (entries_of log) a s.key_id (not (is_some head)) s.rec.entries (sym (faults-agree kind k (entries_of log) a s.key_id (not (is_some head)) s.rec.entries) ∙ ok))
+    (steps-agree kind k (entries_of log) a s.key_id (not (is_some head)) s.rec.entries (sym (breaches-agree kind k (entries_of log) a s.key_id (not (is_some head)) s.rec.entries) ∙ ok))
 
 -- ---- lawful lists
 
@@ -130,31 +130,31 @@ cut (y ∷ xs) x (b ∷ before) t after e = elim (cut xs x before t after (ap re
   | inr later ↦ inr (later.0, ap (λ z. z ∷ xs) (ap (first_or y) e) ∙ ap (λ zs. b ∷ zs) later.1)
 ]
 
-pub lawful-push : (kind : Kind) (accepts : Accepts) (log : List Signed) (s : Signed) → IsLawful kind accepts log → fault_of kind accepts log s ≡ None → IsLawful kind accepts (log ++ s ∷ [])
+pub lawful-push : (kind : Kind) (accepts : Accepts) (log : List Signed) (s : Signed) → IsLawful kind accepts log → breach_of kind accepts log s ≡ None → IsLawful kind accepts (log ++ s ∷ [])
 lawful-push kind accepts log s lawful ok before after t e = elim (cut log s before t after e) [
-  | inl here ↦ sym (ap (λ l. fault_of kind accepts l t) here.0) ∙ sym (ap (fault_of kind accepts log) here.1) ∙ ok
+  | inl here ↦ sym (ap (λ l. breach_of kind accepts l t) here.0) ∙ sym (ap (breach_of kind accepts log) here.1) ∙ ok
   | inr later ↦ lawful before later.0 t later.1
 ]
 
-none_some : {f : Fault} → None ≡ Some f → ⊥
+none_some : {f : Breach} → None ≡ Some f → ⊥
 none_some e = cc
 
--- an error that is no fault is want of memory
-pub no_fault : (e : ValidationError) → IsFault e None → wants_memory e ≡ true
-no_fault (error.ProtocolVersion version) h = absurd (none_some h)
-no_fault (error.PreviousRecord expected found) h = absurd (none_some h)
-no_fault (error.TimeLower head time) h = absurd (none_some h)
-no_fault error.FirstEntryNotInit h = absurd (none_some h)
-no_fault (error.UnknownKey key_id) h = absurd (none_some h)
-no_fault (error.BadSignature key_id) h = absurd (none_some h)
-no_fault error.InitAgain h = absurd (none_some h)
-no_fault (error.HashAlgorithm found) h = absurd (none_some h)
-no_fault (error.Unpermitted key_id permission) h = absurd (none_some h)
-no_fault (error.ReleaseAgain version) h = absurd (none_some h)
-no_fault (error.YankUnreleased version) h = absurd (none_some h)
-no_fault (error.YankYanked version) h = absurd (none_some h)
-no_fault (error.NamespaceTaken namespace) h = absurd (none_some h)
-no_fault error.Memory h = refl
+-- an error that is no breach is want of memory
+pub no_breach : (e : ValidationError) → IsBreach e None → wants_memory e ≡ true
+no_breach (error.ProtocolVersion version) h = absurd (none_some h)
+no_breach (error.PreviousRecord expected found) h = absurd (none_some h)
+no_breach (error.TimeLower head time) h = absurd (none_some h)
+no_breach error.FirstEntryNotInit h = absurd (none_some h)
+no_breach (error.UnknownKey key_id) h = absurd (none_some h)
+no_breach (error.BadSignature key_id) h = absurd (none_some h)
+no_breach error.InitAgain h = absurd (none_some h)
+no_breach (error.HashAlgorithm found) h = absurd (none_some h)
+no_breach (error.Unpermitted key_id permission) h = absurd (none_some h)
+no_breach (error.ReleaseAgain version) h = absurd (none_some h)
+no_breach (error.YankUnreleased version) h = absurd (none_some h)
+no_breach (error.YankYanked version) h = absurd (none_some h)
+no_breach (error.NamespaceTaken namespace) h = absurd (none_some h)
+no_breach error.Memory h = refl
 
 -- ---- where a call answers Ok
 

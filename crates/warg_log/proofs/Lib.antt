@@ -2,7 +2,7 @@ pub mod KeyMaps
 pub mod VersionKeys
 pub mod ReleaseLaws
 pub mod PlacedLaws
-pub mod KnownLaws
+pub mod FactsLaws
 pub mod PermissionLaws
 pub mod AgreesLaws
 pub mod FollowsLaws

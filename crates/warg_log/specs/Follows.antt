@@ -6,7 +6,7 @@ use Rattle.warg_record.specs.Record.{Kind, PlainEntry}
 use Rattle.warg_record.specs.View.{record_view}
 use Rattle.warg_log.specs.declared.state.LogState.{LogState}
 use Rattle.warg_log.specs.Agrees.{Agrees}
-use Rattle.warg_log.specs.Known.{known_by}
+use Rattle.warg_log.specs.Facts.{known_by}
 use Rattle.warg_log.specs.Rules.{Signed, head_of, entries_of}
 
 -- what the rules see of an envelope

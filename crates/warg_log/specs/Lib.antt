@@ -5,8 +5,8 @@ pub mod Permissions
 pub mod Keys
 pub mod Places
 pub mod Namespaces
-pub mod Known
-pub mod Faults
+pub mod Facts
+pub mod Breaches
 pub mod Agrees
 pub mod Follows
 pub mod Choice

@@ -1,4 +1,4 @@
--- The rules of a log, in order: the first that fails names the fault, with the values that differ.
+-- The rules of a log, in order: the first that fails names the breach, with the values that differ.
 use Rattle.std.specs.Prelude.{ℕ, ◌==◌, ◌&&◌, ◌||◌, nat_lt, not, Bool, true, false, if◌then◌else◌, List, [], ◌∷◌, ◌++◌, bytes_eq, codes, is_some, Option, Some, None, option_map, option_and_then}
 use Rattle.std.specs.Option.{option_eq, option_or}
 use Rattle.std.specs.List.{flat_map}
@@ -29,24 +29,24 @@ head_of [] = None
 head_of (s ∷ log) = Some (head_from (last_or s log))
 
 -- what is wrong with a record, with the values that differ
-pub data Fault : Type 0 where
-  ProtocolVersion : ℕ → Fault
-  PreviousRecord : Option (List ℕ) → Option (List ℕ) → Fault
-  TimeLower : Moment → Moment → Fault
-  FirstEntryNotInit : Fault
-  UnknownKey : List ℕ → Fault
-  BadSignature : List ℕ → Fault
-  InitAgain : Fault
-  HashAlgorithm : List ℕ → Fault
-  Unpermitted : List ℕ → List ℕ → Fault
-  ReleaseAgain : Parts → Fault
-  YankUnreleased : Parts → Fault
-  YankYanked : Parts → Fault
-  NamespaceTaken : List ℕ → Fault
+pub data Breach : Type 0 where
+  ProtocolVersion : ℕ → Breach
+  PreviousRecord : Option (List ℕ) → Option (List ℕ) → Breach
+  TimeLower : Moment → Moment → Breach
+  FirstEntryNotInit : Breach
+  UnknownKey : List ℕ → Breach
+  BadSignature : List ℕ → Breach
+  InitAgain : Breach
+  HashAlgorithm : List ℕ → Breach
+  Unpermitted : List ℕ → List ℕ → Breach
+  ReleaseAgain : Parts → Breach
+  YankUnreleased : Parts → Breach
+  YankYanked : Parts → Breach
+  NamespaceTaken : List ℕ → Breach
 
--- a rule: the fault where it is broken, else what the next rules find
-abbrev pub broken : Bool → Fault → Option Fault → Option Fault
-broken b fault next = if b then Some fault else next
+-- a rule: the breach where it is broken, else what the next rules find
+abbrev pub broken : Bool → Breach → Option Breach → Option Breach
+broken b breach next = if b then Some breach else next
 
 -- ---- the record
 
@@ -100,56 +100,56 @@ abbrev pub any_signature : Accepts
 any_signature key text signature = true
 
 -- the signature's rule
-abbrev pub signature_fault : Kind → Accepts → Signed → Option (List ℕ) → Option Fault
-signature_fault kind accepts s None = Some (UnknownKey s.key_id)
-signature_fault kind accepts s (Some key) = broken (not (accepts key (signed_text kind s.contents) s.signature)) (BadSignature s.key_id) None
+abbrev pub signature_breach : Kind → Accepts → Signed → Option (List ℕ) → Option Breach
+signature_breach kind accepts s None = Some (UnknownKey s.key_id)
+signature_breach kind accepts s (Some key) = broken (not (accepts key (signed_text kind s.contents) s.signature)) (BadSignature s.key_id) None
 
 -- the rules of the record against the head, then others
-abbrev pub head_rules : Option Head → Signed → Option Fault → Option Fault
+abbrev pub head_rules : Option Head → Signed → Option Breach → Option Breach
 head_rules head s next =
     broken (not (s.rec.version == 0)) (ProtocolVersion s.rec.version)
     (broken (not (option_eq bytes_eq (head_id head) s.rec.prev)) (PreviousRecord (head_id head) s.rec.prev)
     (broken (is_earlier s.rec.time head) (TimeLower (head_time s.rec.time head) s.rec.time) next))
 
 -- the rules of the record itself, by the head, whether Init is lacking, and the signer's key
-abbrev pub record_rules : Kind → Accepts → Option Head → Bool → Option (List ℕ) → Signed → Option Fault
-record_rules kind accepts head lacks signer s = head_rules head s (broken lacks FirstEntryNotInit (signature_fault kind accepts s signer))
+abbrev pub record_rules : Kind → Accepts → Option Head → Bool → Option (List ℕ) → Signed → Option Breach
+record_rules kind accepts head lacks signer s = head_rules head s (broken lacks FirstEntryNotInit (signature_breach kind accepts s signer))
 
-abbrev pub record_fault : Kind → Accepts → List Signed → Signed → Option Fault
-record_fault kind accepts log s = record_rules kind accepts (head_of log) (lacks_init log s) (signer_key log s) s
+abbrev pub record_breach : Kind → Accepts → List Signed → Signed → Option Breach
+record_breach kind accepts log s = record_rules kind accepts (head_of log) (lacks_init log s) (signer_key log s) s
 
 -- ---- each entry, after the entries before it
 
 -- the permission that is asked of the signer
-abbrev pub unpermitted : Kind → List ℕ → List PlainEntry → List ℕ → Option Fault → Option Fault
+abbrev pub unpermitted : Kind → List ℕ → List PlainEntry → List ℕ → Option Breach → Option Breach
 unpermitted kind signer past permission next = broken (not (holds kind signer permission past)) (Unpermitted signer permission) next
 
 -- each of these permissions, in order
-abbrev pub each_unpermitted : Kind → List ℕ → List PlainEntry → List (List ℕ) → Option Fault
+abbrev pub each_unpermitted : Kind → List ℕ → List PlainEntry → List (List ℕ) → Option Breach
 each_unpermitted kind signer past [] = None
 each_unpermitted kind signer past (permission ∷ permissions) = unpermitted kind signer past permission (each_unpermitted kind signer past permissions)
 
 -- the rules of an entry, which opens the log or does not
-abbrev pub entry_fault : Kind → List ℕ → Bool → List PlainEntry → PlainEntry → Option Fault
-entry_fault kind signer opens past (Init key algorithm) =
+abbrev pub entry_breach : Kind → List ℕ → Bool → List PlainEntry → PlainEntry → Option Breach
+entry_breach kind signer opens past (Init key algorithm) =
     broken (not opens) InitAgain (broken (not (bytes_eq algorithm (codes "sha256"))) (HashAlgorithm algorithm) None)
-entry_fault kind signer opens past (GrantFlat key permissions) = each_unpermitted kind signer past permissions
-entry_fault kind signer opens past (RevokeFlat key_id permissions) = each_unpermitted kind signer past permissions
-entry_fault kind signer opens past (Release version content) =
+entry_breach kind signer opens past (GrantFlat key permissions) = each_unpermitted kind signer past permissions
+entry_breach kind signer opens past (RevokeFlat key_id permissions) = each_unpermitted kind signer past permissions
+entry_breach kind signer opens past (Release version content) =
     unpermitted kind signer past (codes "release") (broken (is_released version past) (ReleaseAgain version) None)
-entry_fault kind signer opens past (Yank version) =
+entry_breach kind signer opens past (Yank version) =
     unpermitted kind signer past (codes "yank")
     (broken (not (is_released version past)) (YankUnreleased version) (broken (is_yanked version past) (YankYanked version) None))
-entry_fault kind signer opens past (DefineNamespace namespace) =
+entry_breach kind signer opens past (DefineNamespace namespace) =
     unpermitted kind signer past (codes "defineNamespace") (broken (is_some (namespace_of namespace past)) (NamespaceTaken namespace) None)
-entry_fault kind signer opens past (ImportNamespace namespace registry) =
+entry_breach kind signer opens past (ImportNamespace namespace registry) =
     unpermitted kind signer past (codes "importNamespace") (broken (is_some (namespace_of namespace past)) (NamespaceTaken namespace) None)
 
 -- the first entry that breaks a rule, each judged after the entries before it
-abbrev pub entries_fault : Kind → List ℕ → Bool → List PlainEntry → List PlainEntry → Option Fault
-entries_fault kind signer opens past [] = None
-entries_fault kind signer opens past (e ∷ entries) =
-    option_or (entry_fault kind signer opens past e) (entries_fault kind signer false (past ++ e ∷ []) entries)
+abbrev pub entries_breach : Kind → List ℕ → Bool → List PlainEntry → List PlainEntry → Option Breach
+entries_breach kind signer opens past [] = None
+entries_breach kind signer opens past (e ∷ entries) =
+    option_or (entry_breach kind signer opens past e) (entries_breach kind signer false (past ++ e ∷ []) entries)
 
 -- whether a record after these is a log's first
 abbrev pub is_first : List Signed → Bool
@@ -157,6 +157,6 @@ is_first [] = true
 is_first (r ∷ log) = false
 
 -- the first rule that a record breaks after these records
-abbrev pub fault_of : Kind → Accepts → List Signed → Signed → Option Fault
-fault_of kind accepts log s =
-    option_or (record_fault kind accepts log s) (entries_fault kind s.key_id (is_first log) (entries_of log) s.rec.entries)
+abbrev pub breach_of : Kind → Accepts → List Signed → Signed → Option Breach
+breach_of kind accepts log s =
+    option_or (record_breach kind accepts log s) (entries_breach kind s.key_id (is_first log) (entries_of log) s.rec.entries)

@@ -11,14 +11,14 @@ use crate::release::Release;
 use semver::{Version, VersionReq};
 use std::cmp::Ordering;
 
-// Whether a version is before another, by precedence and then by build metadata.
+/// Whether a version is before another, by precedence and then by build metadata.
 fn is_before(a: &Version, b: &Version) -> bool
     ensures { result ≡ is_lt (version_cmp (parts_of a.now) (parts_of b.now)) }
 {
     a.cmp(b) == Ordering::Less
 }
 
-// Whether a release is not yanked and meets a requirement.
+/// Whether a release is not yanked and meets a requirement.
 fn is_open(req: &VersionReq, release: &Release) -> bool
     ensures { result ≡ is_candidate (map comparator_view req.now.comparators.items) None None (release_view release.now) }
 {
@@ -28,13 +28,17 @@ fn is_open(req: &VersionReq, release: &Release) -> bool
     req.matches(&release.version)
 }
 
-// The better of a release and the best before it.
+/// The better of a release and the best before it.
 fn better<'a>(
     req: &VersionReq,
     best: Option<&'a Release>,
     release: &'a Release,
 ) -> Option<&'a Release>
-    ensures { (rs : List (Parts × Option (List ℕ))) → IsChosen (map comparator_view req.now.comparators.items) None None rs (option_map release_view (option_copied best.entry)) → IsChosen (map comparator_view req.now.comparators.items) None None (rs ++ release_view release.now ∷ []) (option_map release_view (option_copied result)) }
+    ensures { (rs : List (Parts × Option (List ℕ)))
+        → IsChosen (map comparator_view req.now.comparators.items) None None rs (option_map release_view
+        (option_copied best.entry))
+        → IsChosen (map comparator_view req.now.comparators.items) None None (rs
+        ++ release_view release.now ∷ []) (option_map release_view (option_copied result)) }
 {
     if !is_open(req, release) {
         return best;
@@ -52,8 +56,9 @@ fn better<'a>(
 }
 
 /// The greatest of the releases that are not yanked and meet a requirement.
-pub(crate) fn chosen<'a>(req: &VersionReq, releases: &'a [Release]) -> Option<&'a Release>
-    ensures { IsChosen (map comparator_view req.now.comparators.items) None None (release_views releases.now) (option_map release_view (option_copied result)) }
+pub fn chosen<'a>(req: &VersionReq, releases: &'a [Release]) -> Option<&'a Release>
+    ensures { IsChosen (map comparator_view req.now.comparators.items) None None (release_views releases.now)
+        (option_map release_view (option_copied result)) }
 {
     let mut best = None;
     for release in releases {

@@ -24,7 +24,7 @@ pub enum ValidationError {
         found: Option<RecordId>,
     },
     /// The record's time is before the head's.
-    #[error("the record's time {time:?} is before the head's, {head:?}: publish it with a later time")]
+    #[error("the record's time {time} is before the head's, {head}: publish it with a later time")]
     TimeLower {
         head: Moment,
         time: Moment,
@@ -82,7 +82,7 @@ pub enum ValidationError {
 }
 
 impl ValidationError {
-    ghost use Rattle.warg_log.specs.Faults.{wants_memory};
+    ghost use Rattle.warg_log.specs.Breaches.{wants_memory};
 
     /// Whether no memory was left.
     pub(crate) fn wants_memory(&self) -> bool

@@ -15,9 +15,9 @@ use warg_values::Text;
 /// What is known after the entries of a log: its keys, and its releases or namespaces.
 #[derive(Debug, Drop)]
 pub struct Facts {
-    pub(crate) keys: Keys,
-    pub(crate) releases: Releases,
-    pub(crate) namespaces: Namespaces,
+    pub keys: Keys,
+    pub releases: Releases,
+    pub namespaces: Namespaces,
 }
 
 /// How an entry is taken back.
@@ -40,13 +40,13 @@ impl Facts {
     ghost use Rattle.semver.specs.Identifiers.{parts_of};
     ghost use Rattle.warg_record.specs.Record.{Release, Yank};
     ghost use Rattle.warg_log.specs.Rules.{Unpermitted};
-    ghost use Rattle.warg_log.specs.Faults.{IsFault};
+    ghost use Rattle.warg_log.specs.Breaches.{IsBreach};
     ghost use Rattle.warg_log.specs.Permissions.{set_of};
     ghost use Rattle.warg_log.specs.Namespaces.{namespace_view};
-    ghost use Rattle.warg_log.specs.Known.{known_by, nothing, is_held, each_unheld, known_fault, init_fault, released_in, yanked_in, give, take_from, name_taken, namespace_fault, undone, CanUndo};
+    ghost use Rattle.warg_log.specs.Facts.{known_by, nothing, is_held, each_unheld, known_breach, init_breach, released_in, yanked_in, give, take_from, name_taken, namespace_breach, undone, CanUndo};
 
     /// Nothing is known.
-    pub(crate) fn new(alloc: Global) -> Self
+    pub fn new(alloc: Global) -> Self
         ensures { known_by result ≡ nothing }
     {
         Facts {
@@ -56,14 +56,15 @@ impl Facts {
         }
     }
 
-    // That the key with this id holds a permission.
+    /// That the key with this id holds a permission.
     fn check_permission(
         &self,
         signer: &KeyId,
         permission: &'static str,
     ) -> Result<(), ValidationError>
         ensures ok { OnOk result (is_held (known_by self.now) signer.now permission.now ≡ true) }
-        ensures err { IfErr result (λ e. (is_held (known_by self.now) signer.now permission.now ≡ false) × IsFault e (Some (Unpermitted signer.now permission.now))) }
+        ensures err { IfErr result (λ e. (is_held (known_by self.now) signer.now permission.now ≡ false)
+            × IsBreach e (Some (Unpermitted signer.now permission.now))) }
     {
         if self.keys.holds(signer, permission) {
             Ok(())
@@ -75,14 +76,15 @@ impl Facts {
         }
     }
 
-    // That the key with this id holds each of these permissions.
+    /// That the key with this id holds each of these permissions.
     fn check_permissions<P: LogPermission>(
         &self,
         signer: &KeyId,
         permissions: &[P],
     ) -> Result<(), ValidationError>
         ensures ok { OnOk result (each_unheld signer.now (known_by self.now) (map P.text_of permissions.now) ≡ None) }
-        ensures err { IfErr result (λ e. IsFault e (each_unheld signer.now (known_by self.now) (map P.text_of permissions.now))) }
+        ensures err { IfErr result (λ e. IsBreach e (each_unheld signer.now (known_by self.now)
+            (map P.text_of permissions.now))) }
     {
         for permission in permissions {
             self.check_permission(signer, permission.as_str())?;
@@ -91,7 +93,7 @@ impl Facts {
     }
 
     /// The log's first entry, or an Init that stands elsewhere.
-    pub(crate) fn enter_init(
+    pub fn enter_init(
         &mut self,
         alloc: Global,
         opens: bool,
@@ -99,11 +101,11 @@ impl Facts {
         algorithm: &Text,
         permissions: PermissionSet,
     ) -> Result<Undo, ValidationError>
-        ensures ok { OnOk result (init_fault opens algorithm.now ≡ None) }
+        ensures ok { OnOk result (init_breach opens algorithm.now ≡ None) }
         ensures after { OnOk result (known_by self.new ≡ give key.now permissions (known_by self.old)) }
         ensures undo { IfOk result (λ u. undone u (known_by self.new) ≡ known_by self.old) }
         ensures can { IfOk result (λ u. CanUndo u (known_by self.new)) }
-        ensures err { IfErr result (λ e. IsFault e (init_fault opens algorithm.now)) }
+        ensures err { IfErr result (λ e. IsBreach e (init_breach opens algorithm.now)) }
         ensures same { OnErr result (known_by self.new ≡ known_by self.old) }
     {
         if !opens {
@@ -119,7 +121,7 @@ impl Facts {
     }
 
     /// A key that is given permissions.
-    pub(crate) fn enter_grant<P: LogPermission>(
+    pub fn enter_grant<P: LogPermission>(
         &mut self,
         alloc: Global,
         signer: &KeyId,
@@ -127,10 +129,12 @@ impl Facts {
         permissions: &[P],
     ) -> Result<Undo, ValidationError>
         ensures ok { OnOk result (each_unheld signer.now (known_by self.old) (map P.text_of permissions.now) ≡ None) }
-        ensures after { OnOk result (known_by self.new ≡ give key.now (set_of (map P.text_of permissions.now)) (known_by self.old)) }
+        ensures after { OnOk result (known_by self.new
+            ≡ give key.now (set_of (map P.text_of permissions.now)) (known_by self.old)) }
         ensures undo { IfOk result (λ u. undone u (known_by self.new) ≡ known_by self.old) }
         ensures can { IfOk result (λ u. CanUndo u (known_by self.new)) }
-        ensures err { IfErr result (λ e. IsFault e (each_unheld signer.now (known_by self.old) (map P.text_of permissions.now))) }
+        ensures err { IfErr result (λ e. IsBreach e (each_unheld signer.now (known_by self.old)
+            (map P.text_of permissions.now))) }
         ensures same { OnErr result (known_by self.new ≡ known_by self.old) }
     {
         self.check_permissions(signer, permissions)?;
@@ -139,17 +143,19 @@ impl Facts {
     }
 
     /// A key from which permissions are taken.
-    pub(crate) fn enter_revoke<P: LogPermission>(
+    pub fn enter_revoke<P: LogPermission>(
         &mut self,
         signer: &KeyId,
         key_id: &KeyId,
         permissions: &[P],
     ) -> Result<Undo, ValidationError>
         ensures ok { OnOk result (each_unheld signer.now (known_by self.old) (map P.text_of permissions.now) ≡ None) }
-        ensures after { OnOk result (known_by self.new ≡ take_from key_id.now (set_of (map P.text_of permissions.now)) (known_by self.old)) }
+        ensures after { OnOk result (known_by self.new
+            ≡ take_from key_id.now (set_of (map P.text_of permissions.now)) (known_by self.old)) }
         ensures undo { IfOk result (λ u. undone u (known_by self.new) ≡ known_by self.old) }
         ensures can { IfOk result (λ u. CanUndo u (known_by self.new)) }
-        ensures err { IfErr result (λ e. IsFault e (each_unheld signer.now (known_by self.old) (map P.text_of permissions.now))) }
+        ensures err { IfErr result (λ e. IsBreach e (each_unheld signer.now (known_by self.old)
+            (map P.text_of permissions.now))) }
         ensures same { OnErr result (known_by self.new ≡ known_by self.old) }
     {
         self.check_permissions(signer, permissions)?;
@@ -158,17 +164,20 @@ impl Facts {
     }
 
     /// A version that is released.
-    pub(crate) fn enter_release(
+    pub fn enter_release(
         &mut self,
         signer: &KeyId,
         version: &Version,
         content: &AnyHash,
     ) -> Result<Undo, ValidationError>
-        ensures ok { OnOk result (known_fault signer.now false (known_by self.old) (Release (parts_of version.now) content.now) ≡ None) }
-        ensures after { OnOk result (known_by self.new ≡ released_in (parts_of version.now) content.now (known_by self.old)) }
+        ensures ok { OnOk result (known_breach signer.now false (known_by self.old) (Release
+            (parts_of version.now) content.now) ≡ None) }
+        ensures after { OnOk result (known_by self.new
+            ≡ released_in (parts_of version.now) content.now (known_by self.old)) }
         ensures undo { IfOk result (λ u. undone u (known_by self.new) ≡ known_by self.old) }
         ensures can { IfOk result (λ u. CanUndo u (known_by self.new)) }
-        ensures err { IfErr result (λ e. IsFault e (known_fault signer.now false (known_by self.old) (Release (parts_of version.now) content.now))) }
+        ensures err { IfErr result (λ e. IsBreach e (known_breach signer.now false (known_by self.old) (Release
+            (parts_of version.now) content.now))) }
         ensures same { OnErr result (known_by self.new ≡ known_by self.old) }
     {
         self.check_permission(signer, "release")?;
@@ -182,16 +191,13 @@ impl Facts {
     }
 
     /// A version that is yanked.
-    pub(crate) fn enter_yank(
-        &mut self,
-        signer: &KeyId,
-        version: &Version,
-    ) -> Result<Undo, ValidationError>
-        ensures ok { OnOk result (known_fault signer.now false (known_by self.old) (Yank (parts_of version.now)) ≡ None) }
+    pub fn enter_yank(&mut self, signer: &KeyId, version: &Version) -> Result<Undo, ValidationError>
+        ensures ok { OnOk result (known_breach signer.now false (known_by self.old) (Yank (parts_of version.now)) ≡ None) }
         ensures after { OnOk result (known_by self.new ≡ yanked_in (parts_of version.now) (known_by self.old)) }
         ensures undo { IfOk result (λ u. undone u (known_by self.new) ≡ known_by self.old) }
         ensures can { IfOk result (λ u. CanUndo u (known_by self.new)) }
-        ensures err { IfErr result (λ e. IsFault e (known_fault signer.now false (known_by self.old) (Yank (parts_of version.now)))) }
+        ensures err { IfErr result (λ e. IsBreach e (known_breach signer.now false (known_by self.old) (Yank
+            (parts_of version.now)))) }
         ensures same { OnErr result (known_by self.new ≡ known_by self.old) }
     {
         self.check_permission(signer, "yank")?;
@@ -210,7 +216,7 @@ impl Facts {
     }
 
     /// A namespace that is taken.
-    pub(crate) fn enter_namespace(
+    pub fn enter_namespace(
         &mut self,
         alloc: Global,
         signer: &KeyId,
@@ -218,11 +224,13 @@ impl Facts {
         namespace: &Text,
         state: NamespaceState,
     ) -> Result<Undo, ValidationError>
-        ensures ok { OnOk result (namespace_fault signer.now permission.now (known_by self.old) namespace.now ≡ None) }
-        ensures after { OnOk result (known_by self.new ≡ name_taken namespace.now (namespace_view state) (known_by self.old)) }
+        ensures ok { OnOk result (namespace_breach signer.now permission.now (known_by self.old) namespace.now ≡ None) }
+        ensures after { OnOk result (known_by self.new
+            ≡ name_taken namespace.now (namespace_view state) (known_by self.old)) }
         ensures undo { IfOk result (λ u. undone u (known_by self.new) ≡ known_by self.old) }
         ensures can { IfOk result (λ u. CanUndo u (known_by self.new)) }
-        ensures err { IfErr result (λ e. IsFault e (namespace_fault signer.now permission.now (known_by self.old) namespace.now)) }
+        ensures err { IfErr result (λ e. IsBreach e (namespace_breach signer.now permission.now
+            (known_by self.old) namespace.now)) }
         ensures same { OnErr result (known_by self.new ≡ known_by self.old) }
     {
         self.check_permission(signer, permission)?;
@@ -237,7 +245,7 @@ impl Facts {
     }
 
     /// Takes an entry back.
-    pub(crate) fn undo(&mut self, undo: &Undo)
+    pub fn undo(&mut self, undo: &Undo)
         requires { CanUndo undo.now (known_by self.old) }
         ensures { known_by self.new ≡ undone undo.now (known_by self.old) }
     {

@@ -2,8 +2,8 @@
 
 ghost use Rattle.std.specs.Prelude.{◌≡◌, ◌∷◌, [], Some, None, IfOk, IfErr, OnOk, OnErr, map, option_copied};
 ghost use Rattle.warg_log.specs.Rules.{opening_key, signature_prefix};
-ghost use Rattle.warg_log.specs.Faults.{IsFault};
-ghost use Rattle.warg_log.specs.Known.{known_by, known_fault, known_step, known_entries_fault, known_steps, undone, undone_all, CanUndo, CanUndoAll};
+ghost use Rattle.warg_log.specs.Breaches.{IsBreach};
+ghost use Rattle.warg_log.specs.Facts.{known_by, known_breach, known_step, known_entries_breach, known_steps, undone, undone_all, CanUndo, CanUndoAll};
 
 use crate::error::ValidationError;
 use crate::facts::{Facts, Undo};
@@ -31,11 +31,13 @@ pub trait JudgedEntry: LogEntry {
         signer: &KeyId,
         opens: bool,
     ) -> Result<Undo, ValidationError>
-        ensures ok { OnOk result (known_fault signer.now opens (known_by facts.old) (Self.plain self.now) ≡ None) }
-        ensures after { OnOk result (known_by facts.new ≡ known_step Self.kind (known_by facts.old) (Self.plain self.now)) }
+        ensures ok { OnOk result (known_breach signer.now opens (known_by facts.old) (Self.plain self.now) ≡ None) }
+        ensures after { OnOk result (known_by facts.new
+            ≡ known_step Self.kind (known_by facts.old) (Self.plain self.now)) }
         ensures undo { IfOk result (λ u. undone u (known_by facts.new) ≡ known_by facts.old) }
         ensures can { IfOk result (λ u. CanUndo u (known_by facts.new)) }
-        ensures err { IfErr result (λ e. IsFault e (known_fault signer.now opens (known_by facts.old) (Self.plain self.now))) }
+        ensures err { IfErr result (λ e. IsBreach e (known_breach signer.now opens (known_by facts.old)
+            (Self.plain self.now))) }
         ensures same { OnErr result (known_by facts.new ≡ known_by facts.old) };
 }
 
@@ -134,7 +136,7 @@ impl JudgedEntry for OperatorEntry {
     }
 }
 
-// Takes entries back, the last first.
+/// Takes entries back, the last first.
 fn undo_all(facts: &mut Facts, undos: &mut Vec<Undo>)
     requires { CanUndoAll undos.old.items (known_by facts.old) }
     ensures { known_by facts.new ≡ undone_all undos.old.items (known_by facts.old) }
@@ -144,7 +146,7 @@ fn undo_all(facts: &mut Facts, undos: &mut Vec<Undo>)
     }
 }
 
-// Enters entries in order, and notes how each is taken back.
+/// Enters entries in order, and notes how each is taken back.
 fn enter_each<E: JudgedEntry>(
     alloc: Global,
     facts: &mut Facts,
@@ -154,9 +156,11 @@ fn enter_each<E: JudgedEntry>(
     undos: &mut Vec<Undo>,
 ) -> Result<(), ValidationError>
     requires { CanUndoAll undos.old.items (known_by facts.old) }
-    ensures ok { OnOk result (known_entries_fault E.kind signer.now opens (known_by facts.old) (map E.plain entries.now) ≡ None) }
+    ensures ok { OnOk result (known_entries_breach E.kind signer.now opens (known_by facts.old) (map E.plain entries.now)
+        ≡ None) }
     ensures after { OnOk result (known_by facts.new ≡ known_steps E.kind (known_by facts.old) (map E.plain entries.now)) }
-    ensures err { IfErr result (λ e. IsFault e (known_entries_fault E.kind signer.now opens (known_by facts.old) (map E.plain entries.now))) }
+    ensures err { IfErr result (λ e. IsBreach e (known_entries_breach E.kind signer.now opens (known_by facts.old)
+        (map E.plain entries.now))) }
     ensures undo { undone_all undos.new.items (known_by facts.new) ≡ undone_all undos.old.items (known_by facts.old) }
     ensures can { CanUndoAll undos.new.items (known_by facts.new) }
 {
@@ -172,18 +176,19 @@ fn enter_each<E: JudgedEntry>(
     Ok(())
 }
 
-/// Enters the entries of a record, each judged after the entries before it. Where one breaks a rule, none
-/// is entered.
-pub(crate) fn enter_all<E: JudgedEntry>(
+/// Enters the entries of a record, each judged after the entries before it. Where one breaks a rule, none is entered.
+pub fn enter_all<E: JudgedEntry>(
     alloc: Global,
     facts: &mut Facts,
     signer: &KeyId,
     opens: bool,
     entries: &[E],
 ) -> Result<(), ValidationError>
-    ensures ok { OnOk result (known_entries_fault E.kind signer.now opens (known_by facts.old) (map E.plain entries.now) ≡ None) }
+    ensures ok { OnOk result (known_entries_breach E.kind signer.now opens (known_by facts.old) (map E.plain entries.now)
+        ≡ None) }
     ensures after { OnOk result (known_by facts.new ≡ known_steps E.kind (known_by facts.old) (map E.plain entries.now)) }
-    ensures err { IfErr result (λ e. IsFault e (known_entries_fault E.kind signer.now opens (known_by facts.old) (map E.plain entries.now))) }
+    ensures err { IfErr result (λ e. IsBreach e (known_entries_breach E.kind signer.now opens (known_by facts.old)
+        (map E.plain entries.now))) }
     ensures same { OnErr result (known_by facts.new ≡ known_by facts.old) }
 {
     let mut undos = Vec::new(alloc);

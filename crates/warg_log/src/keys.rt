@@ -15,20 +15,20 @@ use warg_values::Memory;
 
 /// A key, and the permissions that it holds.
 #[derive(Debug, Drop)]
-pub(crate) struct KeyFacts {
-    pub(crate) key: PublicKey,
-    pub(crate) permissions: PermissionSet,
+pub struct KeyFacts {
+    pub key: PublicKey,
+    pub permissions: PermissionSet,
 }
 
 /// The keys of a log, by their ids.
 #[derive(Debug, Drop)]
-pub(crate) struct Keys {
-    pub(crate) map: BTreeMap<KeyId, KeyFacts>,
+pub struct Keys {
+    pub map: BTreeMap<KeyId, KeyFacts>,
 }
 
 impl Keys {
     /// No keys.
-    pub(crate) fn new(alloc: Global) -> Self
+    pub fn new(alloc: Global) -> Self
         ensures { (id : List ℕ) → known result id ≡ None }
     {
         Keys {
@@ -37,15 +37,16 @@ impl Keys {
     }
 
     /// What is known of the key with this id.
-    pub(crate) fn get(&self, id: &KeyId) -> Option<&KeyFacts>
+    pub fn get(&self, id: &KeyId) -> Option<&KeyFacts>
         ensures { option_copied result ≡ known self.now id.now }
     {
         self.map.get(id)
     }
 
     /// Whether the key with this id holds a permission.
-    pub(crate) fn holds(&self, id: &KeyId, permission: &str) -> bool
-        ensures { result ≡ option_map_or (λ f. has_permission f.permissions permission.now) (known self.now id.now) false }
+    pub fn holds(&self, id: &KeyId, permission: &str) -> bool
+        ensures { result ≡ option_map_or (λ f. has_permission f.permissions permission.now)
+            (known self.now id.now) false }
     {
         match self.map.get(id) {
             Some(facts) => facts.permissions.contains(permission),
@@ -53,15 +54,18 @@ impl Keys {
         }
     }
 
-    /// Puts a key in with these permissions, or gives them to it where it is known. Answers the
-    /// permissions that it held before, if it was known.
-    pub(crate) fn give(
+    /// Puts a key in with these permissions, or gives them to it where it is known. Answers the permissions that it
+    /// held before, if it was known.
+    pub fn give(
         &mut self,
         alloc: Global,
         key: &PublicKey,
         gained: PermissionSet,
     ) -> Result<Option<PermissionSet>, Memory>
-        ensures ok { IfOk result (λ old. (id : List ℕ) → known self.new id ≡ (if bytes_eq (sha256 key.now) id then Some (given (known self.old id) key.now gained) else known self.old id)) }
+        ensures ok { IfOk result (λ old. (id : List ℕ)
+            → known self.new id
+            ≡ (if bytes_eq (sha256 key.now) id then Some (given (known self.old id) key.now gained)
+            else known self.old id)) }
         ensures was { IfOk result (λ old. old ≡ option_map (λ f. f.permissions) (known self.old (sha256 key.now))) }
         ensures err { OnErr result ((id : List ℕ) → known self.new id ≡ known self.old id) }
     {
@@ -80,8 +84,9 @@ impl Keys {
     }
 
     /// Takes permissions from the key with this id, where it is known. Answers those that it held before.
-    pub(crate) fn take(&mut self, id: &KeyId, lost: PermissionSet) -> Option<PermissionSet>
-        ensures after { (q : List ℕ) → known self.new q ≡ (if bytes_eq id.now q then taken (known self.old q) lost else known self.old q) }
+    pub fn take(&mut self, id: &KeyId, lost: PermissionSet) -> Option<PermissionSet>
+        ensures after { (q : List ℕ)
+            → known self.new q ≡ (if bytes_eq id.now q then taken (known self.old q) lost else known self.old q) }
         ensures was { result ≡ option_map (λ f. f.permissions) (known self.old id.now) }
     {
         let facts = self.map.get_mut(id)?;
@@ -91,8 +96,9 @@ impl Keys {
     }
 
     /// Gives the key with this id the permissions that it held before, or forgets a key that was not known.
-    pub(crate) fn restore(&mut self, id: &KeyId, held: Option<PermissionSet>)
-        ensures { (q : List ℕ) → known self.new q ≡ (if bytes_eq id.now q then restored (known self.old q) held else known self.old q) }
+    pub fn restore(&mut self, id: &KeyId, held: Option<PermissionSet>)
+        ensures { (q : List ℕ)
+            → known self.new q ≡ (if bytes_eq id.now q then restored (known self.old q) held else known self.old q) }
     {
         match held {
             Some(permissions) => {

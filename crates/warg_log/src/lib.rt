@@ -30,10 +30,8 @@ pub use release::Release;
 pub use signer::{SignError, Signer};
 pub use state::LogState;
 pub use verifier::Verifier;
-pub use warg_hash::{AnyHash, KeyId, LogId, NameError, PackageName, RecordId};
+pub use warg_hash::{AnyHash, KeyId, RecordId};
 pub use warg_record::{
-    Envelope, EnvelopeError, OperatorRecord, PackageRecord, PublicKey, Record, Signature,
+    Envelope, LogEntry, OperatorEntry, OperatorRecord, PackageEntry, PackageRecord, PublicKey,
+    Record, Signature,
 };
-
-#[cfg(test)]
-mod tests;

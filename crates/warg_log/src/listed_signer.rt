@@ -56,16 +56,24 @@ impl ListedSigner {
 
     /// Has the call of this number fail, counted from 1 over all calls of `sign`. A refusal changes nothing.
     pub fn fail_at(&mut self, call: u64) -> Result<(), Memory>
-        ensures listed { OnOk result (self.new ≡ record self.old { schedule = record self.old.schedule { failing = self.old.schedule.failing ++ call ∷ [] } }) }
+        ensures listed { OnOk result (self.new
+            ≡ record self.old {
+              schedule = record self.old.schedule {
+                failing = self.old.schedule.failing
+                    ++ call ∷ [];
+              };
+            }) }
         ensures unchanged { OnErr result (self.new ≡ self.old) }
     {
         self.schedule.fail_at(call)
     }
 
-    // A signature that is listed for a digest.
+    /// A signature that is listed for a digest.
     fn signature_of(&self, digest: &AnyHash) -> Option<&Signature>
-        ensures found { IfSome result (λ signature. list_any (is_signature_of digest.now signature.now) self.now.listed ≡ true) }
-        ensures none { IfNone result ((signature : List ℕ) → list_any (is_signature_of digest.now signature) self.now.listed ≡ false) }
+        ensures found { IfSome result (λ signature. list_any (is_signature_of digest.now signature.now) self.now.listed
+            ≡ true) }
+        ensures none { IfNone result ((signature : List ℕ)
+            → list_any (is_signature_of digest.now signature) self.now.listed ≡ false) }
     {
         match self.listed.binary_search_by_key(digest, |listed| listed.0) {
             Ok(place) => Some(&self.listed[place].1),
@@ -91,15 +99,16 @@ impl Signer for ListedSigner {
         &self.key
     }
 
-    /// The signature that is listed for the SHA-256 of `text`. A call that is to fail, and one with
-    /// another text, is `Failed`.
+    /// The signature that is listed for the SHA-256 of `text`. A call that is to fail, and one with another text, is
+    /// `Failed`.
     fn sign(&mut self, alloc: Global, text: &[u8]) -> Result<Signature, SignError>
         ensures never_falls { self.old.faults ≤ self.new.faults }
         ensures key { self.new.key ≡ self.old.key }
         ensures listed { self.new.listed ≡ self.old.listed }
 
         ensures signed { IfOk result (λ signature. is_signature_listed self.old.listed text.now signature ≡ true) }
-        ensures failed { IsErrOf result SignError.Failed ↔ (IsDue self.old.schedule ⊎ IsUnlisted self.old.listed text.now) }
+        ensures failed { IsErrOf result SignError.Failed
+            ↔ (IsDue self.old.schedule ⊎ IsUnlisted self.old.listed text.now) }
         ensures counted { IsErrOf result SignError.Failed → Rose self.old.faults self.new.faults }
         ensures calls { self.new.schedule.calls ≡ one_more self.old.schedule.calls }
         ensures failing { self.new.schedule.failing ≡ self.old.schedule.failing }

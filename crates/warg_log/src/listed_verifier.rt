@@ -30,7 +30,7 @@ impl Model for ListedVerifier {
     ghost invariant = { λ v. IsSorted listed_cmp v.listed.items };
 }
 
-// How an entry of the list compares with a key, a digest and a signature.
+/// How an entry of the list compares with a key, a digest and a signature.
 fn compare(
     listed: &(PublicKey, AnyHash, Signature),
     key: &PublicKey,

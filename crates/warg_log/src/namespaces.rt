@@ -21,13 +21,13 @@ pub enum NamespaceState {
 
 /// The namespaces of a registry, by their names.
 #[derive(Debug, Drop)]
-pub(crate) struct Namespaces {
-    pub(crate) map: BTreeMap<String, NamespaceState>,
+pub struct Namespaces {
+    pub map: BTreeMap<String, NamespaceState>,
 }
 
 impl Namespaces {
     /// No namespaces.
-    pub(crate) fn new(alloc: Global) -> Self
+    pub fn new(alloc: Global) -> Self
         ensures { (n : List ℕ) → space result n ≡ None }
     {
         Namespaces {
@@ -36,20 +36,21 @@ impl Namespaces {
     }
 
     /// What is known of a namespace.
-    pub(crate) fn get(&self, namespace: &str) -> Option<&NamespaceState>
+    pub fn get(&self, namespace: &str) -> Option<&NamespaceState>
         ensures { option_map namespace_view (option_copied result) ≡ space self.now namespace.now }
     {
         self.map.get(namespace)
     }
 
     /// Puts a namespace in.
-    pub(crate) fn insert(
+    pub fn insert(
         &mut self,
         alloc: Global,
         namespace: &str,
         state: NamespaceState,
     ) -> Result<(), Memory>
-        ensures ok { OnOk result ((n : List ℕ) → space self.new n ≡ (if bytes_eq namespace.now n then Some (namespace_view state) else space self.old n)) }
+        ensures ok { OnOk result ((n : List ℕ)
+            → space self.new n ≡ (if bytes_eq namespace.now n then Some (namespace_view state) else space self.old n)) }
         ensures err { OnErr result ((n : List ℕ) → space self.new n ≡ space self.old n) }
     {
         let name = String::from_str(alloc, namespace)?;
@@ -58,7 +59,7 @@ impl Namespaces {
     }
 
     /// Takes a namespace out.
-    pub(crate) fn remove(&mut self, namespace: &str)
+    pub fn remove(&mut self, namespace: &str)
         ensures { (n : List ℕ) → space self.new n ≡ (if bytes_eq namespace.now n then None else space self.old n) }
     {
         self.map.remove(namespace);

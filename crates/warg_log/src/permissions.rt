@@ -17,7 +17,7 @@ pub struct PermissionSet {
 }
 
 impl PermissionSet {
-    // The permission with this text alone.
+    /// The permission with this text alone.
     fn only(permission: &str) -> Self
         ensures { result ≡ only permission.now }
     {
@@ -31,7 +31,7 @@ impl PermissionSet {
     }
 
     /// These permissions.
-    pub(crate) fn of<P: LogPermission>(permissions: &[P]) -> Self
+    pub fn of<P: LogPermission>(permissions: &[P]) -> Self
         ensures { result ≡ set_of (map P.text_of permissions.now) }
     {
         let mut set = PermissionSet {
@@ -48,7 +48,7 @@ impl PermissionSet {
     }
 
     /// All permissions of packages' logs.
-    pub(crate) fn all_of_package() -> Self
+    pub fn all_of_package() -> Self
         ensures { result ≡ all_of Package }
     {
         PermissionSet {
@@ -61,7 +61,7 @@ impl PermissionSet {
     }
 
     /// All permissions of operators' logs.
-    pub(crate) fn all_of_operator() -> Self
+    pub fn all_of_operator() -> Self
         ensures { result ≡ all_of Operator }
     {
         PermissionSet {
@@ -74,7 +74,7 @@ impl PermissionSet {
     }
 
     /// Whether the permission with this text is in the set.
-    pub(crate) fn contains(self, permission: &str) -> bool
+    pub fn contains(self, permission: &str) -> bool
         ensures { result ≡ has_permission self permission.now }
     {
         match permission {
@@ -88,7 +88,7 @@ impl PermissionSet {
     }
 
     /// The permissions of both sets.
-    pub(crate) fn union(self, other: PermissionSet) -> Self
+    pub fn union(self, other: PermissionSet) -> Self
         ensures { result ≡ union self other }
     {
         PermissionSet {
@@ -101,7 +101,7 @@ impl PermissionSet {
     }
 
     /// The permissions that the other set has not.
-    pub(crate) fn without(self, other: PermissionSet) -> Self
+    pub fn without(self, other: PermissionSet) -> Self
         ensures { result ≡ without self other }
     {
         PermissionSet {

@@ -17,7 +17,7 @@ pub struct Release {
 }
 
 /// A version of its own, equal to this one.
-pub(crate) fn copy_of(version: &Version) -> Result<Version, AllocError>
+pub fn copy_of(version: &Version) -> Result<Version, AllocError>
     ensures { IfOk result (λ copy. parts_of copy ≡ parts_of version.now) }
 {
     version.clone()

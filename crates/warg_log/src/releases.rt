@@ -14,7 +14,7 @@ use warg_hash::AnyHash;
 
 /// The releases of a log, none of a version twice.
 #[derive(Debug, Drop)]
-pub(crate) struct Releases {
+pub struct Releases {
     items: Vec<Release>,
     places: BTreeMap<Version, usize>,
 }
@@ -34,7 +34,7 @@ impl Model for Releases {
 
 impl Releases {
     /// No releases.
-    pub(crate) fn new(alloc: Global) -> Self
+    pub fn new(alloc: Global) -> Self
         ensures { result ≡ [] }
     {
         Releases {
@@ -44,15 +44,16 @@ impl Releases {
     }
 
     /// The releases, in order.
-    pub(crate) fn as_slice(&self) -> &[Release]
+    pub fn as_slice(&self) -> &[Release]
         ensures { release_views result.now ≡ self.now }
     {
         self.items.as_slice()
     }
 
     /// The release of a version.
-    pub(crate) fn get(&self, version: &Version) -> Option<&Release>
-        ensures { option_map release_view (option_copied result) ≡ find (λ r. same_version (parts_of version.now) r.0) self.now }
+    pub fn get(&self, version: &Version) -> Option<&Release>
+        ensures { option_map release_view (option_copied result)
+            ≡ find (λ r. same_version (parts_of version.now) r.0) self.now }
     {
         match self.place(version) {
             Some(place) => Some(&self.as_slice()[place]),
@@ -61,14 +62,14 @@ impl Releases {
     }
 
     /// The place of a version.
-    pub(crate) fn place(&self, version: &Version) -> Option<usize>
+    pub fn place(&self, version: &Version) -> Option<usize>
         ensures { result ≡ place_of (parts_of version.now) (versions_of self.now) }
     {
         self.places.get(version).copied()
     }
 
     /// The content of the release at a place, which a yanked one has not.
-    pub(crate) fn content(&self, place: usize) -> Option<AnyHash>
+    pub fn content(&self, place: usize) -> Option<AnyHash>
         requires { place < length self.now }
         ensures { result ≡ content_at self.now place }
     {
@@ -76,7 +77,7 @@ impl Releases {
     }
 
     /// Adds a version that was not released.
-    pub(crate) fn push(&mut self, version: &Version, content: AnyHash) -> Result<(), AllocError>
+    pub fn push(&mut self, version: &Version, content: AnyHash) -> Result<(), AllocError>
         requires { place_of (parts_of version.now) (versions_of self.old) ≡ None }
         ensures ok { OnOk result (self.new ≡ self.old ++ (parts_of version.now, Some content) ∷ []) }
         ensures err { OnErr result (self.new ≡ self.old) }
@@ -96,7 +97,7 @@ impl Releases {
     }
 
     /// Takes the last release away.
-    pub(crate) fn pop(&mut self)
+    pub fn pop(&mut self)
         ensures { self.new ≡ without_last self.old }
     {
         if let Some(release) = self.items.pop() {
@@ -105,7 +106,7 @@ impl Releases {
     }
 
     /// Puts the content of the release at a place, or takes it away.
-    pub(crate) fn set_content(&mut self, place: usize, content: Option<AnyHash>)
+    pub fn set_content(&mut self, place: usize, content: Option<AnyHash>)
         requires { place < length self.old }
         ensures { self.new ≡ with_content self.old place content }
     {

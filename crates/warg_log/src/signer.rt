@@ -37,8 +37,8 @@ impl From<Memory> for SignError {
 
 /// Signs texts with one key, as a keyring or a device does.
 ///
-/// An implementation over a list of signatures tells which it gives. One over a device tells nothing, and
-/// each has a count of faults, by which a caller knows that the signer failed.
+/// An implementation over a list of signatures tells which it gives. One over a device tells nothing, and each has a
+/// count of faults, by which a caller knows that the signer failed.
 pub trait Signer {
     ghost use Rattle.std.specs.Prelude.{◌≤◌, ℕ, List, Bool, Option, true, false, IfOk, IfSome, IsErrOf};
     ghost use Rattle.warg_values.specs.Faults.{Rose};
@@ -66,7 +66,9 @@ pub trait Signer {
         ensures kept { told self.new ≡ told self.old }
 
         ensures signed { IfOk result (λ signature. IfSome (told self.old) (λ gives. gives text.now signature ≡ true)) }
-        ensures refused { IsErrOf result SignError.Failed → ¬ (is_due self.old) → IfSome (told self.old) (λ gives. (signature : List ℕ) → gives text.now signature ≡ false) }
+        ensures refused { IsErrOf result SignError.Failed
+            → ¬ (is_due self.old)
+            → IfSome (told self.old) (λ gives. (signature : List ℕ) → gives text.now signature ≡ false) }
         ensures due { is_due self.old → IsErrOf result SignError.Failed }
         ensures failed { IsErrOf result SignError.Failed → Rose (faults self.old) (faults self.new) };
 }

@@ -1,10 +1,10 @@
 //! The state of a log.
 
 ghost use Rattle.std.specs.Prelude.{◌≡◌, ◌∷◌, ◌++◌, [], List, Option, Some, None, IfOk, IfErr, OnOk, OnErr, MatchOption, false, map, is_some, not, option_copied, option_map, find};
-ghost use Rattle.warg_log.specs.Rules.{Signed, Accepts, any_signature, signed_text, head_from, fault_of, head_rules, broken, FirstEntryNotInit, signature_fault, Fault, head_of, entries_of};
-ghost use Rattle.warg_log.specs.Faults.{IsFault};
+ghost use Rattle.warg_log.specs.Rules.{Signed, Accepts, any_signature, signed_text, head_from, breach_of, head_rules, broken, FirstEntryNotInit, signature_breach, Breach, head_of, entries_of};
+ghost use Rattle.warg_log.specs.Breaches.{IsBreach};
 ghost use Rattle.warg_log.specs.Lawful.{IsLawful};
-ghost use Rattle.warg_log.specs.Known.{known_by, known_steps, known_entries_fault, lacks_opening, signer_by};
+ghost use Rattle.warg_log.specs.Facts.{known_by, known_steps, known_entries_breach, lacks_opening, signer_by};
 ghost use Rattle.warg_log.specs.Follows.{Follows, signed};
 ghost use Rattle.warg_log.specs.History.{key_with, releases_of, same_version, namespace_of};
 ghost use Rattle.warg_log.specs.Places.{release_view, release_views};
@@ -35,13 +35,14 @@ pub struct LogState<E> {
     entries: PhantomData<E>,
 }
 
-// The rules of a record against the head: its version, the record before it, and its time.
+/// The rules of a record against the head: its version, the record before it, and its time.
 fn check_head<E: JudgedEntry>(
     head: &Option<Head>,
     env: &Envelope<Record<E>>,
 ) -> Result<(), ValidationError>
-    ensures ok { OnOk result ((next : Option Fault) → head_rules head.now (signed E.plain env.now) next ≡ next) }
-    ensures err { IfErr result (λ e. (next : Option Fault) → IsFault e (head_rules head.now (signed E.plain env.now) next)) }
+    ensures ok { OnOk result ((next : Option Breach) → head_rules head.now (signed E.plain env.now) next ≡ next) }
+    ensures err { IfErr result (λ e. (next : Option Breach)
+        → IsBreach e (head_rules head.now (signed E.plain env.now) next)) }
 {
     let rec = &env.rec;
     if rec.version != 0 {
@@ -73,7 +74,7 @@ fn check_head<E: JudgedEntry>(
     Ok(())
 }
 
-// The key that signs a record.
+/// The key that signs a record.
 fn signer_of<'a, E: JudgedEntry>(
     head: &Option<Head>,
     facts: &'a Facts,
@@ -81,7 +82,10 @@ fn signer_of<'a, E: JudgedEntry>(
 ) -> Result<&'a PublicKey, ValidationError>
     ensures lacks { IfOk result (λ key. lacks_opening head.now (signed E.plain env.now) ≡ false) }
     ensures key { IfOk result (λ key. signer_by head.now (known_by facts.now) (signed E.plain env.now) ≡ Some key.now) }
-    ensures err { IfErr result (λ e. (accepts : Accepts) → IsFault e (broken (lacks_opening head.now (signed E.plain env.now)) FirstEntryNotInit (signature_fault E.kind accepts (signed E.plain env.now) (signer_by head.now (known_by facts.now) (signed E.plain env.now))))) }
+    ensures err { IfErr result (λ e. (accepts : Accepts)
+        → IsBreach e (broken (lacks_opening head.now (signed E.plain env.now)) FirstEntryNotInit
+        (signature_breach E.kind accepts (signed E.plain env.now) (signer_by head.now (known_by facts.now)
+        (signed E.plain env.now))))) }
 {
     if head.is_some() {
         let Some(known) = facts.keys.get(&env.key_id) else {
@@ -101,14 +105,15 @@ fn signer_of<'a, E: JudgedEntry>(
     Ok(key)
 }
 
-// Whether the verifier accepts a record's signature as this key's.
+/// Whether the verifier accepts a record's signature as this key's.
 fn is_signed<E: JudgedEntry, V: Verifier>(
     alloc: Global,
     verifier: &V,
     key: &PublicKey,
     env: &Envelope<Record<E>>,
 ) -> Result<bool, Memory>
-    ensures { IfOk result (λ good. good ≡ V.good verifier.now key.now (signed_text E.kind env.now.contents.items) env.now.signature) }
+    ensures { IfOk result (λ good. good
+        ≡ V.good verifier.now key.now (signed_text E.kind env.now.contents.items) env.now.signature) }
 {
     let mut text = Vec::new(alloc);
     text.extend_from_slice(E::signature_prefix().as_bytes())?;
@@ -128,12 +133,15 @@ impl<E: JudgedEntry> LogState<E> {
         }
     }
 
-    // Enters the entries of a record and makes it the head, where its entries obey the rules.
+    /// Enters the entries of a record and makes it the head, where its entries obey the rules.
     fn enter(&mut self, alloc: Global, env: &Envelope<Record<E>>) -> Result<(), ValidationError>
-        ensures ok { OnOk result (known_entries_fault E.kind env.now.key_id (not (is_some self.old.head)) (known_by self.old.facts) (map E.plain env.now.rec.entries.items) ≡ None) }
-        ensures after { OnOk result (known_by self.new.facts ≡ known_steps E.kind (known_by self.old.facts) (map E.plain env.now.rec.entries.items)) }
+        ensures ok { OnOk result (known_entries_breach E.kind env.now.key_id (not (is_some self.old.head))
+            (known_by self.old.facts) (map E.plain env.now.rec.entries.items) ≡ None) }
+        ensures after { OnOk result (known_by self.new.facts
+            ≡ known_steps E.kind (known_by self.old.facts) (map E.plain env.now.rec.entries.items)) }
         ensures head { OnOk result (self.new.head ≡ Some (head_from (signed E.plain env.now))) }
-        ensures err { IfErr result (λ e. IsFault e (known_entries_fault E.kind env.now.key_id (not (is_some self.old.head)) (known_by self.old.facts) (map E.plain env.now.rec.entries.items))) }
+        ensures err { IfErr result (λ e. IsBreach e (known_entries_breach E.kind env.now.key_id (not
+            (is_some self.old.head)) (known_by self.old.facts) (map E.plain env.now.rec.entries.items))) }
         ensures same { OnErr result (known_by self.new.facts ≡ known_by self.old.facts) }
         ensures same_head { OnErr result (self.new.head ≡ self.old.head) }
     {
@@ -152,17 +160,23 @@ impl<E: JudgedEntry> LogState<E> {
         Ok(())
     }
 
-    /// Accepts a record that obeys the rules after those that were accepted. Where it breaks one, the
-    /// error is the first, and nothing changes.
+    /// Accepts a record that obeys the rules after those that were accepted. Where it breaks one, the error is the
+    /// first, and nothing changes.
     pub fn validate<V: Verifier>(
         &mut self,
         alloc: Global,
         verifier: &V,
         env: &Envelope<Record<E>>,
     ) -> Result<(), ValidationError>
-        ensures ok { OnOk result ((log : List Signed) → Follows E.kind self.old log → fault_of E.kind (V.good verifier.now) log (signed E.plain env.now) ≡ None) }
-        ensures follows { OnOk result ((log : List Signed) → Follows E.kind self.old log → Follows E.kind self.new (log ++ signed E.plain env.now ∷ [])) }
-        ensures err { IfErr result (λ e. (log : List Signed) → Follows E.kind self.old log → IsFault e (fault_of E.kind (V.good verifier.now) log (signed E.plain env.now))) }
+        ensures ok { OnOk result ((log : List Signed)
+            → Follows E.kind self.old log
+            → breach_of E.kind (V.good verifier.now) log (signed E.plain env.now) ≡ None) }
+        ensures follows { OnOk result ((log : List Signed)
+            → Follows E.kind self.old log
+            → Follows E.kind self.new (log ++ signed E.plain env.now ∷ [])) }
+        ensures err { IfErr result (λ e. (log : List Signed)
+            → Follows E.kind self.old log
+            → IsBreach e (breach_of E.kind (V.good verifier.now) log (signed E.plain env.now))) }
         ensures same { OnErr result ((log : List Signed) → Follows E.kind self.old log → Follows E.kind self.new log) }
     {
         check_head(&self.head, env)?;
@@ -173,11 +187,17 @@ impl<E: JudgedEntry> LogState<E> {
         self.enter(alloc, env)
     }
 
-    // Accepts a record that obeys all rules but that of the signature.
+    /// Accepts a record that obeys all rules but that of the signature.
     fn follow(&mut self, alloc: Global, env: &Envelope<Record<E>>) -> Result<(), ValidationError>
-        ensures ok { OnOk result ((log : List Signed) → Follows E.kind self.old log → fault_of E.kind any_signature log (signed E.plain env.now) ≡ None) }
-        ensures follows { OnOk result ((log : List Signed) → Follows E.kind self.old log → Follows E.kind self.new (log ++ signed E.plain env.now ∷ [])) }
-        ensures err { IfErr result (λ e. (log : List Signed) → Follows E.kind self.old log → IsFault e (fault_of E.kind any_signature log (signed E.plain env.now))) }
+        ensures ok { OnOk result ((log : List Signed)
+            → Follows E.kind self.old log
+            → breach_of E.kind any_signature log (signed E.plain env.now) ≡ None) }
+        ensures follows { OnOk result ((log : List Signed)
+            → Follows E.kind self.old log
+            → Follows E.kind self.new (log ++ signed E.plain env.now ∷ [])) }
+        ensures err { IfErr result (λ e. (log : List Signed)
+            → Follows E.kind self.old log
+            → IsBreach e (breach_of E.kind any_signature log (signed E.plain env.now))) }
     {
         check_head(&self.head, env)?;
         signer_of(&self.head, &self.facts, env)?;
@@ -186,7 +206,9 @@ impl<E: JudgedEntry> LogState<E> {
 
     /// The state of a list of records, where they obey all rules but that of the signature.
     pub fn replay(alloc: Global, envs: &[Envelope<Record<E>>]) -> Result<Option<Self>, Memory>
-        ensures { IfOk result (λ o. MatchOption o (IsLawful E.kind any_signature (map (signed E.plain) envs.now) → ⊥) (λ state. IsLawful E.kind any_signature (map (signed E.plain) envs.now) × Follows E.kind state (map (signed E.plain) envs.now))) }
+        ensures { IfOk result (λ o. MatchOption o (IsLawful E.kind any_signature (map (signed E.plain) envs.now)
+            → ⊥) (λ state. IsLawful E.kind any_signature (map (signed E.plain) envs.now)
+            × Follows E.kind state (map (signed E.plain) envs.now))) }
     {
         let mut state = LogState::new(alloc);
         for env in envs {
@@ -210,7 +232,9 @@ impl<E: JudgedEntry> LogState<E> {
 
     /// The key with this id.
     pub fn public_key(&self, id: &KeyId) -> Option<&PublicKey>
-        ensures { (log : List Signed) → Follows E.kind self.now log → option_copied result ≡ key_with id.now (entries_of log) }
+        ensures { (log : List Signed)
+            → Follows E.kind self.now log
+            → option_copied result ≡ key_with id.now (entries_of log) }
     {
         let known = self.facts.keys.get(id)?;
         Some(&known.key)
@@ -218,29 +242,39 @@ impl<E: JudgedEntry> LogState<E> {
 
     /// The releases, in the order of the log.
     pub fn releases(&self) -> &[Release]
-        ensures { (log : List Signed) → Follows E.kind self.now log → release_views result.now ≡ releases_of (entries_of log) }
+        ensures { (log : List Signed)
+            → Follows E.kind self.now log
+            → release_views result.now ≡ releases_of (entries_of log) }
     {
         self.facts.releases.as_slice()
     }
 
     /// The release of this version.
     pub fn release(&self, version: &Version) -> Option<&Release>
-        ensures { (log : List Signed) → Follows E.kind self.now log → option_map release_view (option_copied result) ≡ find (λ r. same_version (parts_of version.now) r.0) (releases_of (entries_of log)) }
+        ensures { (log : List Signed)
+            → Follows E.kind self.now log
+            → option_map release_view (option_copied result)
+            ≡ find (λ r. same_version (parts_of version.now) r.0) (releases_of (entries_of log)) }
     {
         self.facts.releases.get(version)
     }
 
-    /// The greatest of the releases that are not yanked and meet a requirement, by precedence and then by
-    /// build metadata.
+    /// The greatest of the releases that are not yanked and meet a requirement, by precedence and then by build
+    /// metadata.
     pub fn find_latest_release(&self, req: &VersionReq) -> Option<&Release>
-        ensures { (log : List Signed) → Follows E.kind self.now log → IsChosen (map comparator_view req.now.comparators.items) None None (releases_of (entries_of log)) (option_map release_view (option_copied result)) }
+        ensures { (log : List Signed)
+            → Follows E.kind self.now log
+            → IsChosen (map comparator_view req.now.comparators.items) None None (releases_of (entries_of log))
+            (option_map release_view (option_copied result)) }
     {
         chosen(req, self.facts.releases.as_slice())
     }
 
     /// What is known of a namespace.
     pub fn namespace_state(&self, namespace: &str) -> Option<&NamespaceState>
-        ensures { (log : List Signed) → Follows E.kind self.now log → option_map namespace_view (option_copied result) ≡ namespace_of namespace.now (entries_of log) }
+        ensures { (log : List Signed)
+            → Follows E.kind self.now log
+            → option_map namespace_view (option_copied result) ≡ namespace_of namespace.now (entries_of log) }
     {
         self.facts.namespaces.get(namespace)
     }

@@ -14,7 +14,7 @@ use Rattle.warg_proof.specs.declared.node.Consistency.{Consistency}
 use Rattle.warg_proof.specs.declared.node.Inclusion.{Inclusion}
 use Rattle.warg_proof.specs.LogProofs.{LogProofs, node_text, consistency_text, inclusion_text, counted, log_text, IsNode, IsConsistency, IsInclusion, AreCounted, is_ascending, IsLogBundle}
 use Rattle.warg_proof.specs.MapProofs.{MapPath, given_before, path_text, map_text, IsMapPath, IsMapBundle}
-use Rattle.warg_proof.specs.Reading.{Read, Fails, hash_at, node_at, consistency_at, inclusion_at, each_at, counted_at, log_rest_at, log_at, path_at, map_rest_at, map_at}
+use Rattle.warg_proof.specs.Reading.{Read, Refuses, hash_at, node_at, consistency_at, inclusion_at, each_at, counted_at, log_rest_at, log_at, path_at, map_rest_at, map_at}
 use Rattle.warg_proof.proofs.Fields.{Takes, Reads, hash_reads, node_reads, consistency_reads, inclusion_reads, each_takes, each_again, counted_reads}
 
 -- ---- log bundles
@@ -136,7 +136,7 @@ map_again paths is =
 -- ---- refusals
 
 -- bytes that can be read are refused for want of memory alone
-pub only_memory : {X : Type 0} (fault : ProofFault) (read : Read X) (x : X) → Fails fault read → read ≡ Ok x → fault ≡ Memory
+pub only_memory : {X : Type 0} (fault : ProofFault) (read : Read X) (x : X) → Refuses fault read → read ≡ Ok x → fault ≡ Memory
 only_memory Memory read x h e = refl
 only_memory Form read x h e = never Form x (sym h ∙ e)
 only_memory WrongCount read x h e = absurd h

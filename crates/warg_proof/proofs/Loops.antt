@@ -10,7 +10,7 @@ use Rattle.warg_proof.specs.declared.node.Node.{Node}
 use Rattle.warg_proof.specs.LogProofs.{comes_before, is_ascending}
 use Rattle.warg_proof.specs.MapTree.{has_bit}
 use Rattle.warg_proof.specs.MapProofs.{given_before}
-use Rattle.warg_proof.specs.Reading.{Read, Fails, each_at}
+use Rattle.warg_proof.specs.Reading.{Read, Refuses, each_at}
 
 module _ {X : Type 0} (one : List ℕ → Read (X × List ℕ)) where
   -- what was read before, and what is still read
@@ -37,8 +37,8 @@ module _ {X : Type 0} (one : List ℕ → Read (X × List ℕ)) where
       let step : with_front front (each_at one (count - i) bytes) ≡ Err fault = rw (k, h) refl in
       sym so_far ∙ step
 
-  pub ends : (fault : ProofFault) (front : List X) (count i : ℕ) (bytes : List ℕ) (total : Read (List X × List ℕ)) → i < count → Fails fault (one bytes)
-      → with_front front (each_at one (count - i) bytes) ≡ total → Fails fault total
+  pub ends : (fault : ProofFault) (front : List X) (count i : ℕ) (bytes : List ℕ) (total : Read (List X × List ℕ)) → i < count → Refuses fault (one bytes)
+      → with_front front (each_at one (count - i) bytes) ≡ total → Refuses fault total
   ends Memory front count i bytes total lt h so_far = tt
   ends Form front count i bytes total lt h so_far = at_fault front count i bytes total Form lt h so_far
   ends WrongCount front count i bytes total lt h so_far = h

@@ -15,19 +15,19 @@ abbrev pub Read : Type 0 → Type 0
 Read X = Result X ProofFault
 
 -- A refusal is want of memory, or the fault of the bytes.
-abbrev pub Fails : {Y : Type 0} → ProofFault → Read Y → Type 0
-Fails Memory read = Unit {0}
-Fails Form read = read ≡ Err Form
-Fails WrongCount read = ⊥
-Fails WrongLeaf read = ⊥
-Fails WrongLength read = ⊥
-Fails MissingHash read = ⊥
-Fails (OtherRoot root found) read = ⊥
+abbrev pub Refuses : {Y : Type 0} → ProofFault → Read Y → Type 0
+Refuses Memory read = Unit {0}
+Refuses Form read = read ≡ Err Form
+Refuses WrongCount read = ⊥
+Refuses WrongLeaf read = ⊥
+Refuses WrongLength read = ⊥
+Refuses MissingHash read = ⊥
+Refuses (OtherRoot root found) read = ⊥
 
 -- What a function answered, seen by view, is what reading gives, unless memory ran out.
-abbrev pub Gives : {X Y : Type 0} → (X → Y) → Read X → Read Y → Type 0
-Gives view (Ok x) read = read ≡ Ok (view x)
-Gives view (Err fault) read = Fails fault read
+abbrev pub GivesOrForm : {X Y : Type 0} → (X → Y) → Read X → Read Y → Type 0
+GivesOrForm view (Ok x) read = read ≡ Ok (view x)
+GivesOrForm view (Err fault) read = Refuses fault read
 
 -- ---- fields: a value, and the bytes after it
 

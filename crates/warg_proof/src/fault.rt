@@ -16,8 +16,7 @@ pub enum ProofFault {
     /// The bundle has no proof of that number, or proofs that were not asked for.
     #[error("the bundle does not hold the proofs that were asked for")]
     WrongCount,
-    /// The proof is about another leaf than the one asked for, or about one that is not in the
-    /// log.
+    /// The proof is about another leaf than the one asked for, or about one that is not in the log.
     #[error("the proof is about another leaf than the one that was asked for")]
     WrongLeaf,
     /// The proof is about other lengths of the log than those asked for.

@@ -11,9 +11,8 @@ ghost use Rattle.warg_proof.specs.MapProofs.{MapPath, IsMapPath, siblings, log_k
 ghost use Rattle.warg_proof.specs.TrueProofs.{true_path, true_hashes, true_siblings, ListsTruly};
 ghost use Rattle.warg_proof.specs.MapTree.{Entries, IsMap, value_at, map_root, map_path_root, map_clash, IsMapClash};
 
-/// The root of a list of entries is that of RFC 6962, section 2.1: the hash of no bytes for no
-/// entries, the leaf's hash for one, and else the branch over the two parts of a split at the
-/// largest power of two below the number of entries.
+/// The root of a list of entries is that of RFC 6962, section 2.1: the hash of no bytes for no entries, the leaf's hash
+/// for one, and else the branch over the two parts of a split at the largest power of two below the number of entries.
 pub fn root_is_that_of_the_standard()
     ensures none { root [] ≡ sha256 [] }
     ensures one { (entry : List ℕ) → root (entry ∷ []) ≡ leaf_hash entry }
@@ -22,8 +21,8 @@ pub fn root_is_that_of_the_standard()
         → root entries ≡ branch_hash (root (take (2 ^ k) entries)) (root (drop (2 ^ k) entries)) }
 {}
 
-/// A path that gives the root of the entries is that of the entry at the index, or else two
-/// different byte strings of equal SHA-256 are computed from it.
+/// A path that gives the root of the entries is that of the entry at the index, or else two different byte strings of
+/// equal SHA-256 are computed from it.
 pub fn inclusion()
     ensures { (entries : List (List ℕ)) (index : ℕ) (leaf : List ℕ) (path : List (List ℕ))
         → AreBytes entries → IsBytes leaf → AreHashes path
@@ -32,9 +31,8 @@ pub fn inclusion()
         ⊎ IsSomeAnd (inclusion_clash entries index leaf path) IsClash }
 {}
 
-/// A consistency proof that gives the root of the entries as its new root has as its old root
-/// that of their first entries, as many as the old length, or else two different byte strings of
-/// equal SHA-256 are computed from it.
+/// A consistency proof that gives the root of the entries as its new root has as its old root that of their first
+/// entries, as many as the old length, or else two different byte strings of equal SHA-256 are computed from it.
 pub fn consistency()
     ensures { (entries : List (List ℕ)) (old : ℕ) (old_root : List ℕ) (hashes : List (List ℕ))
         → AreHashes hashes
@@ -43,9 +41,9 @@ pub fn consistency()
         ⊎ IsSomeAnd (consistency_clash entries old hashes) IsClash }
 {}
 
-/// Siblings that give the root of a map for a value are those of the map's value at the key, or
-/// else two different byte strings of equal SHA-256 are computed from them, or one byte string
-/// whose SHA-256 is 32 zero bytes, the hash of an empty leaf.
+/// Siblings that give the root of a map for a value are those of the map's value at the key, or else two different byte
+/// strings of equal SHA-256 are computed from them, or one byte string whose SHA-256 is 32 zero bytes, the hash of an
+/// empty leaf.
 pub fn map_inclusion()
     ensures { (map : Entries) (key value : List ℕ) (siblings : List (List ℕ))
         → IsMap map → IsDigest key → IsBytes value → AreHashes siblings
@@ -61,32 +59,30 @@ pub fn true_inclusion()
         → path_root index (length entries) leaf (true_path entries index) ≡ Some (root entries) }
 {}
 
-/// The roots of the ranges that join an older log to a newer one prove that it begins the newer
-/// one: a true consistency proof is never refused.
+/// The roots of the ranges that join an older log to a newer one prove that it begins the newer one: a true consistency
+/// proof is never refused.
 pub fn true_consistency()
     ensures { (entries : List (List ℕ)) (old : ℕ) → 0 < old → old ≤ length entries
         → two_roots old (length entries) (true_hashes entries old)
         ≡ Some (root (take old entries), root entries) }
 {}
 
-/// The roots of the subtrees beside a key prove its value: a true proof over a map is never
-/// refused.
+/// The roots of the subtrees beside a key prove its value: a true proof over a map is never refused.
 pub fn true_map_inclusion()
     ensures { (map : Entries) (key value : List ℕ)
         → IsMap map → IsDigest key → value_at map key ≡ Some value
         → map_path_root key value (true_siblings map key) ≡ Some (map_root map) }
 {}
 
-/// The root of a map depends on the values at its keys alone, and not on the order in which they
-/// are listed.
+/// The root of a map depends on the values at its keys alone, and not on the order in which they are listed.
 pub fn map_root_is_that_of_the_map()
     ensures { (map other : Entries) → IsMap map → IsMap other
         → ((key : List ℕ) → IsDigest key → value_at map key ≡ value_at other key)
         → map_root map ≡ map_root other }
 {}
 
-/// A log bundle that lists the nodes that its inclusion proof needs, each with the root of its
-/// entries, proves the entry. `LogBundle::inclusion` is then `Ok`.
+/// A log bundle that lists the nodes that its inclusion proof needs, each with the root of its entries, proves the
+/// entry. `LogBundle::inclusion` is then `Ok`.
 pub fn listed_inclusion()
     ensures { (proofs : LogProofs) (at : ℕ) (entries : List (List ℕ)) (index : ℕ) (leaf : List ℕ)
         → asked_inclusion proofs at ≡ Some (record { log_length = length entries; index = index })
@@ -95,8 +91,8 @@ pub fn listed_inclusion()
         → ProvesInclusion proofs at (length entries) index leaf (root entries) }
 {}
 
-/// A log bundle that lists the nodes that its consistency proof needs, each with the root of its
-/// entries, proves the two roots. `LogBundle::consistency` is then `Ok`.
+/// A log bundle that lists the nodes that its consistency proof needs, each with the root of its entries, proves the
+/// two roots. `LogBundle::consistency` is then `Ok`.
 pub fn listed_consistency()
     ensures { (proofs : LogProofs) (entries : List (List ℕ)) (old : ℕ) → 0 < old → old ≤ length entries
         → asked_consistency proofs ≡ Some (record { old_length = old; new_length = length entries })
@@ -104,8 +100,8 @@ pub fn listed_consistency()
         → ProvesConsistency proofs old (length entries) (root (take old entries)) (root entries) }
 {}
 
-/// A map bundle whose path has the true siblings of a log's key proves the log's value.
-/// `MapBundle::inclusion` is then `Ok`.
+/// A map bundle whose path has the true siblings of a log's key proves the log's value. `MapBundle::inclusion` is then
+/// `Ok`.
 pub fn listed_value()
     ensures { (paths : List MapPath) (at : ℕ) (path : MapPath) (map : Entries) (log_id value : List ℕ)
         → slice_get paths at ≡ Some path → IsMapPath path

@@ -1,8 +1,8 @@
-//! Proofs over a registry's log and map: that an entry is in a log, that a log continues an older
-//! one, and that a value is in a map.
+//! Proofs over a registry's log and map: that an entry is in a log, that a log continues an older one, and that a value
+//! is in a map.
 //!
-//! Nothing here assumes that SHA-256 has no collisions. Where a proof could lie, `laws` say that
-//! two different byte strings of one hash are computed from it.
+//! Nothing here assumes that SHA-256 has no collisions. Where a proof could lie, `laws` say that two different byte
+//! strings of one hash are computed from it.
 #![tactic(auto)]
 
 mod fault;
@@ -20,6 +20,3 @@ pub use fault::ProofFault;
 pub use leaf::{LogLeaf, MapLeaf};
 pub use log_bundle::LogBundle;
 pub use map_bundle::MapBundle;
-
-#[cfg(test)]
-mod tests;

@@ -2,7 +2,7 @@
 
 ghost use Rattle.std.specs.Prelude.{◌≡◌, ◌≢◌, ◌↔◌, ◌⊎◌, ◌<◌, List, ℕ, length, IfOk, IfErr, IsOk, IsSome, IsSomeAnd, Err, None, MatchResult};
 ghost use Rattle.warg_proof.specs.LogProofs.{LogProofs, bundle_of, IsOfOtherLength, IsOfOtherLeaf, log_text, IsLogBundle, numbered as numbered_proof, only_one as only_proof, asked_inclusion, inclusion_path, AsksInclusion, ProvesInclusion, asked_consistency, consistency_hashes, AsksConsistency, ProvesConsistency, IsOtherRoot};
-ghost use Rattle.warg_proof.specs.Reading.{Gives, log_at, log_rest_at};
+ghost use Rattle.warg_proof.specs.Reading.{GivesOrForm, log_at, log_rest_at};
 ghost use Rattle.warg_proof.specs.Judging.{inclusion_verdict, consistency_verdict};
 
 use crate::fault::ProofFault;
@@ -14,8 +14,7 @@ use std::alloc::Global;
 use std::marker::Model;
 use warg_hash::AnyHash;
 
-/// A bundle of inclusion proofs, or one consistency proof, over a log, with the hashes that they
-/// need.
+/// A bundle of inclusion proofs, or one consistency proof, over a log, with the hashes that they need.
 ///
 /// A clause sees it as the nodes, the consistencies and the inclusions that it lists.
 #[derive(Debug, Drop)]
@@ -40,7 +39,7 @@ type Lists = (Vec<Node>, Vec<Consistency>, Vec<Inclusion>);
 /// What a bundle lists, read from the bytes after its version.
 #[tactic(auto, unfolding(crate::specs::Reading::log_rest_at))]
 fn lists_of(alloc: Global, bytes: &[u8]) -> Result<Lists, ProofFault>
-    ensures { Gives (λ x. bundle_of x.0.items x.1.items x.2.items) result (log_rest_at bytes.now) }
+    ensures { GivesOrForm (λ x. bundle_of x.0.items x.1.items x.2.items) result (log_rest_at bytes.now) }
 {
     let (nodes, rest) = counted_of::<Node>(alloc, bytes)?;
     let (consistencies, rest) = counted_of::<Consistency>(alloc, rest)?;
@@ -54,7 +53,7 @@ fn lists_of(alloc: Global, bytes: &[u8]) -> Result<Lists, ProofFault>
 /// What a bundle lists, read from all of its bytes.
 #[tactic(auto, unfolding(crate::specs::Reading::log_at))]
 fn all_of(alloc: Global, bytes: &[u8]) -> Result<Lists, ProofFault>
-    ensures { Gives (λ x. bundle_of x.0.items x.1.items x.2.items) result (log_at bytes.now) }
+    ensures { GivesOrForm (λ x. bundle_of x.0.items x.1.items x.2.items) result (log_at bytes.now) }
 {
     match bytes {
         [0, rest @ ..] => lists_of(alloc, rest),
@@ -85,11 +84,10 @@ fn only_one(consistencies: &[Consistency], inclusions: &[Inclusion]) -> Option<C
 impl LogBundle {
     /// The bundle that the bytes are, all of them.
     ///
-    /// The bytes are a byte 0, the nodes, the consistencies and the inclusions, each as a count
-    /// in four bytes and as many values. A node is a level in one byte, a place in eight and a
-    /// hash of 32 bytes, and nodes ascend strictly by level and then by place. A consistency is
-    /// two lengths, an inclusion a length and an index, each in eight bytes. The highest byte of
-    /// a number comes first. Any other bytes are `Form`.
+    /// The bytes are a byte 0, the nodes, the consistencies and the inclusions, each as a count in four bytes and as
+    /// many values. A node is a level in one byte, a place in eight and a hash of 32 bytes, and nodes ascend strictly
+    /// by level and then by place. A consistency is two lengths, an inclusion a length and an index, each in eight
+    /// bytes. The highest byte of a number comes first. Any other bytes are `Form`.
     pub fn decode(alloc: Global, bytes: &[u8]) -> Result<LogBundle, ProofFault>
         // What is read is a bundle with these bytes.
         ensures found { IfOk result (λ bundle. IsLogBundle bundle × (bytes.now ≡ log_text bundle)) }
@@ -114,8 +112,8 @@ impl LogBundle {
         (self.consistencies.len(), self.inclusions.len())
     }
 
-    /// Whether the bundle's inclusion proof of number `at` proves that `entry` is the entry at
-    /// `index` of a log of `length` entries with this root (RFC 6962, section 2.1.1).
+    /// Whether the bundle's inclusion proof of number `at` proves that `entry` is the entry at `index` of a log of
+    /// `length` entries with this root (RFC 6962, section 2.1.1).
     ///
     /// It takes no memory. The first of these faults is answered:
     ///
@@ -179,9 +177,8 @@ impl LogBundle {
         )
     }
 
-    /// Whether the bundle's one proof, of a consistency, proves that the log of length `from`
-    /// with the root `from_root` is the beginning of that of length `to` with the root `to_root`
-    /// (RFC 6962, section 2.1.2).
+    /// Whether the bundle's one proof, of a consistency, proves that the log of length `from` with the root `from_root`
+    /// is the beginning of that of length `to` with the root `to_root` (RFC 6962, section 2.1.2).
     ///
     /// It takes no memory. The first of these faults is answered:
     ///

@@ -4,7 +4,7 @@ ghost use Rattle.std.specs.Prelude.{◌≡◌, ◌≢◌, ◌↔◌, ◌⊎◌, 
 ghost use Rattle.warg_proof.specs.Merkle.{branch_hash as branch_hash_of};
 ghost use Rattle.warg_proof.specs.MapTree.{subtree_path_root};
 ghost use Rattle.warg_proof.specs.MapProofs.{MapPath, path_of, map_text, IsMapBundle, given_before, siblings as siblings_of, ProvesValue};
-ghost use Rattle.warg_proof.specs.Reading.{Gives, path_at, map_at, map_rest_at};
+ghost use Rattle.warg_proof.specs.Reading.{GivesOrForm, path_at, map_at, map_rest_at};
 ghost use Rattle.warg_proof.specs.Judging.{map_verdict};
 
 use crate::fault::ProofFault;
@@ -60,7 +60,7 @@ impl Model for MapBundle {
 /// The paths of a bundle, read from the bytes after its version.
 #[tactic(auto, unfolding(crate::specs::Reading::map_rest_at))]
 fn paths_of(alloc: Global, bytes: &[u8]) -> Result<Vec<SiblingPath>, ProofFault>
-    ensures { Gives (λ v. map (λ path. path_of path.given path.siblings.items) v.items)
+    ensures { GivesOrForm (λ v. map (λ path. path_of path.given path.siblings.items) v.items)
         result (map_rest_at bytes.now) }
 {
     let (paths, rest) = counted_of::<SiblingPath>(alloc, bytes)?;
@@ -73,7 +73,7 @@ fn paths_of(alloc: Global, bytes: &[u8]) -> Result<Vec<SiblingPath>, ProofFault>
 /// The paths of a bundle, read from all of its bytes.
 #[tactic(auto, unfolding(crate::specs::Reading::map_at))]
 fn all_of(alloc: Global, bytes: &[u8]) -> Result<Vec<SiblingPath>, ProofFault>
-    ensures { Gives (λ v. map (λ path. path_of path.given path.siblings.items) v.items)
+    ensures { GivesOrForm (λ v. map (λ path. path_of path.given path.siblings.items) v.items)
         result (map_at bytes.now) }
 {
     match bytes {
@@ -120,10 +120,9 @@ fn root_of(given: &[u8; 32], siblings: &[[u8; 32]], key: &[u8; 32], value: &[u8]
 impl MapBundle {
     /// The bundle that the bytes are, all of them.
     ///
-    /// The bytes are a byte 0, the number of paths in four bytes, highest first, and the paths. A
-    /// path is 32 bytes of bits, of which bit d, from the highest of the first byte on, says
-    /// whether the sibling at depth d is given, and then the given siblings, 32 bytes each, from
-    /// the root down. Any other bytes are `Form`.
+    /// The bytes are a byte 0, the number of paths in four bytes, highest first, and the paths. A path is 32 bytes of
+    /// bits, of which bit d, from the highest of the first byte on, says whether the sibling at depth d is given, and
+    /// then the given siblings, 32 bytes each, from the root down. Any other bytes are `Form`.
     pub fn decode(alloc: Global, bytes: &[u8]) -> Result<MapBundle, ProofFault>
         // What is read is a bundle with these bytes.
         ensures found { IfOk result (λ bundle. IsMapBundle bundle × (bytes.now ≡ map_text bundle)) }
@@ -144,11 +143,9 @@ impl MapBundle {
         self.paths.len()
     }
 
-    /// Whether the bundle's path of number `at` proves that a map with this root has `value` for
-    /// the log.
+    /// Whether the bundle's path of number `at` proves that a map with this root has `value` for the log.
     ///
-    /// The key of a log is the SHA-256 of its id's bytes. It takes no memory. The first of these
-    /// faults is answered:
+    /// The key of a log is the SHA-256 of its id's bytes. It takes no memory. The first of these faults is answered:
     ///
     /// - `WrongCount`: the bundle has no path of that number.
     /// - `OtherRoot`: the path gives another root.

@@ -1,7 +1,6 @@
 //! What a log bundle lists.
 
-/// A hash of the log's tree: the root of the `2 ^ level` entries from entry `place * 2 ^ level`
-/// on.
+/// A hash of the log's tree: the root of the `2 ^ level` entries from entry `place * 2 ^ level` on.
 #[derive(Clone, Copy, Debug)]
 pub struct Node {
     pub level: u8,

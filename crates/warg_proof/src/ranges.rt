@@ -1,7 +1,7 @@
 //! The hashes of ranges of a log's entries, from the nodes that a bundle lists.
 //!
-//! A range is given by a level and a place: it has at most `2 ^ level` entries, from entry `place
-//! * 2 ^ level` on. Its split has the parts `2 * place` and `2 * place + 1` of the level below.
+//! A range is given by a level and a place: it has at most `2 ^ level` entries, from entry `place * 2 ^ level` on. Its
+//! split has the parts `2 * place` and `2 * place + 1` of the level below.
 
 ghost use Rattle.std.specs.Prelude.{◌≡◌, ◌-◌, ◌+◌, ◌^◌, ◌<◌, ◌≤◌, true};
 ghost use Rattle.warg_proof.specs.LogProofs.{is_ascending, listed as listed_hash, hash_within};
@@ -55,8 +55,7 @@ fn hash_of(nodes: &[Node], level: u8, place: u64, count: u64) -> Option<[u8; 32]
     Some(branch_hash(&left, &right))
 }
 
-/// The root of the first entries of a range, rebuilt from the leaf at an index, unless a node is
-/// lacking.
+/// The root of the first entries of a range, rebuilt from the leaf at an index, unless a node is lacking.
 pub fn rebuilt_root(
     nodes: &[Node],
     level: u8,
@@ -95,8 +94,8 @@ pub fn rebuilt_root(
     }
 }
 
-/// The root of the first `old` entries of a range, at least one, and that of its first `new`
-/// entries, unless a node is lacking.
+/// The root of the first `old` entries of a range, at least one, and that of its first `new` entries, unless a node is
+/// lacking.
 pub fn rebuilt_roots(
     nodes: &[Node],
     level: u8,

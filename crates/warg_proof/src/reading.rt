@@ -7,7 +7,7 @@ ghost use Rattle.warg_proof.specs.declared.node.Inclusion.{Inclusion};
 ghost use Rattle.std.specs.Int.{w32, w64};
 ghost use Rattle.warg_proof.specs.LogProofs.{is_ascending as is_ascending_list};
 ghost use Rattle.warg_proof.specs.MapProofs.{given_before};
-ghost use Rattle.warg_proof.specs.Reading.{Read, Gives, byte_at, number_at, hash_at, node_at, consistency_at, inclusion_at, each_at, counted_at};
+ghost use Rattle.warg_proof.specs.Reading.{Read, GivesOrForm, byte_at, number_at, hash_at, node_at, consistency_at, inclusion_at, each_at, counted_at};
 
 use crate::fault::ProofFault;
 use crate::hashing::has_bit;
@@ -27,12 +27,12 @@ pub trait Field: Drop {
 
     /// Reads a value from the front, and gives the bytes after it.
     fn read(alloc: Global, bytes: &[u8]) -> Result<(Self, &[u8]), ProofFault>
-        ensures { Gives (λ x. (seen x.0, x.1.now)) result (read_at bytes.now) };
+        ensures { GivesOrForm (λ x. (seen x.0, x.1.now)) result (read_at bytes.now) };
 }
 
 #[tactic(auto, unfolding(crate::specs::Reading::byte_at))]
 fn byte_of(bytes: &[u8]) -> Result<(u8, &[u8]), ProofFault>
-    ensures { Gives (λ x. (x.0, x.1.now)) result (byte_at bytes.now) }
+    ensures { GivesOrForm (λ x. (x.0, x.1.now)) result (byte_at bytes.now) }
 {
     match bytes {
         [] => Err(ProofFault::Form),
@@ -41,7 +41,7 @@ fn byte_of(bytes: &[u8]) -> Result<(u8, &[u8]), ProofFault>
 }
 
 fn u32_of(bytes: &[u8]) -> Result<(u32, &[u8]), ProofFault>
-    ensures { Gives (λ x. (x.0, x.1.now)) result (number_at w32 bytes.now) }
+    ensures { GivesOrForm (λ x. (x.0, x.1.now)) result (number_at w32 bytes.now) }
 {
     let Some((front, rest)) = bytes.split_first_chunk::<4>() else {
         return Err(ProofFault::Form);
@@ -50,7 +50,7 @@ fn u32_of(bytes: &[u8]) -> Result<(u32, &[u8]), ProofFault>
 }
 
 fn u64_of(bytes: &[u8]) -> Result<(u64, &[u8]), ProofFault>
-    ensures { Gives (λ x. (x.0, x.1.now)) result (number_at w64 bytes.now) }
+    ensures { GivesOrForm (λ x. (x.0, x.1.now)) result (number_at w64 bytes.now) }
 {
     let Some((front, rest)) = bytes.split_first_chunk::<8>() else {
         return Err(ProofFault::Form);
@@ -131,7 +131,7 @@ pub fn each_of<T: Field>(
     count: u32,
     bytes: &[u8],
 ) -> Result<(Vec<T>, &[u8]), ProofFault>
-    ensures { Gives (λ x. (map T.seen x.0.items, x.1.now)) result (each_at T.read_at count bytes.now) }
+    ensures { GivesOrForm (λ x. (map T.seen x.0.items, x.1.now)) result (each_at T.read_at count bytes.now) }
 {
     let mut values = Vec::new(alloc);
     let mut rest = bytes;
@@ -146,7 +146,7 @@ pub fn each_of<T: Field>(
 /// A count in four bytes and as many values, and the bytes after them.
 #[tactic(auto, unfolding(crate::specs::Reading::counted_at))]
 pub fn counted_of<T: Field>(alloc: Global, bytes: &[u8]) -> Result<(Vec<T>, &[u8]), ProofFault>
-    ensures { Gives (λ x. (map T.seen x.0.items, x.1.now)) result (counted_at T.read_at bytes.now) }
+    ensures { GivesOrForm (λ x. (map T.seen x.0.items, x.1.now)) result (counted_at T.read_at bytes.now) }
 {
     let (count, rest) = u32_of(bytes)?;
     each_of(alloc, count, rest)

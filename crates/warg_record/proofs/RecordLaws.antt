@@ -9,7 +9,7 @@ use Rattle.warg_hash.proofs.HashLaws.{length-hash_text}
 use Rattle.warg_record.specs.Wire.{field, fields, optional_field, number_field}
 use Rattle.warg_record.specs.Record.{Kind, PlainRecord, IsEntry, IsRecord, entry_text, moment_text, record_text}
 use Rattle.warg_record.specs.Reading.{hash_of, optional_hash_of, optional_at, number_at, field_at, some_fields, entry_at, moment_of, record_of}
-use Rattle.warg_record.specs.Answer.{Gives}
+use Rattle.warg_record.specs.Answer.{GivesOrForm}
 use Rattle.warg_record.specs.Envelope.{IsMessageOf}
 use Rattle.warg_record.specs.declared.error.EnvelopeError.{EnvelopeError}
 use Rattle.warg_record.specs.declared.error.EnvelopeError.TheVariants as error
@@ -123,14 +123,14 @@ record_of-again kind r is short =
     rw (prev, version, time, id, moment, all) refl
 
 -- what a reader gave is a record of the form
-pub gives_found : {R : Type 0} (view : R → PlainRecord) (kind : Kind) (bytes : List ℕ) (r : Result R EnvelopeError) → Gives view r (record_of kind bytes)
+pub gives_found : {R : Type 0} (view : R → PlainRecord) (kind : Kind) (bytes : List ℕ) (r : Result R EnvelopeError) → GivesOrForm view r (record_of kind bytes)
     → IfOk r (λ x. IsMessageOf kind bytes (view x))
 gives_found view kind bytes (Ok x) given =
     let s = record_of-sound kind bytes (view x) given in record { form = s.1; text = s.0 }
 gives_found view kind bytes (Err e) given = tt
 
 -- a reader refuses only what is no record of the form
-pub gives_form : {R : Type 0} (view : R → PlainRecord) (kind : Kind) (bytes : List ℕ) (r : Result R EnvelopeError) → Gives view r (record_of kind bytes) → length bytes < 2 ^ 64
+pub gives_form : {R : Type 0} (view : R → PlainRecord) (kind : Kind) (bytes : List ℕ) (r : Result R EnvelopeError) → GivesOrForm view r (record_of kind bytes) → length bytes < 2 ^ 64
     → IfErr r (λ e. e ≡ error.Form → (p : PlainRecord) → IsMessageOf kind bytes p → ⊥)
 gives_form view kind bytes (Ok x) given short = tt
 gives_form view kind bytes (Err error.Form) given short = λ is p m.

@@ -9,6 +9,6 @@ Refuses error.Form reading = reading ≡ None
 Refuses error.Memory reading = Unit {0}
 
 -- What a reader returned, seen by view, is what the reading gives, unless memory ran out.
-abbrev pub Gives : {X Y : Type 0} → (X → Y) → Result X EnvelopeError → Option Y → Type 0
-Gives view (Ok x) reading = reading ≡ Some (view x)
-Gives view (Err e) reading = Refuses e reading
+abbrev pub GivesOrForm : {X Y : Type 0} → (X → Y) → Result X EnvelopeError → Option Y → Type 0
+GivesOrForm view (Ok x) reading = reading ≡ Some (view x)
+GivesOrForm view (Err e) reading = Refuses e reading

@@ -3,7 +3,7 @@
 ghost use Rattle.std.specs.Prelude.{◌≡◌, ℕ, List, true, false, MatchOption, IfOk};
 ghost use Rattle.warg_record.specs.Record.{Kind, PlainEntry, entry_text, is_permission};
 ghost use Rattle.warg_record.specs.Reading.{entry_at};
-ghost use Rattle.warg_record.specs.Answer.{Gives};
+ghost use Rattle.warg_record.specs.Answer.{GivesOrForm};
 
 use crate::error::EnvelopeError;
 use std::alloc::Global;
@@ -19,7 +19,8 @@ pub trait LogPermission: Copy + PartialEq {
 
     /// The permission with this text, where there is one.
     fn from_text(text: &str) -> Option<Self>
-        ensures { MatchOption result (is_permission kind text.now ≡ false) (λ p. (is_permission kind text.now ≡ true) × (text_of p ≡ text.now)) };
+        ensures { MatchOption result (is_permission kind text.now ≡ false) (λ p. (is_permission kind text.now ≡ true)
+            × (text_of p ≡ text.now)) };
 
     /// The permission's text.
     fn as_str(self) -> &'static str
@@ -36,7 +37,7 @@ pub trait LogEntry: Drop {
 
     /// Reads an entry's message, all of the bytes.
     fn read(alloc: Global, bytes: &[u8]) -> Result<Self, EnvelopeError>
-        ensures { Gives plain result (entry_at kind bytes.now) };
+        ensures { GivesOrForm plain result (entry_at kind bytes.now) };
 
     /// Writes the entry's message.
     fn message(&self, alloc: Global) -> Result<Vec<u8>, Memory>

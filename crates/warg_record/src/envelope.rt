@@ -31,7 +31,7 @@ pub struct Envelope<T> {
     pub signature: Signature,
 }
 
-// The id of a key, by its text.
+/// The id of a key, by its text.
 fn key_id_of(alloc: Global, text: &str) -> Result<KeyId, EnvelopeError>
     ensures ok { IfOk result (λ id. IsHashText text.now id) }
     ensures form { IfErr result (λ e. e ≡ Form → (digest : List ℕ) → IsHashText text.now digest → ⊥) }
@@ -43,7 +43,7 @@ fn key_id_of(alloc: Global, text: &str) -> Result<KeyId, EnvelopeError>
     }
 }
 
-// A signature, by its text.
+/// A signature, by its text.
 fn signature_of(alloc: Global, text: &str) -> Result<Signature, EnvelopeError>
     ensures ok { IfOk result (λ signature. (signature ≡ text.now) × IsKeyText text.now) }
     ensures form { IfErr result (λ e. e ≡ Form → ¬ (IsKeyText text.now)) }
@@ -55,7 +55,7 @@ fn signature_of(alloc: Global, text: &str) -> Result<Signature, EnvelopeError>
     }
 }
 
-// A record, by its message.
+/// A record, by its message.
 fn checked_record_of<E: LogEntry>(
     alloc: Global,
     contents: &[u8],
@@ -66,7 +66,7 @@ fn checked_record_of<E: LogEntry>(
     record_of(alloc, contents)
 }
 
-// A moment's message.
+/// A moment's message.
 fn moment_message(alloc: Global, time: Moment) -> Result<Vec<u8>, Memory>
     ensures { IfOk result (λ message. message.items ≡ moment_text time) }
 {
@@ -76,7 +76,7 @@ fn moment_message(alloc: Global, time: Moment) -> Result<Vec<u8>, Memory>
     Ok(message)
 }
 
-// The messages of entries, one field 4 for each.
+/// The messages of entries, one field 4 for each.
 fn push_entries<E: LogEntry>(alloc: Global, out: &mut Vec<u8>, entries: &[E]) -> Result<(), Memory>
     ensures { OnOk result (out.new.items ≡ out.old.items ++ fields 4 (map entry_text (map E.plain entries.now))) }
 {
@@ -88,11 +88,11 @@ fn push_entries<E: LogEntry>(alloc: Global, out: &mut Vec<u8>, entries: &[E]) ->
 }
 
 impl<E: LogEntry> Envelope<Record<E>> {
-    /// Reads an envelope: a record's message, the text of the id of the key that signed it, and the
-    /// text of the signature.
+    /// Reads an envelope: a record's message, the text of the id of the key that signed it, and the text of the
+    /// signature.
     ///
-    /// A message is a protocol buffer's (the encoding guide) with its fields ascending, every number in
-    /// its shortest form, defaults left out and nothing unknown. Anything else is `Form`.
+    /// A message is a protocol buffer's (the encoding guide) with its fields ascending, every number in its shortest
+    /// form, defaults left out and nothing unknown. Anything else is `Form`.
     pub fn read(
         alloc: Global,
         contents: &[u8],

@@ -5,7 +5,7 @@ ghost use Rattle.std.specs.Str.{is_utf8};
 ghost use Rattle.semver.specs.Identifiers.{parts_of};
 ghost use Rattle.warg_record.specs.Record.{Init, GrantFlat, RevokeFlat};
 ghost use Rattle.warg_record.specs.Reading as reading;
-ghost use Rattle.warg_record.specs.Answer.{Gives};
+ghost use Rattle.warg_record.specs.Answer.{GivesOrForm};
 
 use crate::entry::LogPermission;
 use crate::error::EnvelopeError;
@@ -18,7 +18,8 @@ use warg_values::Text;
 
 /// The text that the bytes are, if they are UTF-8.
 fn as_text(bytes: &[u8]) -> Option<&str>
-    ensures { MatchOption result (is_utf8 bytes.now ≡ false) (λ text. (is_utf8 bytes.now ≡ true) × (text.now ≡ bytes.now)) }
+    ensures { MatchOption result (is_utf8 bytes.now ≡ false) (λ text. (is_utf8 bytes.now ≡ true)
+        × (text.now ≡ bytes.now)) }
 {
     match str::from_utf8(bytes) {
         Ok(text) => Some(text),
@@ -28,8 +29,8 @@ fn as_text(bytes: &[u8]) -> Option<&str>
 
 /// A text that is not empty.
 #[tactic(auto, unfolding(crate::specs::Reading::text_of))]
-pub(crate) fn text_of(bytes: &[u8]) -> Result<&str, EnvelopeError>
-    ensures { Gives (λ text. text.now) result (reading.text_of bytes.now) }
+pub fn text_of(bytes: &[u8]) -> Result<&str, EnvelopeError>
+    ensures { GivesOrForm (λ text. text.now) result (reading.text_of bytes.now) }
 {
     match as_text(bytes) {
         Some(text) if !text.is_empty() => Ok(text),
@@ -38,8 +39,8 @@ pub(crate) fn text_of(bytes: &[u8]) -> Result<&str, EnvelopeError>
 }
 
 /// A text of its own.
-pub(crate) fn owned_text_of(alloc: Global, bytes: &[u8]) -> Result<Text, EnvelopeError>
-    ensures { Gives (λ text. text) result (reading.text_of bytes.now) }
+pub fn owned_text_of(alloc: Global, bytes: &[u8]) -> Result<Text, EnvelopeError>
+    ensures { GivesOrForm (λ text. text) result (reading.text_of bytes.now) }
 {
     let text = text_of(bytes)?;
     Ok(Text::copy_of(alloc, text)?)
@@ -47,8 +48,8 @@ pub(crate) fn owned_text_of(alloc: Global, bytes: &[u8]) -> Result<Text, Envelop
 
 /// A key.
 #[tactic(auto, unfolding(crate::specs::Reading::key_of))]
-pub(crate) fn key_of(alloc: Global, bytes: &[u8]) -> Result<PublicKey, EnvelopeError>
-    ensures { Gives (λ key. key) result (reading.key_of bytes.now) }
+pub fn key_of(alloc: Global, bytes: &[u8]) -> Result<PublicKey, EnvelopeError>
+    ensures { GivesOrForm (λ key. key) result (reading.key_of bytes.now) }
 {
     let text = text_of(bytes)?;
     match PublicKey::new(alloc, text) {
@@ -60,8 +61,8 @@ pub(crate) fn key_of(alloc: Global, bytes: &[u8]) -> Result<PublicKey, EnvelopeE
 
 /// The hash that a hash text names.
 #[tactic(auto, unfolding(crate::specs::Reading::hash_of))]
-pub(crate) fn hash_of(alloc: Global, bytes: &[u8]) -> Result<AnyHash, EnvelopeError>
-    ensures { Gives (λ hash. hash) result (reading.hash_of bytes.now) }
+pub fn hash_of(alloc: Global, bytes: &[u8]) -> Result<AnyHash, EnvelopeError>
+    ensures { GivesOrForm (λ hash. hash) result (reading.hash_of bytes.now) }
 {
     let text = text_of(bytes)?;
     match AnyHash::from_text(alloc, text) {
@@ -73,8 +74,8 @@ pub(crate) fn hash_of(alloc: Global, bytes: &[u8]) -> Result<AnyHash, EnvelopeEr
 
 /// A version.
 #[tactic(auto, unfolding(crate::specs::Reading::version_of))]
-pub(crate) fn version_of(alloc: Global, bytes: &[u8]) -> Result<Version, EnvelopeError>
-    ensures { Gives parts_of result (reading.version_of bytes.now) }
+pub fn version_of(alloc: Global, bytes: &[u8]) -> Result<Version, EnvelopeError>
+    ensures { GivesOrForm parts_of result (reading.version_of bytes.now) }
 {
     let text = text_of(bytes)?;
     match Version::parse(alloc, text) {
@@ -87,7 +88,7 @@ pub(crate) fn version_of(alloc: Global, bytes: &[u8]) -> Result<Version, Envelop
 /// A permission.
 #[tactic(auto, unfolding(crate::specs::Reading::permission_of))]
 fn permission_of<P: LogPermission>(bytes: &[u8]) -> Result<P, EnvelopeError>
-    ensures { Gives P.text_of result (reading.permission_of P.kind bytes.now) }
+    ensures { GivesOrForm P.text_of result (reading.permission_of P.kind bytes.now) }
 {
     let text = text_of(bytes)?;
     match P::from_text(text) {
@@ -98,7 +99,8 @@ fn permission_of<P: LogPermission>(bytes: &[u8]) -> Result<P, EnvelopeError>
 
 /// Permissions, one field 2 for each, to the end.
 fn each_permission<P: LogPermission>(alloc: Global, bytes: &[u8]) -> Result<Vec<P>, EnvelopeError>
-    ensures { Gives (λ ps. map P.text_of ps.items) result (reading.each_field (reading.permission_of P.kind) 2 (length bytes.now) bytes.now) }
+    ensures { GivesOrForm (λ ps. map P.text_of ps.items) result (reading.each_field (reading.permission_of P.kind) 2
+        (length bytes.now) bytes.now) }
 {
     let mut permissions = Vec::new(alloc);
     let mut rest = bytes;
@@ -113,7 +115,8 @@ fn each_permission<P: LogPermission>(alloc: Global, bytes: &[u8]) -> Result<Vec<
 /// One permission or more.
 #[tactic(auto, unfolding(crate::specs::Reading::some_fields))]
 fn some_permissions<P: LogPermission>(alloc: Global, bytes: &[u8]) -> Result<Vec<P>, EnvelopeError>
-    ensures { Gives (λ ps. map P.text_of ps.items) result (reading.some_fields (reading.permission_of P.kind) 2 bytes.now) }
+    ensures { GivesOrForm (λ ps. map P.text_of ps.items) result (reading.some_fields
+        (reading.permission_of P.kind) 2 bytes.now) }
 {
     if bytes.is_empty() {
         return Err(EnvelopeError::Form);
@@ -123,8 +126,8 @@ fn some_permissions<P: LogPermission>(alloc: Global, bytes: &[u8]) -> Result<Vec
 
 /// A message of one field: the field's key, and what it holds.
 #[tactic(auto, unfolding(crate::specs::Reading::only_field))]
-pub(crate) fn only_field(bytes: &[u8]) -> Result<(u8, &[u8]), EnvelopeError>
-    ensures { Gives (λ x. (x.0, x.1.now)) result (reading.only_field bytes.now) }
+pub fn only_field(bytes: &[u8]) -> Result<(u8, &[u8]), EnvelopeError>
+    ensures { GivesOrForm (λ x. (x.0, x.1.now)) result (reading.only_field bytes.now) }
 {
     let [key, rest @ ..] = bytes else {
         return Err(EnvelopeError::Form);
@@ -138,8 +141,8 @@ pub(crate) fn only_field(bytes: &[u8]) -> Result<(u8, &[u8]), EnvelopeError>
 
 /// A message of field 1 alone.
 #[tactic(auto, unfolding(crate::specs::Reading::one_field))]
-pub(crate) fn one_field(bytes: &[u8]) -> Result<&[u8], EnvelopeError>
-    ensures { Gives (λ x. x.now) result (reading.one_field bytes.now) }
+pub fn one_field(bytes: &[u8]) -> Result<&[u8], EnvelopeError>
+    ensures { GivesOrForm (λ x. x.now) result (reading.one_field bytes.now) }
 {
     let (field, rest) = field_of(1, bytes)?;
     if !rest.is_empty() {
@@ -150,8 +153,8 @@ pub(crate) fn one_field(bytes: &[u8]) -> Result<&[u8], EnvelopeError>
 
 /// A message of the two fields 1 and 2.
 #[tactic(auto, unfolding(crate::specs::Reading::two_fields))]
-pub(crate) fn two_fields(bytes: &[u8]) -> Result<(&[u8], &[u8]), EnvelopeError>
-    ensures { Gives (λ x. (x.0.now, x.1.now)) result (reading.two_fields bytes.now) }
+pub fn two_fields(bytes: &[u8]) -> Result<(&[u8], &[u8]), EnvelopeError>
+    ensures { GivesOrForm (λ x. (x.0.now, x.1.now)) result (reading.two_fields bytes.now) }
 {
     let (first, rest) = field_of(1, bytes)?;
     let (second, rest) = field_of(2, rest)?;
@@ -163,8 +166,8 @@ pub(crate) fn two_fields(bytes: &[u8]) -> Result<(&[u8], &[u8]), EnvelopeError>
 
 /// A log's first entry: its key, and its hash algorithm.
 #[tactic(auto, unfolding(crate::specs::Reading::init_of))]
-pub(crate) fn init_of(alloc: Global, bytes: &[u8]) -> Result<(PublicKey, Text), EnvelopeError>
-    ensures { Gives (λ x. Init x.0 x.1) result (reading.init_of bytes.now) }
+pub fn init_of(alloc: Global, bytes: &[u8]) -> Result<(PublicKey, Text), EnvelopeError>
+    ensures { GivesOrForm (λ x. Init x.0 x.1) result (reading.init_of bytes.now) }
 {
     let (key, algorithm) = two_fields(bytes)?;
     let key = key_of(alloc, key)?;
@@ -174,11 +177,11 @@ pub(crate) fn init_of(alloc: Global, bytes: &[u8]) -> Result<(PublicKey, Text), 
 
 /// A key, and the permissions that it is given.
 #[tactic(auto, unfolding(crate::specs::Reading::grant_of))]
-pub(crate) fn grant_of<P: LogPermission>(
+pub fn grant_of<P: LogPermission>(
     alloc: Global,
     bytes: &[u8],
 ) -> Result<(PublicKey, Vec<P>), EnvelopeError>
-    ensures { Gives (λ x. GrantFlat x.0 (map P.text_of x.1.items)) result (reading.grant_of P.kind bytes.now) }
+    ensures { GivesOrForm (λ x. GrantFlat x.0 (map P.text_of x.1.items)) result (reading.grant_of P.kind bytes.now) }
 {
     let (key, rest) = field_of(1, bytes)?;
     let key = key_of(alloc, key)?;
@@ -188,11 +191,11 @@ pub(crate) fn grant_of<P: LogPermission>(
 
 /// A key's id, and the permissions that are taken from the key.
 #[tactic(auto, unfolding(crate::specs::Reading::revoke_of))]
-pub(crate) fn revoke_of<P: LogPermission>(
+pub fn revoke_of<P: LogPermission>(
     alloc: Global,
     bytes: &[u8],
 ) -> Result<(KeyId, Vec<P>), EnvelopeError>
-    ensures { Gives (λ x. RevokeFlat x.0 (map P.text_of x.1.items)) result (reading.revoke_of P.kind bytes.now) }
+    ensures { GivesOrForm (λ x. RevokeFlat x.0 (map P.text_of x.1.items)) result (reading.revoke_of P.kind bytes.now) }
 {
     let (key_id, rest) = field_of(1, bytes)?;
     let key_id = KeyId::from(hash_of(alloc, key_id)?);

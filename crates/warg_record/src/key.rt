@@ -20,7 +20,7 @@ use std::marker::Model;
 use warg_hash::{KeyId, NameError};
 use warg_values::{Memory, Text};
 
-// The word that names a kind of key: lower-case letters, digits and hyphens, one or more.
+/// The word that names a kind of key: lower-case letters, digits and hyphens, one or more.
 fn is_kind(text: &[u8]) -> bool
     ensures { result ≡ (nat_lt 0 (length text.now) && list_all is_kind_byte text.now) }
 {
@@ -28,7 +28,7 @@ fn is_kind(text: &[u8]) -> bool
         && text.iter().all(|b| b.is_ascii_lowercase() || b.is_ascii_digit() || *b == b'-')
 }
 
-// That a text is a word, a colon, and standard base64 with padding.
+/// That a text is a word, a colon, and standard base64 with padding.
 fn check_form(alloc: Global, text: &str) -> Result<(), NameError>
     ensures ok { OnOk result (is_key_text text.now ≡ true) }
     ensures form { IfErr result (λ e. e ≡ Form → is_key_text text.now ≡ false) }
@@ -46,8 +46,8 @@ fn check_form(alloc: Global, text: &str) -> Result<(), NameError>
     }
 }
 
-/// A public key: a word of lower-case letters, digits and hyphens that names its kind, a colon, and standard
-/// base64 with padding (RFC 4648, section 4), as `ecdsa-p256:AA==`.
+/// A public key: a word of lower-case letters, digits and hyphens that names its kind, a colon, and standard base64
+/// with padding (RFC 4648, section 4), as `ecdsa-p256:AA==`.
 ///
 /// It is equal to another and hashes by its text, and a clause sees the text's bytes.
 #[derive(Debug, Drop)]
@@ -142,8 +142,8 @@ impl Hash for PublicKey {
     }
 }
 
-/// A signature: a word of lower-case letters, digits and hyphens that names its kind, a colon, and standard
-/// base64 with padding (RFC 4648, section 4), as `ecdsa-p256:AA==`.
+/// A signature: a word of lower-case letters, digits and hyphens that names its kind, a colon, and standard base64 with
+/// padding (RFC 4648, section 4), as `ecdsa-p256:AA==`.
 ///
 /// It is equal to another and hashes by its text, and a clause sees the text's bytes.
 #[derive(Debug, Drop)]

@@ -4,8 +4,12 @@ ghost use Rattle.std.specs.Prelude.{◌≡◌, ◌<◌, ◌^◌, ℕ, List, leng
 ghost use Rattle.warg_record.specs.Record.{Kind, PlainRecord};
 ghost use Rattle.warg_record.specs.Envelope.{IsMessageOf};
 
-/// Contents are the message of one record at most. So what is written of a record of the form is read as
-/// that record again.
+/// Contents are the message of one record at most. So what is written of a record of the form is read as that record
+/// again.
 pub fn one_record()
-    ensures { (kind : Kind) (contents : List ℕ) (r s : PlainRecord) → length contents < 2 ^ 64 → IsMessageOf kind contents r → IsMessageOf kind contents s → r ≡ s }
+    ensures { (kind : Kind) (contents : List ℕ) (r s : PlainRecord)
+        → length contents < 2 ^ 64
+        → IsMessageOf kind contents r
+        → IsMessageOf kind contents s
+        → r ≡ s }
 {}

@@ -20,6 +20,3 @@ pub use key::{PublicKey, Signature};
 pub use operator::OperatorEntry;
 pub use package::PackageEntry;
 pub use record::{OperatorRecord, PackageRecord, Record};
-
-#[cfg(test)]
-mod tests;

@@ -3,7 +3,7 @@
 ghost use Rattle.std.specs.Prelude.{◌≡◌, IfOk};
 ghost use Rattle.warg_record.specs.Record.{DefineNamespace, ImportNamespace, entry_text};
 ghost use Rattle.warg_record.specs.Reading as reading;
-ghost use Rattle.warg_record.specs.Answer.{Gives};
+ghost use Rattle.warg_record.specs.Answer.{GivesOrForm};
 ghost use Rattle.warg_record.specs.View.{operator_entry_view};
 
 use crate::entry::{LogEntry, LogPermission};
@@ -146,7 +146,7 @@ impl LogEntry for OperatorEntry {
 /// A namespace to be defined.
 #[tactic(auto, unfolding(crate::specs::Reading::define_of))]
 fn define_of(alloc: Global, bytes: &[u8]) -> Result<OperatorEntry, EnvelopeError>
-    ensures { Gives operator_entry_view result (reading.define_of bytes.now) }
+    ensures { GivesOrForm operator_entry_view result (reading.define_of bytes.now) }
 {
     let namespace = one_field(bytes)?;
     let namespace = owned_text_of(alloc, namespace)?;
@@ -156,7 +156,7 @@ fn define_of(alloc: Global, bytes: &[u8]) -> Result<OperatorEntry, EnvelopeError
 /// A namespace to be imported, and the registry that holds its packages.
 #[tactic(auto, unfolding(crate::specs::Reading::import_of))]
 fn import_of(alloc: Global, bytes: &[u8]) -> Result<OperatorEntry, EnvelopeError>
-    ensures { Gives operator_entry_view result (reading.import_of bytes.now) }
+    ensures { GivesOrForm operator_entry_view result (reading.import_of bytes.now) }
 {
     let (namespace, registry) = two_fields(bytes)?;
     let namespace = owned_text_of(alloc, namespace)?;
@@ -167,7 +167,7 @@ fn import_of(alloc: Global, bytes: &[u8]) -> Result<OperatorEntry, EnvelopeError
     })
 }
 
-// The message of an entry that defines a namespace.
+/// The message of an entry that defines a namespace.
 fn define_message(alloc: Global, namespace: &str) -> Result<Vec<u8>, Memory>
     ensures { IfOk result (λ message. message.items ≡ entry_text (DefineNamespace namespace.now)) }
 {
@@ -175,7 +175,7 @@ fn define_message(alloc: Global, namespace: &str) -> Result<Vec<u8>, Memory>
     writing::message_of(alloc, 4, &body)
 }
 
-// The message of an entry that imports a namespace.
+/// The message of an entry that imports a namespace.
 fn import_message(alloc: Global, namespace: &str, registry: &str) -> Result<Vec<u8>, Memory>
     ensures { IfOk result (λ message. message.items ≡ entry_text (ImportNamespace namespace.now registry.now)) }
 {

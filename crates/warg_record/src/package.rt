@@ -4,7 +4,7 @@ ghost use Rattle.std.specs.Prelude.{◌≡◌, IfOk};
 ghost use Rattle.semver.specs.Identifiers.{parts_of};
 ghost use Rattle.warg_record.specs.Record.{Release, Yank, entry_text};
 ghost use Rattle.warg_record.specs.Reading as reading;
-ghost use Rattle.warg_record.specs.Answer.{Gives};
+ghost use Rattle.warg_record.specs.Answer.{GivesOrForm};
 ghost use Rattle.warg_record.specs.View.{package_entry_view};
 
 use crate::entry::{LogEntry, LogPermission};
@@ -139,7 +139,7 @@ impl LogEntry for PackageEntry {
 /// A released version, and the digest of its content.
 #[tactic(auto, unfolding(crate::specs::Reading::release_of))]
 fn release_of(alloc: Global, bytes: &[u8]) -> Result<PackageEntry, EnvelopeError>
-    ensures { Gives package_entry_view result (reading.release_of bytes.now) }
+    ensures { GivesOrForm package_entry_view result (reading.release_of bytes.now) }
 {
     let (version, content) = two_fields(bytes)?;
     let version = version_of(alloc, version)?;
@@ -150,14 +150,14 @@ fn release_of(alloc: Global, bytes: &[u8]) -> Result<PackageEntry, EnvelopeError
 /// A version to be yanked.
 #[tactic(auto, unfolding(crate::specs::Reading::yank_of))]
 fn yank_of(alloc: Global, bytes: &[u8]) -> Result<PackageEntry, EnvelopeError>
-    ensures { Gives package_entry_view result (reading.yank_of bytes.now) }
+    ensures { GivesOrForm package_entry_view result (reading.yank_of bytes.now) }
 {
     let version = one_field(bytes)?;
     let version = version_of(alloc, version)?;
     Ok(PackageEntry::Yank { version })
 }
 
-// The message of an entry that releases a version.
+/// The message of an entry that releases a version.
 fn release_message(alloc: Global, version: &Version, content: &AnyHash) -> Result<Vec<u8>, Memory>
     ensures { IfOk result (λ message. message.items ≡ entry_text (Release (parts_of version.now) content.now)) }
 {
@@ -166,7 +166,7 @@ fn release_message(alloc: Global, version: &Version, content: &AnyHash) -> Resul
     writing::message_of(alloc, 4, &body)
 }
 
-// The message of an entry that yanks a version.
+/// The message of an entry that yanks a version.
 fn yank_message(alloc: Global, version: &Version) -> Result<Vec<u8>, Memory>
     ensures { IfOk result (λ message. message.items ≡ entry_text (Yank (parts_of version.now))) }
 {

@@ -2,7 +2,7 @@
 
 ghost use Rattle.std.specs.Prelude.{map, length, option_map};
 ghost use Rattle.warg_record.specs.Reading as reading;
-ghost use Rattle.warg_record.specs.Answer.{Gives};
+ghost use Rattle.warg_record.specs.Answer.{GivesOrForm};
 ghost use Rattle.warg_record.specs.View.{record_view};
 
 use crate::entry::LogEntry;
@@ -34,10 +34,10 @@ pub type PackageRecord = Record<PackageEntry>;
 /// One record of a registry operator's log.
 pub type OperatorRecord = Record<OperatorEntry>;
 
-// A moment's message.
+/// A moment's message.
 #[tactic(auto, unfolding(crate::specs::Reading::moment_of))]
 fn moment_of(bytes: &[u8]) -> Result<Moment, EnvelopeError>
-    ensures { Gives (λ time. time) result (reading.moment_of bytes.now) }
+    ensures { GivesOrForm (λ time. time) result (reading.moment_of bytes.now) }
 {
     let (seconds, rest) = number_of(1, bytes)?;
     let (nanos, rest) = number_of(2, rest)?;
@@ -50,10 +50,10 @@ fn moment_of(bytes: &[u8]) -> Result<Moment, EnvelopeError>
     })
 }
 
-// The id of the record before.
+/// The id of the record before.
 #[tactic(auto, unfolding(crate::specs::Reading::optional_hash_of))]
 fn prev_of(alloc: Global, bytes: Option<&[u8]>) -> Result<Option<RecordId>, EnvelopeError>
-    ensures { Gives (λ id. id) result (reading.optional_hash_of (option_map (λ b. b.now) bytes.entry)) }
+    ensures { GivesOrForm (λ id. id) result (reading.optional_hash_of (option_map (λ b. b.now) bytes.entry)) }
 {
     match bytes {
         None => Ok(None),
@@ -64,9 +64,10 @@ fn prev_of(alloc: Global, bytes: Option<&[u8]>) -> Result<Option<RecordId>, Enve
     }
 }
 
-// Entries, one field 4 for each, to the end.
+/// Entries, one field 4 for each, to the end.
 fn each_entry<E: LogEntry>(alloc: Global, bytes: &[u8]) -> Result<Vec<E>, EnvelopeError>
-    ensures { Gives (λ es. map E.plain es.items) result (reading.each_field (reading.entry_at E.kind) 4 (length bytes.now) bytes.now) }
+    ensures { GivesOrForm (λ es. map E.plain es.items) result (reading.each_field (reading.entry_at E.kind) 4
+        (length bytes.now) bytes.now) }
 {
     let mut entries = Vec::new(alloc);
     let mut rest = bytes;
@@ -78,10 +79,10 @@ fn each_entry<E: LogEntry>(alloc: Global, bytes: &[u8]) -> Result<Vec<E>, Envelo
     Ok(entries)
 }
 
-// One entry or more.
+/// One entry or more.
 #[tactic(auto, unfolding(crate::specs::Reading::some_fields))]
 fn some_entries<E: LogEntry>(alloc: Global, bytes: &[u8]) -> Result<Vec<E>, EnvelopeError>
-    ensures { Gives (λ es. map E.plain es.items) result (reading.some_fields (reading.entry_at E.kind) 4 bytes.now) }
+    ensures { GivesOrForm (λ es. map E.plain es.items) result (reading.some_fields (reading.entry_at E.kind) 4 bytes.now) }
 {
     if bytes.is_empty() {
         return Err(EnvelopeError::Form);
@@ -91,11 +92,8 @@ fn some_entries<E: LogEntry>(alloc: Global, bytes: &[u8]) -> Result<Vec<E>, Enve
 
 /// A record's message.
 #[tactic(auto, unfolding(crate::specs::Reading::record_of))]
-pub(crate) fn record_of<E: LogEntry>(
-    alloc: Global,
-    bytes: &[u8],
-) -> Result<Record<E>, EnvelopeError>
-    ensures { Gives (record_view E.plain) result (reading.record_of E.kind bytes.now) }
+pub fn record_of<E: LogEntry>(alloc: Global, bytes: &[u8]) -> Result<Record<E>, EnvelopeError>
+    ensures { GivesOrForm (record_view E.plain) result (reading.record_of E.kind bytes.now) }
 {
     let (prev, rest) = optional_of(1, bytes)?;
     let (version, rest) = number_of(2, rest)?;

@@ -10,7 +10,7 @@ use std::alloc::Global;
 use warg_hash::KeyId;
 use warg_values::Memory;
 
-// A number in groups of seven bits, in at most `left` bytes.
+/// A number in groups of seven bits, in at most `left` bytes.
 #[tactic(auto, unfolding(crate::specs::Wire::varint_in))]
 fn push_varint(out: &mut Vec<u8>, left: u8, n: u64) -> Result<(), Memory>
     ensures { OnOk result (out.new.items ≡ out.old.items ++ varint_in left n) }
@@ -28,7 +28,7 @@ fn push_varint(out: &mut Vec<u8>, left: u8, n: u64) -> Result<(), Memory>
 }
 
 /// The field of this number that holds bytes.
-pub(crate) fn push_field(out: &mut Vec<u8>, number: u8, bytes: &[u8]) -> Result<(), Memory>
+pub fn push_field(out: &mut Vec<u8>, number: u8, bytes: &[u8]) -> Result<(), Memory>
     requires { number < 16 }
     ensures { OnOk result (out.new.items ≡ out.old.items ++ field number bytes.now) }
 {
@@ -39,7 +39,7 @@ pub(crate) fn push_field(out: &mut Vec<u8>, number: u8, bytes: &[u8]) -> Result<
 }
 
 /// The field of this number that holds a number, where that is not 0.
-pub(crate) fn push_number(out: &mut Vec<u8>, number: u8, n: u64) -> Result<(), Memory>
+pub fn push_number(out: &mut Vec<u8>, number: u8, n: u64) -> Result<(), Memory>
     requires { number < 16 }
     ensures { OnOk result (out.new.items ≡ out.old.items ++ number_field number n) }
 {
@@ -51,7 +51,7 @@ pub(crate) fn push_number(out: &mut Vec<u8>, number: u8, n: u64) -> Result<(), M
 }
 
 /// A message of the one field of this number.
-pub(crate) fn message_of(alloc: Global, number: u8, bytes: &[u8]) -> Result<Vec<u8>, Memory>
+pub fn message_of(alloc: Global, number: u8, bytes: &[u8]) -> Result<Vec<u8>, Memory>
     requires { number < 16 }
     ensures { IfOk result (λ message. message.items ≡ field number bytes.now) }
 {
@@ -61,7 +61,7 @@ pub(crate) fn message_of(alloc: Global, number: u8, bytes: &[u8]) -> Result<Vec<
 }
 
 /// A message of the two fields 1 and 2.
-pub(crate) fn two_fields(alloc: Global, first: &[u8], second: &[u8]) -> Result<Vec<u8>, Memory>
+pub fn two_fields(alloc: Global, first: &[u8], second: &[u8]) -> Result<Vec<u8>, Memory>
     ensures { IfOk result (λ message. message.items ≡ field 1 first.now ++ field 2 second.now) }
 {
     let mut message = Vec::new(alloc);
@@ -70,7 +70,7 @@ pub(crate) fn two_fields(alloc: Global, first: &[u8], second: &[u8]) -> Result<V
     Ok(message)
 }
 
-// Permissions, one field 2 for each.
+/// Permissions, one field 2 for each.
 fn push_permissions<P: LogPermission>(out: &mut Vec<u8>, permissions: &[P]) -> Result<(), Memory>
     ensures { OnOk result (out.new.items ≡ out.old.items ++ fields 2 (map P.text_of permissions.now)) }
 {
@@ -80,7 +80,7 @@ fn push_permissions<P: LogPermission>(out: &mut Vec<u8>, permissions: &[P]) -> R
     Ok(())
 }
 
-// A message of field 1 and of permissions.
+/// A message of field 1 and of permissions.
 fn with_permissions<P: LogPermission>(
     alloc: Global,
     first: &[u8],
@@ -95,11 +95,7 @@ fn with_permissions<P: LogPermission>(
 }
 
 /// The message of a log's first entry.
-pub(crate) fn init_message(
-    alloc: Global,
-    key: &PublicKey,
-    algorithm: &str,
-) -> Result<Vec<u8>, Memory>
+pub fn init_message(alloc: Global, key: &PublicKey, algorithm: &str) -> Result<Vec<u8>, Memory>
     ensures { IfOk result (λ message. message.items ≡ entry_text (Init key.now algorithm.now)) }
 {
     let body = two_fields(alloc, key.as_str().as_bytes(), algorithm.as_bytes())?;
@@ -107,7 +103,7 @@ pub(crate) fn init_message(
 }
 
 /// The message of an entry that gives permissions to a key.
-pub(crate) fn grant_message<P: LogPermission>(
+pub fn grant_message<P: LogPermission>(
     alloc: Global,
     key: &PublicKey,
     permissions: &[P],
@@ -119,12 +115,13 @@ pub(crate) fn grant_message<P: LogPermission>(
 }
 
 /// The message of an entry that takes permissions from a key.
-pub(crate) fn revoke_message<P: LogPermission>(
+pub fn revoke_message<P: LogPermission>(
     alloc: Global,
     key_id: &KeyId,
     permissions: &[P],
 ) -> Result<Vec<u8>, Memory>
-    ensures { IfOk result (λ message. message.items ≡ entry_text (RevokeFlat key_id.now (map P.text_of permissions.now))) }
+    ensures { IfOk result (λ message. message.items
+        ≡ entry_text (RevokeFlat key_id.now (map P.text_of permissions.now))) }
 {
     let body = with_permissions(alloc, key_id.hash().text_bytes().as_slice(), permissions)?;
     message_of(alloc, 3, &body)

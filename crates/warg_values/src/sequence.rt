@@ -8,8 +8,8 @@ use std::marker::Model;
 
 /// A list that owns its items.
 ///
-/// A clause sees it as the list of its items, wherever they lie in memory. The public types of the
-/// workspace hold it in place of a `Vec`.
+/// A clause sees it as the list of its items, wherever they lie in memory. The public types of the workspace hold it in
+/// place of a `Vec`.
 #[derive(Debug, Drop)]
 pub struct Sequence<T> {
     items: Vec<T>,

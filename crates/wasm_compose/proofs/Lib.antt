@@ -1,2 +1,2 @@
-mod TakenLaws
+mod ComponentLaws
 mod LinkLaws

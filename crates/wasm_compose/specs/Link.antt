@@ -6,7 +6,7 @@ use Rattle.comp_format.specs.declared.types.InstanceItem.TheVariants as instance
 use Rattle.comp_format.specs.declared.types.Alias.TheVariants as alias
 use Rattle.comp_format.specs.Items.{ItemTree, Component, Instance, Aliased, Export}
 use Rattle.comp_format.specs.Sections.{Reads}
-use Rattle.comp_encoder.specs.Writing.{Entry, Single, IsShort, groups_of}
+use Rattle.comp_encoder.specs.Writing.{Entry, Single, IsShort, sections_of}
 use Rattle.comp_shape.specs.Image.{Image, image}
 
 -- each export: an alias of the instance's export, and the export of that. Both stand in the index space of types.
@@ -32,7 +32,7 @@ pub record NamesFit (names : List (List ℕ)) : Type 0 where
 pub record LinkFits (root : List ℕ) (names : List (List ℕ)) : Type 0 where
   pub component : length root < 2 ^ 32
   pub names_fit : NamesFit names
-  pub sections : AllByRecursion IsShort (groups_of (singles (link_items root names)))
+  pub sections : AllByRecursion IsShort (sections_of (singles (link_items root names)))
 
 -- one component, one instance of it without arguments, no imports, and the component's exports
 abbrev pub link_image : List ℕ → List (List ℕ) → Image

@@ -5,18 +5,213 @@ ghost use Rattle.comp_format.specs.Sections.{component_at};
 ghost use Rattle.wasm_compose.specs.Content.{content_bytes};
 
 use crate::content::Content;
-use crate::export::ComponentExport;
-use comp_shape::Shape;
-use warg_base::Text;
+use crate::error::ComponentError;
+use crate::export::{ComponentExport, ExportIndex, Exports};
+use comp_format::{Item, Sort};
+use comp_shape::{Shape, ShapeError, read_component};
+use std::alloc::Global;
+use warg_base::{FileError, Files, Memory, Text};
 
 /// A component to be linked: its name, its bytes, and its shape.
 #[derive(Debug, Drop)]
 pub struct Component<'a> {
+    /// The name, which is not empty.
     pub(crate) name: Text,
+    /// The path of the file that it was read from, where it was.
     pub(crate) path: Option<Text>,
+    /// The bytes.
     pub(crate) content: Content<'a>,
+    /// What it imports and exports, as types with all indices followed.
     pub(crate) shape: Shape,
+    /// The exports among its items, in order.
     pub(crate) exports: Vec<ComponentExport>,
     ghost is_component: { is_ok (component_at 1 (content_bytes content)) ≡ true },
     ghost named: { All (λ e. 0 < length e.0) shape.exports.items },
+}
+
+impl<'a> Component<'a> {
+    ghost use Rattle.std.specs.Prelude.{◌≤◌, ◌↔◌, [], Some, None, map, slice_get, option_map, IfOk, IfErr, IfSome, Err};
+    ghost use Rattle.std.specs.List.{flat_map};
+    ghost use Rattle.std.specs.Slice.Iter.{iter_rest};
+    ghost use Rattle.warg_values.specs.Faults.{Rose};
+    ghost use Rattle.warg_base.specs.Files.{file_at};
+    ghost use Rattle.warg_base.specs.declared.files.FileError.{FileError as file_error};
+    ghost use Rattle.warg_base.specs.declared.files.FileError.TheVariants as file;
+    ghost use Rattle.comp_format.specs.Items.{item_tree};
+    ghost use Rattle.comp_shape.specs.declared.error.ShapeError.{ShapeError as shape_error};
+    ghost use Rattle.comp_shape.specs.Views.{shape_tree};
+    ghost use Rattle.wasm_compose.specs.Component.{IsRead, IsRefused, IsReadAs, IsOfBytes, RefusedAt, name_of, path_of, bytes_of, shape_of, exports_of, export_in};
+    ghost use Rattle.wasm_compose.specs.declared.error.ComponentError.TheVariants.{BadName as bad_name, BadComponent as bad_component, File as bad_file};
+
+    /// The component of these bytes, under a name.
+    ///
+    /// `BadName` is answered exactly for the empty name, and `BadComponent` exactly where [`read_component`] refuses the
+    /// bytes.
+    pub fn from_bytes(
+        alloc: Global,
+        name: &str,
+        bytes: &'a [u8],
+    ) -> Result<Component<'a>, ComponentError>
+        ensures taken { IfOk result (λ c. (name_of c ≡ name.now) × (path_of c ≡ None)) }
+        ensures read { IfOk result (λ c. IsRead c bytes.now) }
+        ensures bad_name { (result ≡ Err bad_name) ↔ (name.now ≡ []) }
+        ensures bad_component { (e : shape_error) → result ≡ Err (bad_component e) → IsRefused e bytes.now }
+        ensures no_file { (e : file_error) → result ≡ Err (bad_file e) → ⊥ }
+    {
+        if name.is_empty() {
+            return Err(ComponentError::BadName);
+        }
+        let shown = Self::shown(alloc, bytes)?;
+        let component = Self::named(alloc, name, None, Content::Lent(bytes), shown)?;
+        Ok(component)
+    }
+
+    /// What the bytes of a component show.
+    fn shown(alloc: Global, bytes: &[u8]) -> Result<(Shape, Vec<ComponentExport>), ComponentError>
+        ensures read { IfOk result (λ x. IsReadAs bytes.now x.0 x.1.items) }
+        ensures named { IfOk result (λ x. All (λ e. 0 < length e.0) x.0.exports.items) }
+        ensures bad_component { (e : shape_error) → result ≡ Err (bad_component e) → IsRefused e bytes.now }
+        ensures only { IfErr result IsOfBytes }
+    {
+        let (items, shape) = match read_component(alloc, bytes) {
+            Ok(read) => read,
+            Err(ShapeError::Memory) => return Err(ComponentError::Memory),
+            Err(error) => return Err(ComponentError::BadComponent(error)),
+        };
+        let exports = Self::exports_among(alloc, items)?;
+        Ok((shape, exports))
+    }
+
+    /// The exports among items.
+    fn exports_among(alloc: Global, items: Vec<Item<'_>>) -> Result<Vec<ComponentExport>, Memory>
+        ensures { IfOk result (λ exports. exports.items ≡ flat_map export_in (map item_tree items.entry.items)) }
+    {
+        let mut exports = Vec::new(alloc);
+        for item in items {
+            if let Item::Export {
+                name,
+                sort,
+                index,
+                ty: _,
+            } = item
+            {
+                exports.push(ComponentExport { name, sort, index })?;
+            }
+        }
+        Ok(exports)
+    }
+
+    /// A component of bytes that were read, under a name.
+    fn named(
+        alloc: Global,
+        name: &str,
+        path: Option<Text>,
+        content: Content<'a>,
+        shown: (Shape, Vec<ComponentExport>),
+    ) -> Result<Component<'a>, Memory>
+        requires read { IsReadAs (content_bytes content) shown.0 shown.1.items }
+        requires named { All (λ e. 0 < length e.0) shown.0.exports.items }
+        ensures taken { IfOk result (λ c. (name_of c ≡ name.now) × (path_of c ≡ path)) }
+        ensures read { IfOk result (λ c. IsRead c (content_bytes content.entry)) }
+    {
+        let (shape, exports) = shown;
+        let name = Text::copy_of(alloc, name)?;
+        Ok(Component {
+            name,
+            path,
+            content,
+            shape,
+            exports,
+        })
+    }
+
+    /// The component of the file at `path`, under a name.
+    ///
+    /// `BadName` is answered exactly for the empty name, and then no file is read. `File` tells that the file is missing
+    /// or could not be read, and `BadComponent` is answered exactly where [`read_component`] refuses its bytes.
+    pub fn from_file<F: Files>(
+        alloc: Global,
+        files: &mut F,
+        name: &str,
+        path: &str,
+    ) -> Result<Component<'a>, ComponentError>
+        ensures never_falls { F.faults files.old ≤ F.faults files.new }
+        ensures kept { F.told files.new ≡ F.told files.old }
+        ensures taken { IfOk result (λ c. (name_of c ≡ name.now) × (path_of c ≡ Some path.now)) }
+        ensures read { IfOk result (λ c. IsRead c (bytes_of c)) }
+        ensures found { IfOk result
+            (λ c. IfSome (F.told files.old) (λ held. file_at held path.now ≡ Some (bytes_of c))) }
+        ensures bad_name { (result ≡ Err bad_name) ↔ (name.now ≡ []) }
+        ensures missing { result ≡ Err (bad_file file.Missing)
+            → IfSome (F.told files.old) (λ held. file_at held path.now ≡ None) }
+        ensures failed { result ≡ Err (bad_file file.Failed) → Rose (F.faults files.old) (F.faults files.new) }
+        ensures no_memory { result ≡ Err (bad_file file.Memory) → ⊥ }
+        ensures bad_component { (e : shape_error) → result ≡ Err (bad_component e)
+            → RefusedAt e (F.told files.old) path.now }
+    {
+        if name.is_empty() {
+            return Err(ComponentError::BadName);
+        }
+        let bytes = match files.read(alloc, path) {
+            Ok(bytes) => bytes,
+            Err(FileError::Memory) => return Err(ComponentError::Memory),
+            Err(error) => return Err(ComponentError::File(error)),
+        };
+        let shown = Self::shown(alloc, &bytes)?;
+        let path = Text::copy_of(alloc, path)?;
+        let component = Self::named(alloc, name, Some(path), Content::Owned(bytes), shown)?;
+        Ok(component)
+    }
+
+    /// The name.
+    pub fn name(&self) -> &str
+        ensures { result.now ≡ name_of self.now }
+    {
+        self.name.as_str()
+    }
+
+    /// The path of the file that it was read from, where it was.
+    pub fn path(&self) -> Option<&str>
+        ensures { option_map (λ path. path.now) result ≡ path_of self.now }
+    {
+        match &self.path {
+            Some(path) => Some(path.as_str()),
+            None => None,
+        }
+    }
+
+    /// The bytes.
+    pub fn bytes(&self) -> &[u8]
+        ensures { result.now ≡ bytes_of self.now }
+    {
+        match &self.content {
+            Content::Lent(bytes) => bytes,
+            Content::Owned(bytes) => bytes,
+        }
+    }
+
+    /// What it imports and exports, as types with all indices followed.
+    pub fn types(&self) -> &Shape
+        ensures { shape_tree result.now ≡ shape_of self.now }
+    {
+        &self.shape
+    }
+
+    /// The export of this place: its name, what it is, and the index of that in the component's index space.
+    pub fn export(&self, index: ExportIndex) -> Option<(&str, Sort, u32)>
+        ensures { option_map (λ e. record { name = e.0.now; sort = e.1; index = e.2 }) result
+            ≡ slice_get (exports_of self.now) index.0 }
+    {
+        match self.exports.get(index.0) {
+            Some(export) => Some((export.name.as_str(), export.sort, export.index)),
+            None => None,
+        }
+    }
+
+    /// The exports, in order.
+    pub fn exports(&self) -> Exports<'_>
+        ensures { iter_rest result ≡ exports_of self.now }
+    {
+        self.exports.iter()
+    }
 }

@@ -29,8 +29,11 @@ impl fmt::Display for ExportIndex {
 /// An export of a component: its name, what it is, and the index of that in the component's index space.
 #[derive(Debug, Drop)]
 pub struct ComponentExport {
+    /// The name.
     pub name: Text,
+    /// What it is.
     pub sort: Sort,
+    /// Its index in the index space of its sort.
     pub index: u32,
 }
 

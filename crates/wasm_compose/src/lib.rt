@@ -6,10 +6,11 @@ mod content;
 mod error;
 mod export;
 mod link;
-mod readers;
-mod taken;
 
+pub use comp_format::Sort;
+pub use comp_shape::{Shape, ShapeError};
 pub use component::Component;
 pub use error::{ComponentError, ComposeError};
 pub use export::{ComponentExport, ExportIndex, Exports};
 pub use link::link_root;
+pub use warg_base::{FileError, Files, Text};

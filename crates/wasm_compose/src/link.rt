@@ -20,9 +20,14 @@ use warg_base::Text;
 /// Exports an export of the first instance under its own name.
 fn link_export(alloc: Global, builder: &mut ComponentBuilder, name: &str) -> Result<(), EncodeError>
     requires { 0 < length name.now }
-    ensures added { OnOk result (entries_of builder.new ≡ entries_of builder.old ++ singles (link_exports (next_index sort.Ty (entries_of builder.old)) (name.now ∷ []))) }
-    ensures fits { OnOk result ((length name.now < 2 ^ 32) × (next_index sort.Ty (entries_of builder.old) + 2 < 2 ^ 32)) }
-    ensures too_large { (n : ℕ) → result ≡ Err (encode_error.TooLarge n) → (2 ^ 32 ≤ n) × (length name.now < 2 ^ 32 → next_index sort.Ty (entries_of builder.old) + 2 < 2 ^ 32 → ⊥) }
+    ensures added { OnOk result
+        (entries_of builder.new
+        ≡ entries_of builder.old
+        ++ singles (link_exports (next_index sort.Ty (entries_of builder.old)) (name.now ∷ []))) }
+    ensures fits { OnOk result
+        ((length name.now < 2 ^ 32) × (next_index sort.Ty (entries_of builder.old) + 2 < 2 ^ 32)) }
+    ensures too_large { (n : ℕ) → result ≡ Err (encode_error.TooLarge n)
+        → (2 ^ 32 ≤ n) × (length name.now < 2 ^ 32 → next_index sort.Ty (entries_of builder.old) + 2 < 2 ^ 32 → ⊥) }
 {
     let index = builder.alias_export(alloc, 0, name, Sort::Ty)?;
     builder.export(alloc, name, Sort::Ty, index, None)?;
@@ -37,9 +42,11 @@ fn link_each(
 ) -> Result<(), EncodeError>
     requires named { All (λ e. 0 < length e.0) exports.now }
     requires first { next_index sort.Ty (entries_of builder.old) ≡ 0 }
-    ensures added { OnOk result (entries_of builder.new ≡ entries_of builder.old ++ singles (link_exports 0 (map (λ e. e.0) exports.now))) }
+    ensures added { OnOk result
+        (entries_of builder.new ≡ entries_of builder.old ++ singles (link_exports 0 (map (λ e. e.0) exports.now))) }
     ensures fits { OnOk result (NamesFit (map (λ e. e.0) exports.now)) }
-    ensures too_large { (n : ℕ) → result ≡ Err (encode_error.TooLarge n) → (2 ^ 32 ≤ n) × (NamesFit (map (λ e. e.0) exports.now) → ⊥) }
+    ensures too_large { (n : ℕ) → result ≡ Err (encode_error.TooLarge n)
+        → (2 ^ 32 ≤ n) × (NamesFit (map (λ e. e.0) exports.now) → ⊥) }
 {
     for (name, _) in exports {
         link_export(alloc, builder, name.as_str())?;
@@ -49,9 +56,11 @@ fn link_each(
 
 /// The component that nests `component`, as its items.
 fn build(alloc: Global, component: &Component<'_>) -> Result<ComponentBuilder, EncodeError>
-    ensures items { IfOk result (λ builder. entries_of builder ≡ singles (link_items (bytes_of component.now) (export_names component.now))) }
+    ensures items { IfOk result
+        (λ builder. entries_of builder ≡ singles (link_items (bytes_of component.now) (export_names component.now))) }
     ensures fits { OnOk result ((length (bytes_of component.now) < 2 ^ 32) × NamesFit (export_names component.now)) }
-    ensures too_large { (n : ℕ) → result ≡ Err (encode_error.TooLarge n) → (2 ^ 32 ≤ n) × (length (bytes_of component.now) < 2 ^ 32 → NamesFit (export_names component.now) → ⊥) }
+    ensures too_large { (n : ℕ) → result ≡ Err (encode_error.TooLarge n)
+        → (2 ^ 32 ≤ n) × (length (bytes_of component.now) < 2 ^ 32 → NamesFit (export_names component.now) → ⊥) }
 {
     let mut builder = ComponentBuilder::new(alloc);
     builder.component_raw(alloc, component.bytes())?;
@@ -65,9 +74,12 @@ fn build(alloc: Global, component: &Component<'_>) -> Result<ComponentBuilder, E
 /// `TooLarge` is answered exactly where a length, a count or an index to be written is above 2^32 - 1.
 pub fn link_root(alloc: Global, component: &Component<'_>) -> Result<Vec<u8>, ComposeError>
     ensures linked { IfOk result (λ bytes. IsLinked (bytes_of component.now) (export_names component.now) bytes.items) }
-    ensures written { IfOk result (λ bytes. bytes.items ≡ component_text (singles (link_items (bytes_of component.now) (export_names component.now)))) }
+    ensures written { IfOk result
+        (λ bytes.
+        bytes.items ≡ component_text (singles (link_items (bytes_of component.now) (export_names component.now)))) }
     ensures fits { OnOk result (LinkFits (bytes_of component.now) (export_names component.now)) }
-    ensures too_large { (n : ℕ) → result ≡ Err (too_large n) → (2 ^ 32 ≤ n) × (LinkFits (bytes_of component.now) (export_names component.now) → ⊥) }
+    ensures too_large { (n : ℕ) → result ≡ Err (too_large n)
+        → (2 ^ 32 ≤ n) × (LinkFits (bytes_of component.now) (export_names component.now) → ⊥) }
 {
     let builder = build(alloc, component)?;
     let bytes = builder.finish(alloc)?;

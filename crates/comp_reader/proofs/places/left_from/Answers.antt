@@ -2,7 +2,7 @@ use Rattle.std.proofs.Common.{◌≡◌, ◌+◌, length, sym, ap, ◌∙◌, ar
 use Rattle.std.proofs.lemmas.Grind.{common_steps}
 use Rattle.std.proofs.lemmas.Result.{err_from_is_err_and}
 use Rattle.comp_format.specs.Sections.{section_id}
-use Rattle.comp_reader.proofs.ItemLaws.{memory_is}
+use Rattle.comp_reader.proofs.ItemLaws.{still_memory}
 use Rattle.comp_reader.proofs.PlaceLaws.{framed_there, at_section, left_behind, not_looked_up}
 use Rattle.comp_reader.proofs.places.left_from.Goals as goal
 
@@ -23,5 +23,5 @@ returns-in-Ok c = λ s content behind item lt framed first.
 
 pub returns-in-Err : goal.returns-in-Err
 returns-in-Err c = λ s content behind item lt framed first.
-    memory_is c.in-Err.error c.before-in-Err.result c.before-in-Err.ensures
+    still_memory c.in-Err.error c.before-in-Err.result c.before-in-Err.ensures
     (not_looked_up s c.args.number c.args.section.now content behind item lt framed first c.in_ok-id.id c.in_ok-id.content.now c.in_ok-id.behind.now c.in_ok-id.ensures c.in-Err.error (sym c.is_one_item.ensures ∙ c.if-is_one_item.false) c.in-Err.ensures)

@@ -2,7 +2,7 @@ use Rattle.std.proofs.Common.{◌≡◌, ◌<◌, length, arith}
 use Rattle.std.proofs.lemmas.Grind.{common_steps}
 use Rattle.std.proofs.lemmas.Result.{err_from_is_err_and}
 use Rattle.comp_format.specs.Sections.{section_id}
-use Rattle.comp_reader.proofs.ItemLaws.{frame_shorter, memory_is}
+use Rattle.comp_reader.proofs.ItemLaws.{frame_shorter, still_memory}
 use Rattle.comp_reader.proofs.PlaceLaws.{begins, goes_on, on_it, past_it, not_ended, front_section, framed_there, counted_there}
 use Rattle.comp_reader.proofs.places.section_of.Goals as goal
 
@@ -22,14 +22,14 @@ returns-in_err-id-clause-behind c = λ ss form fewer.
 pub returns-in-Err-clause-found : goal.returns-in-Err-clause-found
 returns-in-Err-clause-found c = λ this within section behind there form.
     let w = on_it c.args.number c.args.sections.now c.loop-rest.left c.loop-rest.rest.now c.loop-rest.invariant this within section behind there form in
-    memory_is c.in-Err.error c.before-in-Err.result c.before-in-Err.ensures
+    still_memory c.in-Err.error c.before-in-Err.result c.before-in-Err.ensures
     (counted_there c.in-Err.error w.first c.loop-rest.rest.now w.after w.form c.in_ok-id.id c.in_ok-id.content.now c.in_ok-id.after.now c.in_ok-id.ensures c.in-Err.ensures)
 
 pub returns-in-Err-clause-behind : goal.returns-in-Err-clause-behind
 returns-in-Err-clause-behind c = λ ss form fewer.
     let some : 0 < length c.loop-rest.rest.now = grind (arith, common_steps) in
     let w = past_it c.args.number c.args.sections.now c.loop-rest.left c.loop-rest.rest.now c.loop-rest.invariant ss form fewer some in
-    memory_is c.in-Err.error c.before-in-Err.result c.before-in-Err.ensures
+    still_memory c.in-Err.error c.before-in-Err.result c.before-in-Err.ensures
     (counted_there c.in-Err.error w.first c.loop-rest.rest.now w.after w.form c.in_ok-id.id c.in_ok-id.content.now c.in_ok-id.after.now c.in_ok-id.ensures c.in-Err.ensures)
 
 pub returns-then-left-count-clause-found : goal.returns-then-left-count-clause-found

@@ -1,6 +1,6 @@
 use Rattle.std.proofs.Common.{◌≡◌, ◌∷◌, ◌++◌, [], sym, subst, ◌∙◌}
-use Rattle.warg_log.specs.Known.{known_by, undone_all, CanUndoAll}
-use Rattle.warg_log.proofs.KnownLaws.{undone_all-push, CanUndoAll-pop}
+use Rattle.warg_log.specs.Facts.{known_by, undone_all, CanUndoAll}
+use Rattle.warg_log.proofs.FactsLaws.{undone_all-push, CanUndoAll-pop}
 use Rattle.warg_log.proofs.judged.undo_all.Goals as goal
 
 pub undo-requires : goal.undo-requires

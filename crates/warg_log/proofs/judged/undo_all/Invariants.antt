@@ -1,5 +1,5 @@
 use Rattle.std.proofs.Common.{◌≡◌, vec_len}
-use Rattle.warg_log.specs.Known.{known_by, undone_all, CanUndoAll}
+use Rattle.warg_log.specs.Facts.{known_by, undone_all, CanUndoAll}
 use Rattle.warg_log.proofs.judged.undo_all.Given as goal
 
 abbrev pub invariant-loop-undo : goal.invariant-loop-undo

@@ -2,7 +2,7 @@ use Rattle.std.proofs.Common.{◌≡◌, ◌∙◌, Result, Err, refl, sym, ap}
 use Rattle.std.proofs.lemmas.Result.{err_from_is_err_and}
 use Rattle.comp_format.specs.declared.error.EncodeError.{EncodeError}
 use Rattle.comp_format.specs.declared.error.EncodeError.TheVariants as encode_error
-use Rattle.wasm_compose.proofs.TakenLaws.{is_read}
+use Rattle.wasm_compose.proofs.ComponentLaws.{is_read}
 use Rattle.wasm_compose.proofs.LinkLaws.{names_are}
 use Rattle.wasm_compose.proofs.link.build.Goals as goal
 

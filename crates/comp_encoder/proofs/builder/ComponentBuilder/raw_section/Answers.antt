@@ -8,7 +8,7 @@ use Rattle.comp_format.specs.declared.types.Sort.{Sort}
 use Rattle.comp_format.specs.Items.{ItemTree}
 use Rattle.comp_format.specs.Sections.{ContentForm}
 use Rattle.comp_format.specs.Spaces.{space_of}
-use Rattle.comp_encoder.specs.Writing.{RawSection, next_index, numbered}
+use Rattle.comp_encoder.specs.Writing.{GivenSection, next_index, numbered}
 use Rattle.comp_encoder.specs.Builder.{Kept, Whole, IsBuilt, kept, kepts_of, entries_of}
 use Rattle.comp_encoder.proofs.CountLaws.{section_built, entries_section}
 use Rattle.comp_encoder.proofs.builder.ComponentBuilder.raw_section.Goals as goal
@@ -46,8 +46,8 @@ returns-clause-added c = λ items is.
     let same : content ≡ c.args.content.now = c.in_ok-content.ensures.items in
     let form : ContentForm is.section content = subst (ContentForm is.section) (sym same) is.form in
     ap (λ built. entries_of (kepts_of built)) c.in_ok-push.ensures.items ∙ ap entries_of (map-append kept c.self.inside.items.items _) ∙ entries_section ks c.args.id content is.section is.id_is form
-    ∙ ap (λ (xs : List ItemTree). entries_of ks ++ RawSection c.args.id content xs ∷ []) is.items_are ∙ ap (λ (bytes : List ℕ). entries_of ks ++ RawSection c.args.id bytes items ∷ []) same
-    ∙ ap (λ (js : List Kept). entries_of js ++ RawSection c.args.id c.args.content.now items ∷ []) c.self.view_is
+    ∙ ap (λ (xs : List ItemTree). entries_of ks ++ GivenSection c.args.id content xs ∷ []) is.items_are ∙ ap (λ (bytes : List ℕ). entries_of ks ++ GivenSection c.args.id bytes items ∷ []) same
+    ∙ ap (λ (js : List Kept). entries_of js ++ GivenSection c.args.id c.args.content.now items ∷ []) c.self.view_is
 
 pub returns-clause-small : goal.returns-clause-small
 returns-clause-small c = λ kind.

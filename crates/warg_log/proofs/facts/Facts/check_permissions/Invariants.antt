@@ -1,5 +1,5 @@
 use Rattle.std.proofs.Common.{◌≡◌, drop, map}
-use Rattle.warg_log.specs.Known.{known_by, each_unheld}
+use Rattle.warg_log.specs.Facts.{known_by, each_unheld}
 use Rattle.warg_log.proofs.facts.Facts.check_permissions.Given as goal
 
 abbrev pub invariant-loop-permission : goal.invariant-loop-permission

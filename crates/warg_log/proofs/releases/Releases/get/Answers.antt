@@ -2,7 +2,7 @@ use Rattle.std.proofs.Common.{◌≡◌, ◌<◌, length, get_or, Some, sym, ap,
 use Rattle.std.proofs.lemmas.List.{length-map, get_or-map}
 use Rattle.semver.specs.Identifiers.{parts_of}
 use Rattle.warg_log.specs.Places.{release_view, release_views}
-use Rattle.warg_log.proofs.KnownLaws.{place_among-within, none_found, some_found}
+use Rattle.warg_log.proofs.FactsLaws.{place_among-within, none_found, some_found}
 use Rattle.warg_log.proofs.releases.Releases.get.Goals as goal
 
 pub bounds-as_slice-place : goal.bounds-as_slice-place

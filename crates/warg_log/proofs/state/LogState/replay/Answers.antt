@@ -1,10 +1,10 @@
 use Rattle.std.proofs.Common.{◌≡◌, ◌+◌, List, None, take, drop, map, sym, subst, ◌∙◌}
 use Rattle.std.proofs.lemmas.Bool.{false≢true}
-use Rattle.warg_log.specs.Faults.{IsFault}
+use Rattle.warg_log.specs.Breaches.{IsBreach}
 use Rattle.warg_log.specs.Follows.{Follows, signed}
 use Rattle.warg_log.specs.Lawful.{IsLawful}
-use Rattle.warg_log.specs.Rules.{Signed, any_signature, fault_of}
-use Rattle.warg_log.proofs.FollowsLaws.{lawful-none, lawful-push, no_fault, cut_at, one_at}
+use Rattle.warg_log.specs.Rules.{Signed, any_signature, breach_of}
+use Rattle.warg_log.proofs.FollowsLaws.{lawful-none, lawful-push, no_breach, cut_at, one_at}
 use Rattle.warg_log.proofs.state.LogState.replay.Goals.{then-wants_memory, else-wants_memory}
 use Rattle.warg_log.proofs.state.LogState.replay.Goals as goal
 
@@ -17,9 +17,9 @@ returns-in-Err g c = elim c.if-wants_memory.branch [
   | else-wants_memory w ↦
       rw w.result-is (λ lawful.
       let before : List Signed = map (signed g.E.LogEntry.plain) (take c.loop-env.env-index c.args.envs.now) in
-      let ok : fault_of g.E.LogEntry.kind any_signature before (signed g.E.LogEntry.plain c.env-item.result) ≡ None
+      let ok : breach_of g.E.LogEntry.kind any_signature before (signed g.E.LogEntry.plain c.env-item.result) ≡ None
       = lawful before (map (signed g.E.LogEntry.plain) (drop (c.loop-env.env-index + 1) c.args.envs.now)) (signed g.E.LogEntry.plain c.env-item.result) (cut_at (signed g.E.LogEntry.plain) c.args.envs.now c.loop-env.env-index c.env-item.result c.loop-env-test.true c.env-item.is) in
-      absurd (false≢true (sym w.if-wants_memory.false ∙ c.wants_memory.ensures ∙ no_fault c.in-Err.error (subst (IsFault c.in-Err.error) ok (c.in-Err.ensures.err before c.loop-env.invariant.follows)))))
+      absurd (false≢true (sym w.if-wants_memory.false ∙ c.wants_memory.ensures ∙ no_breach c.in-Err.error (subst (IsBreach c.in-Err.error) ok (c.in-Err.ensures.err before c.loop-env.invariant.follows)))))
 ]
 
 pub loop-env-preserved : goal.loop-env-preserved

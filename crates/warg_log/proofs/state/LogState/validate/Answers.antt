@@ -2,10 +2,10 @@ use Rattle.std.proofs.Common.{◌∷◌, ◌++◌, [], List, not, map, sym, subs
 use Rattle.std.specs.Prelude.{is_some}
 use Rattle.std.proofs.lemmas.Result.{err_from_is_err_and, IfErr-weaker}
 use Rattle.warg_log.specs.Agrees.{Agrees}
-use Rattle.warg_log.specs.Faults.{IsFault}
+use Rattle.warg_log.specs.Breaches.{IsBreach}
 use Rattle.warg_log.specs.Follows.{Follows, signed}
-use Rattle.warg_log.specs.Known.{known_by, known_entries_fault}
-use Rattle.warg_log.specs.Rules.{Signed, fault_of, entries_of}
+use Rattle.warg_log.specs.Facts.{known_by, known_entries_breach}
+use Rattle.warg_log.specs.Rules.{Signed, breach_of, entries_of}
 use Rattle.warg_log.proofs.FollowsLaws.{passed, signer-refused, head-push, agrees-push, on_ok, on_ok_all}
 use Rattle.warg_log.proofs.state.LogState.validate.Goals as goal
 
@@ -27,7 +27,7 @@ returns-clause-follows g c = on_ok_all c.enter.result
 
 pub returns-clause-err : goal.returns-clause-err
 returns-clause-err g c = IfErr-weaker c.enter.result
-    (λ e. IsFault e (known_entries_fault g.E.LogEntry.kind c.args.env.now.key_id (not (is_some c.args.self.now.head)) (known_by c.args.self.now.facts) (map g.E.LogEntry.plain c.args.env.now.rec.entries.items)))
-    (λ e. (log : List Signed) → Follows {E = g.row.E.Denot} g.E.LogEntry.kind c.args.self.now log → IsFault e (fault_of g.E.LogEntry.kind (g.V.Verifier.good c.args.verifier.now) log (signed g.E.LogEntry.plain c.args.env.now)))
-    (λ e bad log f. subst (IsFault e) (passed g.E.LogEntry.kind (g.V.Verifier.good c.args.verifier.now) c.args.self.now.head (known_by c.args.self.now.facts) log (signed g.E.LogEntry.plain c.args.env.now) c.in_ok-key.key.now f.head f.agrees c.in_ok-check_head.ensures.ok c.in_ok-key.ensures.lacks c.in_ok-key.ensures.key (sym c.in_ok-is_signed.ensures ∙ c.if-not-branch.false)) bad)
+    (λ e. IsBreach e (known_entries_breach g.E.LogEntry.kind c.args.env.now.key_id (not (is_some c.args.self.now.head)) (known_by c.args.self.now.facts) (map g.E.LogEntry.plain c.args.env.now.rec.entries.items)))
+    (λ e. (log : List Signed) → Follows {E = g.row.E.Denot} g.E.LogEntry.kind c.args.self.now log → IsBreach e (breach_of g.E.LogEntry.kind (g.V.Verifier.good c.args.verifier.now) log (signed g.E.LogEntry.plain c.args.env.now)))
+    (λ e bad log f. subst (IsBreach e) (passed g.E.LogEntry.kind (g.V.Verifier.good c.args.verifier.now) c.args.self.now.head (known_by c.args.self.now.facts) log (signed g.E.LogEntry.plain c.args.env.now) c.in_ok-key.key.now f.head f.agrees c.in_ok-check_head.ensures.ok c.in_ok-key.ensures.lacks c.in_ok-key.ensures.key (sym c.in_ok-is_signed.ensures ∙ c.if-not-branch.false)) bad)
     c.enter.ensures.err

@@ -1,0 +1,9 @@
+//! Tests of the program's run, and of the host's files and output, which no clause speaks of.
+#![tactic(auto)]
+
+#[cfg(test)]
+mod host;
+#[cfg(test)]
+mod link;
+#[cfg(test)]
+mod texts;

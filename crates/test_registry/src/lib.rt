@@ -1,0 +1,13 @@
+//! Tests of the crates of the registry: what other programs computed of the same input, and each error once.
+#![tactic(auto)]
+
+#[cfg(test)]
+mod hash;
+#[cfg(test)]
+mod log;
+#[cfg(test)]
+mod proof;
+#[cfg(test)]
+mod record;
+#[cfg(test)]
+mod values;
