@@ -7,6 +7,7 @@
 #
 # It wants `rt`, and Linux, for /proc. The row of a crate is what was seen of its processes, of which up to the last second
 # of each is missed; the row "beside these" is the rest of what the system counted: compilers, tests, programs, and rt itself.
+# The peak of memory is by how much less the machine had at hand than at the start, so nothing else should run.
 set -eu
 
 here=$(CDPATH='' cd -- "$(dirname "$0")" && pwd -P)
@@ -14,8 +15,8 @@ here=$(CDPATH='' cd -- "$(dirname "$0")" && pwd -P)
 cd "${1:-$here/..}"
 command -v rt >/dev/null 2>&1 || fail "the command 'rt' is missing"
 
-# The processes below one, a line each: which it is and when it began, what it does, for which crate, its processor time in
-# ticks, and its memory in pages. A proof is `rattle build`, one with tests has `--test`, and an edit is `rattle check`.
+# The processes below one, a line each: which it is and when it began, what it does, for which crate, and its processor time
+# in ticks. A proof is `rattle build`, one with tests has `--test`, and an edit is `rattle check`.
 look='
     {
         pid = $1
@@ -43,12 +44,18 @@ look='
                 crate = substr(args[pid], RSTART + 13, RLENGTH - 13)
                 kind = args[pid] ~ / --test( |$)/ ? "tests" : args[pid] ~ /^[^ ]*rattle check / ? "edits" : "proof"
             }
-            print pid "-" field[20], kind, crate, field[12] + field[13], field[22]
+            print pid "-" field[20], kind, crate, field[12] + field[13]
         }
-        print "-"
     }'
 
+# How much memory the machine has at hand, in KiB.
+at_hand() {
+    awk '/^MemAvailable:/ { print $2 }' /proc/meminfo
+}
+
 begin=$(date +%s)
+most=$(at_hand)
+least=$most
 (
     status=0
     rt ci --anew >"$work/gate" 2>&1 || status=$?
@@ -59,6 +66,8 @@ begin=$(date +%s)
 root=$!
 while [ ! -f "$work/status" ]; do
     ps -A -o pid= -o ppid= -o args= | awk -v root="$root" "$look" >>"$work/samples"
+    now=$(at_hand)
+    [ "$now" -ge "$least" ] || least=$now
     sleep 1
 done
 end=$(date +%s)
@@ -68,7 +77,7 @@ whole=$(awk 'NR == 2 { for (i = 1; i <= 2; i++) { split($i, part, /[ms]/); sum +
 
 printf '| crate | proof, s | tests, s | edits, s | all, s |\n|---|---|---|---|---|\n'
 awk -v tick="$(getconf CLK_TCK)" -v whole="$whole" '
-    NF == 5 && $2 != "-" {
+    $2 != "-" {
         key = $1 " " $2 " " $3
         if ($4 > most[key]) most[key] = $4
     }
@@ -88,8 +97,7 @@ awk -v tick="$(getconf CLK_TCK)" -v whole="$whole" '
         printf "| beside these | | | | %.0f |\n", whole - seen
         printf "| the whole | %.0f | %.0f | %.0f | %.0f |\n", sum["proof"], sum["tests"], sum["edits"], whole
     }' "$work/samples"
-peak=$(awk 'NF == 5 { held += $5 } NF == 1 { if (held > most) most = held; held = 0 } END { printf "%.0f", most }' "$work/samples")
 printf '\n| processors | minutes | processor seconds | peak of memory, GB | rt ci |\n|---|---|---|---|---|\n'
 printf '| %s | %s | %.0f | %s | %s |\n' "$(getconf _NPROCESSORS_ONLN)" "$(((end - begin + 30) / 60))" "$whole" \
-    "$(awk -v pages="$peak" -v size="$(getconf PAGESIZE)" 'BEGIN { printf "%.1f", pages * size / 1e9 }')" "$(tail -n 1 "$work/gate")"
+    "$(awk -v held="$((most - least))" 'BEGIN { printf "%.1f", held * 1024 / 1e9 }')" "$(tail -n 1 "$work/gate")"
 exit "$(cat "$work/status")"
