@@ -284,14 +284,6 @@ function end_quote(    i, j, first, last) {
     say("the code that ends here stands in no source as it is quoted")
 }
 
-function take_quoted(text,    name) {
-    if (is_rust) quoted[++quoted_count] = text
-    if (match(text, /fn [a-z_][a-z0-9_]*/)) {
-        name = substr(text, RSTART + 3, RLENGTH - 3)
-        quoted_calls[name] = 1
-    }
-}
-
 function take_links(text,    target, folder) {
     while (match(text, /\]\([^()]*\)/)) {
         target = substr(text, RSTART + 2, RLENGTH - 3)
@@ -333,7 +325,7 @@ function take_page(    text) {
             continue
         }
         if (in_code) {
-            take_quoted(text)
+            if (is_rust) quoted[++quoted_count] = text
             continue
         }
         take_links(text)
@@ -367,7 +359,8 @@ BEGIN {
     for (i = 1; i <= owed_count; i++) {
         split(owed[i], f, "\t")
         if (!(f[1] in paged) || (f[1], f[2]) in named || f[2] in named_anywhere) continue
-        if (f[2] !~ /^[A-Z]/ && last_of(f[2]) in quoted_calls) continue
+        # The functions of a crate of callers are quoted where they help.
+        if (f[1] ~ /^uses_/) continue
         page = "crates/" f[1] "/README.md"
         say("no page names the public call `" f[2] "`")
     }
