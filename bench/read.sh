@@ -15,7 +15,7 @@ build_warg
 
 read_root() {
     status=0
-    "$program" link "$work/root.wasm" "$work/out.wasm" >"$work/line" || status=$?
+    "$program" link "$work/root.wasm" "$work/out.wasm" >"$work/line" 2>"$work/cause" || status=$?
     printf '%s\n' "$status" >"$work/status"
 }
 

@@ -13,7 +13,7 @@ here=$(CDPATH='' cd -- "$(dirname "$0")" && pwd -P)
 . "$here/measure.sh"
 [ $# -gt 0 ] || set -- 5000 10000 20000 40000
 
-build_over follow_log 'warg_base warg_hash warg_record warg_log' 'warg_log warg_hash warg_record warg_base semver anyhow' <<'RT'
+build_over follow_log 'warg_log warg_hash warg_record warg_values semver anyhow' <<'RT'
 //! Makes a log of as many releases as the standard input says, validates it, replays it, and chooses a release. Prints how
 //! long each took, in nanoseconds.
 #![tactic(auto)]
@@ -23,11 +23,11 @@ use semver::{Version, VersionReq};
 use std::alloc::Global;
 use std::io;
 use std::time::Instant;
-use warg_base::{Memory, Moment, Text};
 use warg_log::package::{LogState, PackageEntry};
 use warg_log::{
     AnyHash, Envelope, ListedVerifier, PackageRecord, PublicKey, Record, RecordId, Signature,
 };
+use warg_values::{Memory, Moment, Text};
 
 const KEY: &str = "k:AA==";
 

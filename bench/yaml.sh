@@ -1,13 +1,13 @@
 #!/bin/sh
 # The parser's throughput beside libyaml's, through Python's C loader, on one same text; and that time and memory
 # grow linearly with the text. It builds a program over the crates in a folder of its own, and leaves the
-# repository as it was. It wants `rt`, and `python3` with `yaml` for the comparison.
+# repository as it was. It wants `rt` and `python3`, and for the comparison Python's package `yaml`.
 set -eu
 
 here=$(CDPATH='' cd -- "$(dirname "$0")" && pwd -P)
 . "$here/measure.sh"
 
-build_over count_events 'warg_base yaml_scan yaml_small' 'yaml_small anyhow' <<'RT'
+build_over count_events 'yaml_small anyhow' <<'RT'
 //! Counts the events of the text on the standard input, and prints how long that took.
 #![tactic(auto)]
 
