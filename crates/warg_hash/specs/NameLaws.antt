@@ -1,5 +1,5 @@
 -- What is known of package names: a label holds no colon, so the first colon parts the two labels.
-use Rattle.std.proofs.Common.{◌≡◌, ℕ, ◌<◌, ◌+◌, ◌==◌, nat_lt, ◌||◌, not, Bool, true, List, [], ◌∷◌, ◌++◌, length, get_or, drop, suc, add-one, refl, ap, ◌∙◌, arith}
+use Rattle.std.proofs.Common.{◌≡◌, ℕ, ◌<◌, ◌+◌, ◌==◌, nat_lt, ◌||◌, not, Bool, true, List, [], ◌∷◌, ◌++◌, length, get_or, drop, suc, add-one, refl, sym, ap, ◌∙◌, arith}
 use Rattle.std.specs.List.{list_all, slice_split, join_with_byte, before_first, after_first, position_or_len}
 use Rattle.std.proofs.lemmas.Bool.{and_parts, and_from, eqb-true, lt-ltb, ltb-true}
 use Rattle.std.proofs.lemmas.Bool.Decides.{nat_tests}
@@ -71,14 +71,27 @@ is_package_name-sound text h =
       name_is_label = b.1;
     }
 
+first_colon : (text namespace name : List ℕ) → IsNameOf text namespace name → position_or_len is_colon text ≡ length namespace
+first_colon text namespace name parts =
+    ap (position_or_len is_colon) parts.joined ∙ position-colon namespace name (label_has_no_colon namespace parts.namespace_is_label)
+
+-- the labels of a name stand before and after its first colon
+pub labels_of : (text namespace name : List ℕ) → IsNameOf text namespace name → (namespace ≡ before_first is_colon text) × (name ≡ after_first is_colon text)
+labels_of text namespace name parts =
+    let place = first_colon text namespace name parts in
+    let before : before_first is_colon text ≡ namespace = rw (place, parts.joined) (take_at namespace (58 ∷ name) (length namespace) refl) in
+    let after : after_first is_colon text ≡ name = rw (place, parts.joined, add-one) (drop_past namespace name) in
+    (sym before, sym after)
+
 -- the form is what is tested
 pub is_package_name-complete : (text : List ℕ) → IsPackageName text → is_package_name text ≡ true
 is_package_name-complete text h =
     let parts = h.2 in
-    let place : position_or_len is_colon text ≡ length h.0 = ap (position_or_len is_colon) parts.joined ∙ position-colon h.0 h.1 (label_has_no_colon h.0 parts.namespace_is_label) in
+    let place = first_colon text h.0 h.1 parts in
     let len : length text ≡ length h.0 + suc (length h.1) = ap length parts.joined ∙ length-append h.0 (58 ∷ h.1) in
-    let before : before_first is_colon text ≡ h.0 = rw (place, parts.joined) (take_at h.0 (58 ∷ h.1) (length h.0) refl) in
-    let after : after_first is_colon text ≡ h.1 = rw (place, parts.joined, add-one) (drop_past h.0 h.1) in
+    let labels = labels_of text h.0 h.1 parts in
+    let before : before_first is_colon text ≡ h.0 = sym labels.0 in
+    let after : after_first is_colon text ≡ h.1 = sym labels.1 in
     let first : nat_lt (position_or_len is_colon text) (length text) ≡ true = lt-ltb (position_or_len is_colon text) (length text) (omega arith) in
     let namespace : is_label (before_first is_colon text) ≡ true = ap is_label before ∙ parts.namespace_is_label in
     let name : is_label (after_first is_colon text) ≡ true = ap is_label after ∙ parts.name_is_label in
