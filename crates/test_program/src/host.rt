@@ -40,9 +40,19 @@ fn a_file_is_read_as_it_was_written_last(rt: HostRuntime) -> Result<(), Fail> {
 #[test]
 fn a_missing_file_is_missing_and_a_folder_is_a_fault(rt: HostRuntime) -> Result<(), Fail> {
     write_by(&rt, "folder/of/faults/file", b"here")?;
-    assert!(rt; matches!(read_by(&rt, "folder/of/faults/other"), Err(FileError::Missing)));
+    assert!(rt;
+        matches!(
+            read_by(&rt, "folder/of/faults/other"),
+            Err(FileError::Missing)
+        )
+    );
     assert!(rt; matches!(read_by(&rt, "folder/of/faults"), Err(FileError::Failed)));
-    assert!(rt; matches!(write_by(&rt, "folder/of/faults", b"x"), Err(FileError::Failed)));
+    assert!(rt;
+        matches!(
+            write_by(&rt, "folder/of/faults", b"x"),
+            Err(FileError::Failed)
+        )
+    );
     assert!(rt; matches!(write_by(&rt, "/dev/full", b"x"), Err(FileError::Failed)));
     Ok(())
 }

@@ -20,15 +20,18 @@ const IMPORTS: &[u8] = b"\0asm\r\0\x01\0\x07\x03\x01\x41\0\x0a\x06\x01\0\x01c\x0
 const EMPTY_LINKED: &[u8] = b"\0asm\r\0\x01\0\x04\x08\0asm\r\0\x01\0\x05\x04\x01\0\0\0";
 
 /// What links [`TUPLE`]: it is nested, has one instance, and `t` of that is exported again.
-const TUPLE_LINKED: &[u8] = b"\0asm\r\0\x01\0\x04\x18\0asm\r\0\x01\0\x07\x05\x01\x6f\x02\x79\x79\x0b\x07\x01\0\x01t\x03\0\0\x05\x04\x01\0\0\0\x06\x06\x01\x03\0\0\x01t\x0b\x07\x01\0\x01t\x03\0\0";
+const TUPLE_LINKED: &[u8] =
+    b"\0asm\r\0\x01\0\x04\x18\0asm\r\0\x01\0\x07\x05\x01\x6f\x02\x79\x79\x0b\x07\x01\0\x01t\x03\0\0\x05\x04\x01\0\0\0\x06\x06\x01\x03\0\0\x01t\x0b\x07\x01\0\x01t\x03\0\0";
 
 /// The lines of these two.
 const EMPTY_LINE: &str =
     "bytes 24 251c41b4a061e17112655e1ae12d851da9dbdef7499d0bd5b11cb933ca4fa8cd\n";
+
 const TUPLE_LINE: &str =
     "bytes 57 e41da149a1013026158395250a1d4b819ead3f2e0d47a57de1fd964442c5d451\n";
 
 /// How a run ended: its status, what it printed, and the bytes of `out.wasm`, where there is such a file.
+#[derive(Drop)]
 struct End {
     status: u8,
     printed: String,
@@ -90,18 +93,112 @@ fn end_of(alloc: Global, given: Given<'_>) -> Result<End, Fail> {
 #[test]
 fn runs_end_with_their_status_their_line_and_their_file(rt: HostRuntime) -> Result<(), Fail> {
     let rows: [(&str, Given<'_>, u8, &str, Option<&[u8]>); 12] = [
-        ("an empty component is nested and has one instance", of_root(EMPTY), 0, EMPTY_LINE, Some(EMPTY_LINKED)),
-        ("an exported type is exported again", of_root(TUPLE), 0, TUPLE_LINE, Some(TUPLE_LINKED)),
-        ("a core module is refused", of_root(b"\0asm\x01\0\0\0"), 6, "refused BadComponent\n", None),
-        ("a custom section is refused", of_root(b"\0asm\r\0\x01\0\0\x04\x01xxx"), 6, "refused BadComponent\n", None),
-        ("an import is refused", of_root(IMPORTS), 6, "refused BadComponent\n", None),
-        ("a missing component is named", Given { root: None, ..of_root(EMPTY) }, 3, "missing root.wasm\n", None),
-        ("a read that fails is a fault", Given { failing_file: Some(2), ..of_root(EMPTY) }, 4, "fault\n", None),
-        ("a write that fails is a fault", Given { failing_file: Some(3), ..of_root(EMPTY) }, 4, "fault\n", None),
-        ("a line that is not taken is a fault once OUT is written", Given { failing_line: Some(1), ..of_root(EMPTY) }, 4, "fault\n", Some(EMPTY_LINKED)),
-        ("a refusal whose line is not taken keeps its status", Given { root: None, failing_line: Some(1), ..of_root(EMPTY) }, 3, "", None),
-        ("two words are no command", Given { words: &["link", "root.wasm"], ..of_root(EMPTY) }, 2, "usage\n", None),
-        ("another first word is no command", Given { words: &["join", "root.wasm", "out.wasm"], ..of_root(EMPTY) }, 2, "usage\n", None),
+        (
+            "an empty component is nested and has one instance",
+            of_root(EMPTY),
+            0,
+            EMPTY_LINE,
+            Some(EMPTY_LINKED),
+        ),
+        (
+            "an exported type is exported again",
+            of_root(TUPLE),
+            0,
+            TUPLE_LINE,
+            Some(TUPLE_LINKED),
+        ),
+        (
+            "a core module is refused",
+            of_root(b"\0asm\x01\0\0\0"),
+            6,
+            "refused BadComponent\n",
+            None,
+        ),
+        (
+            "a custom section is refused",
+            of_root(b"\0asm\r\0\x01\0\0\x04\x01xxx"),
+            6,
+            "refused BadComponent\n",
+            None,
+        ),
+        (
+            "an import is refused",
+            of_root(IMPORTS),
+            6,
+            "refused BadComponent\n",
+            None,
+        ),
+        (
+            "a missing component is named",
+            Given {
+                root: None,
+                ..of_root(EMPTY)
+            },
+            3,
+            "missing root.wasm\n",
+            None,
+        ),
+        (
+            "a read that fails is a fault",
+            Given {
+                failing_file: Some(2),
+                ..of_root(EMPTY)
+            },
+            4,
+            "fault\n",
+            None,
+        ),
+        (
+            "a write that fails is a fault",
+            Given {
+                failing_file: Some(3),
+                ..of_root(EMPTY)
+            },
+            4,
+            "fault\n",
+            None,
+        ),
+        (
+            "a line that is not taken is a fault once OUT is written",
+            Given {
+                failing_line: Some(1),
+                ..of_root(EMPTY)
+            },
+            4,
+            "fault\n",
+            Some(EMPTY_LINKED),
+        ),
+        (
+            "a refusal whose line is not taken keeps its status",
+            Given {
+                root: None,
+                failing_line: Some(1),
+                ..of_root(EMPTY)
+            },
+            3,
+            "",
+            None,
+        ),
+        (
+            "two words are no command",
+            Given {
+                words: &["link", "root.wasm"],
+                ..of_root(EMPTY)
+            },
+            2,
+            "usage\n",
+            None,
+        ),
+        (
+            "another first word is no command",
+            Given {
+                words: &["join", "root.wasm", "out.wasm"],
+                ..of_root(EMPTY)
+            },
+            2,
+            "usage\n",
+            None,
+        ),
     ];
     for (name, given, status, line, written) in rows {
         let end = end_of(rt.alloc(), given)?;

@@ -16,11 +16,29 @@ fn text_of(alloc: Global, stop: &Stop<'_>) -> Result<String, Fail> {
 fn a_stop_names_the_file_and_says_what_to_do(rt: HostRuntime) -> Result<(), Fail> {
     let rows = [
         (Stop::Missing { path: "a.wasm" }, "a.wasm: "),
-        (Stop::Fault(Access::Read("a.wasm")), "a.wasm: the file could not be read"),
-        (Stop::Fault(Access::Written("o.wasm")), "o.wasm: the file could not be written"),
+        (
+            Stop::Fault(Access::Read("a.wasm")),
+            "a.wasm: the file could not be read",
+        ),
+        (
+            Stop::Fault(Access::Written("o.wasm")),
+            "o.wasm: the file could not be written",
+        ),
         (Stop::Fault(Access::Printed), "standard output: "),
-        (Stop::BadComponent { path: "a.wasm", error: ShapeError::Form(4) }, "a.wasm: "),
-        (Stop::TooLarge { path: "o.wasm", number: 4_294_967_296 }, "o.wasm: 4294967296 is more than"),
+        (
+            Stop::BadComponent {
+                path: "a.wasm",
+                error: ShapeError::Form(4),
+            },
+            "a.wasm: ",
+        ),
+        (
+            Stop::TooLarge {
+                path: "o.wasm",
+                number: 4_294_967_296,
+            },
+            "o.wasm: 4294967296 is more than",
+        ),
         (Stop::Usage, "these words are no command"),
         (Stop::Memory, "out of memory"),
     ];
