@@ -7,4 +7,5 @@ pub mod SectionLaws
 pub mod KeepLaws
 pub mod RawLaws
 pub mod CountLaws
+pub mod SizeLaws
 pub mod FinishLaws

@@ -413,8 +413,8 @@ impl ComponentBuilder {
 
     /// Adds the section of this id and content, with the items that it holds, in order. It is written as it is.
     ///
-    /// `TooLarge` has the length of `content`, or the number of items of an index space, where that is above
-    /// 2^32 - 1. `Memory` is also answered where more than 200 scopes are open in the section at one place.
+    /// `TooLarge` has the length of `content`, or the number of items that an index space would have with these, where
+    /// that is above 2^32 - 1. `Memory` is also answered where more than 200 scopes are open in the section at one place.
     pub fn raw_section(&mut self, alloc: Global, id: u8, content: &[u8]) -> Result<(), EncodeError>
         requires { IsContent id content.now }
         ensures added { (items : List ItemTree) → IsContentOf items id content.now
@@ -427,9 +427,7 @@ impl ComponentBuilder {
             → result ≡ Err (EncodeError.TooLarge n)
             → (2 ^ 32 ≤ n)
             × ((n ≡ length content.now)
-            ⊎ ((n ≡ 2 ^ 32)
-            × ((kind : sort_of_item)
-            × (2 ^ 32 ≤ next_index kind (entries_of self.old) + numbered kind items)))) }
+            ⊎ ((kind : sort_of_item) × (n ≡ next_index kind (entries_of self.old) + numbered kind items))) }
     {
         let counts = count_section(alloc, self.counts, id, content)?;
         let content = Vec::from_slice(alloc, content)?;

@@ -7,13 +7,13 @@ ghost use Rattle.comp_format.specs.Items.{ItemTree, item_tree};
 ghost use Rattle.comp_format.specs.Sections.{Reads, header};
 ghost use Rattle.comp_format.specs.Fits.{IsComponent};
 ghost use Rattle.comp_encoder.specs.Builder.{IsContent, IsContentOf};
-ghost use Rattle.comp_encoder.specs.Writing.{numbered};
+ghost use Rattle.comp_encoder.specs.Writing.{item_sort, numbered, numbers};
 ghost use Rattle.comp_format.specs.Spaces.{space_of};
 
 use crate::sections::write_section;
 use crate::spaces::{sort_of, space_of};
 use comp_format::section::HEADER;
-use comp_format::{EncodeError, Item};
+use comp_format::{EncodeError, Item, Sort};
 use comp_reader::read_items;
 use std::alloc::Global;
 
@@ -42,6 +42,27 @@ fn items_of(alloc: Global, bytes: &[u8]) -> Result<Vec<Item<'_>>, EncodeError>
     }
 }
 
+/// Whether the index space of a sort numbers an item.
+fn is_numbered(sort: Sort, item: &Item<'_>) -> bool
+    ensures { result ≡ numbers (space_of sort) (item_sort (item_tree item.now)) }
+{
+    match sort_of(item) {
+        Some(other) => space_of(other) == space_of(sort),
+        None => false,
+    }
+}
+
+/// The size of the index space of a sort, which has so many items, once these are added to it.
+fn size_with(size: u32, sort: Sort, items: &[Item<'_>]) -> u64
+    ensures { result ≡ size + numbered sort (map item_tree items.now) }
+{
+    let mut total = size as u64;
+    for item in items {
+        total += is_numbered(sort, item) as u64;
+    }
+    total
+}
+
 /// The sizes of the index spaces once these items are added to them.
 fn count_items(counts: [u32; 11], items: &[Item<'_>]) -> Result<[u32; 11], EncodeError>
     requires { (kind : sort) → slice_index counts (space_of kind) < 2 ^ 32 }
@@ -52,10 +73,9 @@ fn count_items(counts: [u32; 11], items: &[Item<'_>]) -> Result<[u32; 11], Encod
         ≡ slice_index counts (space_of kind) + numbered kind (map item_tree items.now)) }
     ensures small { IfOk result (λ sizes. (kind : sort) → slice_index sizes (space_of kind) < 2 ^ 32) }
     ensures too_large { (n : ℕ) → result ≡ Err (EncodeError.TooLarge n)
-        → (n ≡ 2 ^ 32)
-        × ((kind : sort)
-        × (2 ^ 32 ≤ slice_index counts (space_of kind) + numbered kind (map item_tree items.now))) }
-    ensures err { IfErr result (λ e. e ≡ EncodeError.TooLarge (2 ^ 32)) }
+        → (2 ^ 32 ≤ n)
+        × ((kind : sort) × (n ≡ slice_index counts (space_of kind) + numbered kind (map item_tree items.now))) }
+    ensures err { IfErr result (λ e. (n : ℕ) × (e ≡ EncodeError.TooLarge n)) }
 {
     let mut sizes = counts;
     for item in items {
@@ -63,7 +83,7 @@ fn count_items(counts: [u32; 11], items: &[Item<'_>]) -> Result<[u32; 11], Encod
             let space = space_of(sort);
             match sizes[space].checked_add(1) {
                 Some(size) => sizes[space] = size,
-                None => return Err(EncodeError::TooLarge(sizes[space] as u64 + 1)),
+                None => return Err(EncodeError::TooLarge(size_with(counts[space], sort, items))),
             }
         }
     }
@@ -91,8 +111,7 @@ pub fn count_section(
         → result ≡ Err (EncodeError.TooLarge n)
         → (2 ^ 32 ≤ n)
         × ((n ≡ length content.now)
-        ⊎ ((n ≡ 2 ^ 32)
-        × ((kind : sort) × (2 ^ 32 ≤ slice_index counts (space_of kind) + numbered kind items)))) }
+        ⊎ ((kind : sort) × (n ≡ slice_index counts (space_of kind) + numbered kind items))) }
 {
     let component = component_of(alloc, id, content)?;
     let items = items_of(alloc, &component)?;

@@ -9,7 +9,7 @@ use Rattle.comp_format.specs.Fault.{Fault, TooDeep}
 use Rattle.comp_format.specs.Vectors.{ReaderOf, many_at, vector_at, byte_at}
 use Rattle.comp_format.specs.CoreTypes.{CoreTree, CoreForm, ModuleDeclTree, module_decl_at, module_at, core_with, core_at}
 use Rattle.comp_format.specs.Definitions.{TypeTree, DeclTree, DefForm, decl_at, inner_type_at, type_with, definition_at}
-use Rattle.comp_format.specs.Sections.{Section, Sections, ComponentForm, whole_at, behind_at, headed_at, frame_at, content_with, sections_at, component_at, header}
+use Rattle.comp_format.specs.Sections.{Section, Sections, ComponentForm, whole_at, behind_at, headed_at, section_at, content_with, sections_at, component_at, header}
 use Rattle.comp_format.proofs.CoreTypeLaws.{core_again, core_scopes}
 use Rattle.comp_format.proofs.DefinitionLaws.{definition_again, type_scopes}
 use Rattle.comp_format.proofs.SectionLaws.{component_again, sections_scopes}
@@ -123,7 +123,7 @@ sections_below : (one more : ℕ → List ℕ → Result Section Fault) → ((id
 unfolding sections_at
 sections_below one more below most [] = inr refl
 sections_below one more below zero (b ∷ bytes) = inr refl
-sections_below one more below (suc most) (b ∷ bytes) = then_below (frame_at (b ∷ bytes)) _ _ (λ f.
+sections_below one more below (suc most) (b ∷ bytes) = then_below (section_at (b ∷ bytes)) _ _ (λ f.
     bind_below (one f.0.0 f.0.1) (more f.0.0 f.0.1) _ _ (below f.0.0 f.0.1) (λ s. first_below (sections_at one most f.1) (sections_at more most f.1) _ (sections_below one more below most f.1)))
 
 component_below : (scopes : ℕ) → AtMost (component_at scopes) (component_at (suc scopes))

@@ -6,6 +6,7 @@ use Rattle.std.proofs.lemmas.Bool.{eqb-true}
 use Rattle.std.proofs.lemmas.List.{nil_from_length, take-append-drop, take_at, drop_at}
 use Rattle.std.proofs.lemmas.Slice.Eq.{bytes_eq-Decides}
 use Rattle.warg_values.specs.ReadingLaws.{bind_ok, ok_is, never, wanted_ok, pick}
+use Rattle.warg_values.specs.Reading.{◌>>=◌}
 use Rattle.comp_format.specs.Fault.{Fault, Form}
 use Rattle.comp_format.specs.Numbers.{FormOf, Number, number_at}
 use Rattle.comp_format.specs.Vectors.{ReaderOf, Many, Vector, many_at, vector_at, front_at, any_name_at}
@@ -14,7 +15,7 @@ use Rattle.comp_format.specs.Definitions.{TypeTree, DefForm, definition_at}
 use Rattle.comp_format.specs.Canons.{CanonForm, canon_at}
 use Rattle.comp_format.specs.Parts.{CoreInstanceForm, InstanceForm, AliasForm, core_instance_at, instance_at, alias_at}
 use Rattle.comp_format.specs.Items.{ItemTree, ImportForm, ExportForm, import_at, export_at}
-use Rattle.comp_format.specs.Sections.{Section, Named, CoreModules, CoreInstances, CoreTypes, Nested, Instances, Aliases, Types, Canons, Imports, Exports, Sections, none, more, Framed, Whole, Behind, Headed, ContentForm, SectionsForm, ComponentForm, Reads, header, core_header, section_id, items_in, whole_at, behind_at, headed_at, frame_at, content_with, sections_at, component_at, content_at}
+use Rattle.comp_format.specs.Sections.{Section, Named, CoreModules, CoreInstances, CoreTypes, Nested, Instances, Aliases, Types, Canons, Imports, Exports, Sections, none, more, Framed, Whole, Behind, Headed, ContentForm, SectionsForm, ComponentForm, Reads, header, core_header, section_id, items_in, whole_at, behind_at, headed_at, frame_at, section_at, carried_id, content_with, sections_at, component_at, content_at}
 use Rattle.comp_format.proofs.NumberLaws.{number_form, number_again, leb_shorter}
 use Rattle.comp_format.proofs.VectorLaws.{IsSound, IsComplete, vector_form, vector_again, front_form, front_again, any_name_form, any_name_again}
 use Rattle.comp_format.proofs.CoreTypeLaws.{core_form, core_again, core_scopes}
@@ -68,6 +69,33 @@ pub frame_again : (id : ℕ) (content bytes rest : List ℕ) → Framed id conte
 unfolding frame_at
 frame_again id content bytes rest h =
     rw (h.is_id, number_again (length content) h.counted h.after h.count, h.is_there, front_again content rest) refl
+
+-- the section at the front has a carried id
+pub section_framed : (bytes : List ℕ) (f : (ℕ × List ℕ) × List ℕ) → section_at bytes ≡ Ok f → frame_at bytes ≡ Ok f
+unfolding section_at
+section_framed [] f e = absurd cc
+section_framed (id ∷ bytes) f e = let carried = bind_ok (carried_id id) _ f e in carried.2
+
+is_carried : (s : Section) → carried_id (section_id s) ≡ Ok (section_id s)
+unfolding carried_id
+is_carried (Named name bytes) = refl
+is_carried (CoreModules bytes) = refl
+is_carried (CoreInstances items) = refl
+is_carried (CoreTypes items) = refl
+is_carried (Nested bytes inner) = refl
+is_carried (Instances items) = refl
+is_carried (Aliases items) = refl
+is_carried (Types items) = refl
+is_carried (Canons items) = refl
+is_carried (Imports items) = refl
+is_carried (Exports items) = refl
+
+section_here : (s : Section) (content bytes rest : List ℕ) → Framed (section_id s) content bytes rest → section_at bytes ≡ Ok ((section_id s, content), rest)
+unfolding section_at
+section_here s content bytes rest h =
+    ap section_at h.is_id
+    ∙ ap (λ (r : Result ℕ Fault). r >>= λ carried. frame_at (section_id s ∷ h.counted)) (is_carried s)
+    ∙ ap frame_at (sym h.is_id) ∙ frame_again (section_id s) content bytes rest h
 
 -- ---- headers
 
@@ -148,12 +176,12 @@ module _ (content : ℕ → List ℕ → Result Section Fault) (sound : (id : �
   sections_form most [] ss e = subst (λ (t : Sections). SectionsForm t []) (ok_is none ss e) refl
   sections_form zero (b ∷ bytes) ss e = absurd cc
   sections_form (suc most) (b ∷ bytes) ss e =
-      let f = bind_ok (frame_at (b ∷ bytes)) _ ss e in
+      let f = bind_ok (section_at (b ∷ bytes)) _ ss e in
       let s = bind_ok (content f.0.0.0 f.0.0.1) _ ss f.2 in
       let others = bind_ok (sections_at content most f.0.1) _ ss s.2 in
       let form = sound f.0.0.0 f.0.0.1 s.0 s.1 in
       subst (λ (t : Sections). SectionsForm t (b ∷ bytes)) (ok_is (more s.0 others.0) ss others.2)
-      (f.0.0.1, f.0.1, subst (λ (id : ℕ). Framed id f.0.0.1 (b ∷ bytes) f.0.1) form.0 (frame_form (b ∷ bytes) f.0 f.1), form.1, sections_form most f.0.1 others.0 others.1)
+      (f.0.0.1, f.0.1, subst (λ (id : ℕ). Framed id f.0.0.1 (b ∷ bytes) f.0.1) form.0 (frame_form (b ∷ bytes) f.0 (section_framed (b ∷ bytes) f.0 f.1)), form.1, sections_form most f.0.1 others.0 others.1)
 
 pub component_form : (scopes : ℕ) (bytes : List ℕ) (ss : Sections) → component_at scopes bytes ≡ Ok ss → ComponentForm ss bytes
 unfolding component_at headed_at IsSoundComponent
@@ -237,7 +265,7 @@ mutual
   sections_again (more s ss) scopes (suc most) bytes within le h =
       let shorter = framed_shorter (section_id s) h.0 bytes h.1 h.2 in
       let rest_fits : length h.1 ≤ most = omega (arith, le, shorter) in
-      let read : frame_at (section_id s ∷ h.2.counted) ≡ Ok ((section_id s, h.0), h.1) = ap frame_at (sym h.2.is_id) ∙ frame_again (section_id s) h.0 bytes h.1 h.2 in
+      let read : section_at (section_id s ∷ h.2.counted) ≡ Ok ((section_id s, h.0), h.1) = ap section_at (sym h.2.is_id) ∙ section_here s h.0 bytes h.1 h.2 in
       ap (sections_at (content_at scopes) (suc most)) h.2.is_id
       ∙ rw (read, section_again s scopes h.0 (omega (arith, within)) h.3, sections_again ss scopes most h.1 (omega (arith, within)) rest_fits h.4) refl
 

@@ -186,11 +186,15 @@ tuple_form rest x e =
 flags_form : (rest : List ℕ) (x : DefinedType × List ℕ) → flags_at rest ≡ Ok x → Behind 0x6e rest x
 unfolding flags_at Behind
 flags_form rest x e =
-    let labels = bind_ok (labelled_vector_at label_alone rest) _ x e in
-    let some = guard_ok (eqb (length labels.0.0) 0) Form _ x labels.2 in
-    let few = guard_ok (ltb 32 (length labels.0.0)) Form _ x some.1 in
-    subst (Behind 0x6e rest) (ok_is (defined.FlagsOf labels.0.0, labels.0.1) x few.1)
-    (some_from _ some.0, ltb-false 32 (length labels.0.0) few.0, (rest, refl, labels_form rest labels.0 labels.1))
+    let count = bind_ok (number_at rest) _ x e in
+    let some = guard_ok (eqb count.0.0 0) Form _ x count.2 in
+    let few = guard_ok (ltb 32 count.0.0) Form _ x some.1 in
+    let labels = bind_ok (labelled_vector_at label_alone rest) _ x few.1 in
+    let form : Labels labels.0.0 rest labels.0.1 = labels_form rest labels.0 labels.1 in
+    let counted : count.0 ≡ (length labels.0.0, form.1.0) = ok_is count.0 (length labels.0.0, form.1.0) (sym count.1 ∙ number_again (length labels.0.0) rest form.1.0 form.1.1) in
+    let same : count.0.0 ≡ length labels.0.0 = ap (λ (n : ℕ × List ℕ). n.0) counted in
+    subst (Behind 0x6e rest) (ok_is (defined.FlagsOf labels.0.0, labels.0.1) x labels.2)
+    (omega (arith, some_from _ some.0, same), omega (arith, ltb-false 32 count.0.0 few.0, same), (rest, refl, form))
 
 enum_form : (rest : List ℕ) (x : DefinedType × List ℕ) → enum_at rest ≡ Ok x → Behind 0x6d rest x
 unfolding enum_at Behind
@@ -282,7 +286,7 @@ defined_again (defined.ListOf t) bytes rest h = (0x70, h.0, h.1, omega arith, om
 defined_again (defined.TupleOf parts) bytes rest h =
     (0x6f, h.1.0, h.1.1, omega arith, omega arith, rw (vector_again value_at ValForm value_again parts h.1.0 rest h.1.2, some_to (length parts) h.0) refl)
 defined_again (defined.FlagsOf labels) bytes rest h =
-    (0x6e, h.2.0, h.2.1, omega arith, omega arith, rw (labels_again labels h.2.0 rest h.2.2, some_to (length labels) h.0, le-ltb 32 (length labels) h.1) refl)
+    (0x6e, h.2.0, h.2.1, omega arith, omega arith, rw (number_again (length labels) h.2.0 h.2.2.1.0 h.2.2.1.1, labels_again labels h.2.0 rest h.2.2, some_to (length labels) h.0, le-ltb 32 (length labels) h.1) refl)
 defined_again (defined.EnumOf labels) bytes rest h = (0x6d, h.1.0, h.1.1, omega arith, omega arith, rw (labels_again labels h.1.0 rest h.1.2, some_to (length labels) h.0) refl)
 defined_again (defined.OptionOf t) bytes rest h = (0x6b, h.0, h.1, omega arith, omega arith, rw (value_again t h.0 rest h.2) refl)
 defined_again (defined.ResultOf ok err) bytes rest h =

@@ -1,5 +1,5 @@
 -- Components as bytes: a header, and sections (Component Model, Binary.md, "Component Definitions").
-use Rattle.std.specs.Prelude.{◌≡◌, ℕ, zero, suc, List, [], ◌∷◌, ◌++◌, length, drop, map, Result, Ok, Err, ◌==◌, nat_eq, if◌then◌else◌}
+use Rattle.std.specs.Prelude.{◌≡◌, ℕ, zero, suc, List, [], ◌∷◌, ◌++◌, length, drop, map, Result, Ok, Err, ◌==◌, nat_eq, nat_lt, if◌then◌else◌}
 use Rattle.std.specs.List.{starts_with}
 use Rattle.warg_values.specs.Reading.{◌>>=◌}
 use Rattle.comp_format.specs.declared.types.CoreInstance.{CoreInstance}
@@ -138,6 +138,19 @@ frame_at (id ∷ bytes) = do
   content ← front_at count.0 count.1
   Ok ((id, content.0), content.1)
 
+-- an id of which sections are carried
+unfoldable pub carried_id : ℕ → Result ℕ Fault
+carried_id id =
+    if id == ids.start then Err NotCarried
+    else if id == ids.values then Err NotCarried
+    else if nat_lt ids.values id then Err Form
+    else Ok id
+
+-- the section at the front, of which the id is the first field
+unfoldable pub section_at : ReaderOf (ℕ × List ℕ)
+section_at [] = Err Form
+section_at (id ∷ bytes) = carried_id id >>= λ carried. frame_at (id ∷ bytes)
+
 -- the content of a section, where nested components, types and core types are read so
 unfoldable pub content_with : (List ℕ → Result Sections Fault) → ReaderOf TypeTree → ReaderOf CoreTree → ℕ → List ℕ → Result Section Fault
 content_with component ty core id content =
@@ -160,7 +173,7 @@ content_with component ty core id content =
 unfoldable pub sections_at : (ℕ → List ℕ → Result Section Fault) → ℕ → List ℕ → Result Sections Fault
 sections_at content most [] = Ok none
 sections_at content zero (b ∷ bytes) = Err Form
-sections_at content (suc most) (b ∷ bytes) = frame_at (b ∷ bytes) >>= λ f. content f.0.0 f.0.1 >>= λ s. sections_at content most f.1 >>= λ ss. Ok (more s ss)
+sections_at content (suc most) (b ∷ bytes) = section_at (b ∷ bytes) >>= λ f. content f.0.0 f.0.1 >>= λ s. sections_at content most f.1 >>= λ ss. Ok (more s ss)
 
 -- a component in which at most so many scopes are open at one place, itself among them
 unfoldable pub component_at : ℕ → List ℕ → Result Sections Fault

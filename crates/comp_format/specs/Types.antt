@@ -115,8 +115,10 @@ unfoldable pub tuple_at : ReaderOf DefinedType
 tuple_at bytes = vector_at value_at bytes >>= λ parts. if length parts.0 == 0 then Err Form else Ok (defined.TupleOf parts.0, parts.1)
 
 unfoldable pub flags_at : ReaderOf DefinedType
-flags_at bytes = labelled_vector_at label_alone bytes >>= λ labels.
-    if length labels.0 == 0 then Err Form else if nat_lt 32 (length labels.0) then Err Form else Ok (defined.FlagsOf labels.0, labels.1)
+flags_at bytes = number_at bytes >>= λ count.
+    if count.0 == 0 then Err Form
+    else if nat_lt 32 count.0 then Err Form
+    else (labelled_vector_at label_alone bytes >>= λ labels. Ok (defined.FlagsOf labels.0, labels.1))
 
 unfoldable pub enum_at : ReaderOf DefinedType
 enum_at bytes = labelled_vector_at label_alone bytes >>= λ labels. if length labels.0 == 0 then Err Form else Ok (defined.EnumOf labels.0, labels.1)

@@ -9,8 +9,8 @@ use Rattle.comp_format.specs.Fault.{Fault, Form, NotCarried, TooDeep}
 use Rattle.comp_format.specs.Items.{ItemTree, Component}
 use Rattle.comp_format.specs.CoreTypes.{core_at}
 use Rattle.comp_format.specs.Definitions.{definition_at}
-use Rattle.comp_format.specs.Sections.{Section, Nested, Sections, more, Reads, section_items, items_in, frame_at, behind_at, headed_at, header, content_with, content_at, sections_at, component_at}
-use Rattle.comp_format.proofs.SectionLaws.{frame_form, framed_shorter, component_form}
+use Rattle.comp_format.specs.Sections.{Section, Nested, Sections, more, Reads, section_items, items_in, frame_at, section_at, behind_at, headed_at, header, content_with, content_at, sections_at, component_at}
+use Rattle.comp_format.proofs.SectionLaws.{frame_form, framed_shorter, component_form, section_framed}
 use Rattle.comp_format.proofs.DepthLaws.{component_within}
 use Rattle.comp_reader.specs.declared.error.ReadError.{ReadError}
 use Rattle.comp_reader.specs.declared.error.ReadError.TheVariants as errors
@@ -39,15 +39,18 @@ same_fails (refusals.NotCarried at) f r same h = subst (λ (x : Refusal). Fails 
 pub frame_shorter : (bytes : List ℕ) (f : (ℕ × List ℕ) × List ℕ) → frame_at bytes ≡ Ok f → length f.1 < length bytes
 frame_shorter bytes f e = omega (arith, framed_shorter f.0.0 f.0.1 bytes f.1 (frame_form bytes f e))
 
+pub section_shorter : (bytes : List ℕ) (f : (ℕ × List ℕ) × List ℕ) → section_at bytes ≡ Ok f → length f.1 < length bytes
+section_shorter bytes f e = frame_shorter bytes f (section_framed bytes f e)
+
 module _ (content : ℕ → List ℕ → Result Section Fault) where
   sections_next : (most : ℕ) (bytes : List ℕ) → 0 < length bytes → length bytes ≤ most
-      → sections_at content most bytes ≡ (frame_at bytes >>= λ f. content f.0.0 f.0.1 >>= λ s. sections_at content (most - 1) f.1 >>= λ ss. Ok (more s ss))
+      → sections_at content most bytes ≡ (section_at bytes >>= λ f. content f.0.0 f.0.1 >>= λ s. sections_at content (most - 1) f.1 >>= λ ss. Ok (more s ss))
   unfolding sections_at
   sections_next most [] some le = absurd (omega arith)
   sections_next zero (b ∷ bytes) some le = absurd (omega (arith, le))
   sections_next (suc most) (b ∷ bytes) some le =
       let same : most ≡ suc most - 1 = omega arith in
-      ap (λ (k : ℕ). frame_at (b ∷ bytes) >>= λ f. content f.0.0 f.0.1 >>= λ s. sections_at content k f.1 >>= λ ss. Ok (more s ss)) same
+      ap (λ (k : ℕ). section_at (b ∷ bytes) >>= λ f. content f.0.0 f.0.1 >>= λ s. sections_at content k f.1 >>= λ ss. Ok (more s ss)) same
 
   regroup : (front : List ItemTree) (s : Section) (read : Result Sections Fault) → with_items front (read >>= λ ss. Ok (more s ss)) ≡ with_items (front ++ section_items s) read
   regroup front s (Ok ss) = ap (λ (l : List ItemTree). Ok l) (simp append_assoc)
@@ -62,22 +65,22 @@ module _ (content : ℕ → List ℕ → Result Section Fault) where
   pub begins : (bytes : List ℕ) → IsUnderWay bytes [] bytes
   begins bytes = record { most = length bytes; enough = omega arith; so_far = refl }
 
-  pub goes_on : (bytes : List ℕ) (front new : List ItemTree) (rest : List ℕ) (id : ℕ) (inner after : List ℕ) → 0 < length rest → frame_at rest ≡ Ok ((id, inner), after)
+  pub goes_on : (bytes : List ℕ) (front new : List ItemTree) (rest : List ℕ) (id : ℕ) (inner after : List ℕ) → 0 < length rest → section_at rest ≡ Ok ((id, inner), after)
       → (s : Section) → content id inner ≡ Ok s → new ≡ front ++ section_items s → IsUnderWay bytes front rest → IsUnderWay bytes new after
   goes_on bytes front new rest id inner after some framed s read new_is h =
-      let shorter = frame_shorter rest ((id, inner), after) framed in
+      let shorter = section_shorter rest ((id, inner), after) framed in
       let one_more : with_items front (sections_at content h.most rest) ≡ with_items (front ++ section_items s) (sections_at content (h.most - 1) after) =
       rw (sections_next h.most rest some h.enough, framed, read) (regroup front s (sections_at content (h.most - 1) after)) in
       record { most = h.most - 1; enough = omega (arith, shorter, h.enough); so_far = ap (λ (l : List ItemTree). with_items l (sections_at content (h.most - 1) after)) new_is ∙ sym one_more ∙ h.so_far }
 
-  -- a section has no frame
-  pub no_frame : (e : Refusal) (bytes : List ℕ) (front : List ItemTree) (rest : List ℕ) → 0 < length rest → Fails e (frame_at rest) → IsUnderWay bytes front rest → Fails e (with_items [] (sections_at content (length bytes) bytes))
-  no_frame e bytes front rest some failed h =
+  -- no section stands first
+  pub no_section : (e : Refusal) (bytes : List ℕ) (front : List ItemTree) (rest : List ℕ) → 0 < length rest → Fails e (section_at rest) → IsUnderWay bytes front rest → Fails e (with_items [] (sections_at content (length bytes) bytes))
+  no_section e bytes front rest some failed h =
       subst (λ (r : Result (List ItemTree) Fault). Fails e r) (ap (with_items front) (sym (sections_next h.most rest some h.enough)) ∙ h.so_far)
-      (fails_on e _ (λ ss. Ok (front ++ items_in ss)) (fails_on e (frame_at rest) _ failed))
+      (fails_on e _ (λ ss. Ok (front ++ items_in ss)) (fails_on e (section_at rest) _ failed))
 
   -- a section's content can't be read
-  pub no_content : (e : Refusal) (bytes : List ℕ) (front : List ItemTree) (rest : List ℕ) (id : ℕ) (inner after : List ℕ) → 0 < length rest → frame_at rest ≡ Ok ((id, inner), after)
+  pub no_content : (e : Refusal) (bytes : List ℕ) (front : List ItemTree) (rest : List ℕ) (id : ℕ) (inner after : List ℕ) → 0 < length rest → section_at rest ≡ Ok ((id, inner), after)
       → Fails e (content id inner) → IsUnderWay bytes front rest → Fails e (with_items [] (sections_at content (length bytes) bytes))
   no_content e bytes front rest id inner after some framed failed h =
       let next : sections_at content h.most rest ≡ (content id inner >>= λ s. sections_at content (h.most - 1) after >>= λ ss. Ok (more s ss)) =

@@ -34,6 +34,11 @@ abbrev pub Adds : Result (Unit {0}) Refusal → Result Section Fault → List It
 Adds (Ok u) read old new = (s : Section) × (read ≡ Ok s) × (new ≡ old ++ section_items s)
 Adds (Err refusal) read old new = Fails refusal read
 
+-- the refusal of what has no form
+abbrev pub IsForm : Refusal → Type 0
+IsForm (refusals.Form left) = Unit {0}
+IsForm _ = ⊥
+
 -- the same fault, wherever its place is
 abbrev pub SameFault : Refusal → Refusal → Type 0
 SameFault refusals.Memory refusal = refusal ≡ refusals.Memory

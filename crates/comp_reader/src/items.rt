@@ -9,10 +9,10 @@ ghost use Rattle.comp_format.specs.Fault.{Form as no_form, NotCarried as not_car
 ghost use Rattle.comp_format.specs.CoreTypes.{CoreTree};
 ghost use Rattle.comp_format.specs.Definitions.{TypeTree};
 ghost use Rattle.comp_format.specs.Items.{ImportTree, ExportTree, ItemTree, CoreMade, CoreTy, Instance, Aliased, Ty, Canonical, Import, Export, item_tree};
-ghost use Rattle.comp_format.specs.Sections.{Reads, frame_at, content_at, component_at};
+ghost use Rattle.comp_format.specs.Sections.{Reads, carried_id, frame_at, section_at, content_at, component_at};
 ghost use Rattle.comp_format.specs.Views.{core_tree, type_tree};
 ghost use Rattle.comp_reader.specs.Nested.{sections_items, component_items};
-ghost use Rattle.comp_reader.specs.Refusal.{Gives, Adds};
+ghost use Rattle.comp_reader.specs.Refusal.{Gives, Adds, IsForm};
 ghost use Rattle.comp_reader.specs.Views.{import_tree, export_tree};
 
 use crate::error::ReadError;
@@ -161,17 +161,52 @@ fn push_all<T: Listed>(items: &mut Vec<Item<'_>>, values: Vec<T>) -> Result<(), 
     Ok(())
 }
 
-/// A section's id and content, and the bytes behind it.
+/// A section's id and content, and the bytes behind it, whatever the id is.
 #[tactic(auto, unfolding(comp_format::specs::Sections::frame_at))]
 pub fn frame_of(bytes: &[u8]) -> Result<((u8, &[u8]), &[u8]), Refusal>
-    ensures { Gives (λ x. ((x.0.0, x.0.1.now), x.1.now)) result (frame_at bytes.now) }
+    ensures exact { Gives (λ x. ((x.0.0, x.0.1.now), x.1.now)) result (frame_at bytes.now) }
+    ensures form { IfErr result IsForm }
 {
     match bytes {
         [] => Err(Refusal::Form(0)),
-        [id, rest @ ..] => {
-            let (count, rest) = number_of(rest)?;
-            let (content, rest) = front_of(count, rest)?;
-            Ok(((*id, content), rest))
+        [id, counted @ ..] => {
+            let (count, rest) = number_of(counted)?;
+            match front_of(count, rest) {
+                Ok((content, behind)) => Ok(((*id, content), behind)),
+                // The fault is that of the length, which passes the end.
+                Err(_) => Err(Refusal::Form(counted.len())),
+            }
+        }
+    }
+}
+
+/// An id of which sections are carried. So many bytes are left from it on.
+#[tactic(auto, unfolding(comp_format::specs::Sections::carried_id))]
+fn carried_id(id: u8, left: usize) -> Result<u8, Refusal>
+    ensures { Gives (λ id. id) result (carried_id id) }
+{
+    match id {
+        section::START => Err(Refusal::NotCarried(left)),
+        section::VALUE => Err(Refusal::NotCarried(left)),
+        _ => {
+            if id > section::VALUE {
+                return Err(Refusal::Form(left));
+            }
+            Ok(id)
+        }
+    }
+}
+
+/// The section at the front, of which the id is the first field.
+#[tactic(auto, unfolding(comp_format::specs::Sections::section_at))]
+fn section_of(bytes: &[u8]) -> Result<((u8, &[u8]), &[u8]), Refusal>
+    ensures { Gives (λ x. ((x.0.0, x.0.1.now), x.1.now)) result (section_at bytes.now) }
+{
+    match bytes {
+        [] => Err(Refusal::Form(0)),
+        [id, ..] => {
+            let _carried = carried_id(*id, bytes.len())?;
+            frame_of(bytes)
         }
     }
 }
@@ -255,7 +290,7 @@ fn sections_of(alloc: Global, scopes: u8, bytes: &[u8]) -> Result<Vec<Item<'_>>,
     let mut items = Vec::new(alloc);
     let mut rest = bytes;
     while !rest.is_empty() {
-        let ((id, content), after) = frame_of(rest)?;
+        let ((id, content), after) = section_of(rest)?;
         let at = rest.len().saturating_sub(after.len());
         match any_section(alloc, scopes, at, id, content, &mut items) {
             Ok(()) => {}

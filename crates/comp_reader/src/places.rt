@@ -28,11 +28,23 @@ pub struct RawSection<'a> {
     pub behind: &'a [u8],
 }
 
+/// Where an item stands: the place of its section's id, and its own, in bytes from the component's start. Custom
+/// sections, core modules and nested components have the place of their section.
+#[derive(Clone, Copy, Debug, PartialEq, Eq)]
+pub struct ItemPlace {
+    /// The place of the section's id.
+    pub section: usize,
+    /// The place of the item.
+    pub item: usize,
+}
+
 /// The section at the front of some bytes, whatever it holds (`Binary.md`, "Component Definitions").
 ///
-/// `Form` is answered exactly where its length is no number or passes the end.
+/// `Form` is answered exactly where there are no bytes, or its length is no number or passes the end, with the place of
+/// the length. No other error is answered.
 pub fn read_section(bytes: &[u8]) -> Result<RawSection<'_>, ReadError>
-    ensures { answers.Gives error_fault (λ s. ((s.id, s.content.now), s.behind.now)) result (frame_at bytes.now) }
+    ensures exact { answers.Gives error_fault (λ s. ((s.id, s.content.now), s.behind.now)) result (frame_at bytes.now) }
+    ensures form { IfErr result (λ e. (at : ℕ) × (e ≡ ReadError.Form at)) }
 {
     match frame_of(bytes) {
         Ok(((id, content), behind)) => Ok(RawSection {
@@ -42,16 +54,6 @@ pub fn read_section(bytes: &[u8]) -> Result<RawSection<'_>, ReadError>
         }),
         Err(error) => Err(error.placed(bytes.len())),
     }
-}
-
-/// Where an item stands: the place of its section's id, and its own, in bytes from the component's start. Custom
-/// sections, core modules and nested components have the place of their section.
-#[derive(Clone, Copy, Debug, PartialEq, Eq)]
-pub struct ItemPlace {
-    /// The place of the section's id.
-    pub section: usize,
-    /// The place of the item.
-    pub item: usize,
 }
 
 /// Whether the section of an id is one item, and no vector of items.
@@ -80,7 +82,7 @@ fn section_of(sections: &[u8], number: usize) -> Result<Option<(usize, &[u8])>, 
         → InSection number sections.now this within section
         → SectionForm this section behind
         → MatchResult result (λ found. MatchOption found ⊥ (λ x. (x.0 ≡ within) × (x.1.now ≡ section)))
-        (λ e. e ≡ Refusal.Memory) }
+            (λ e. e ≡ Refusal.Memory) }
     ensures behind { (ss : Sections) → SectionsForm ss sections.now
         → length (items_in ss) ≤ number
         → MatchResult result (λ found. MatchOption found (Unit {0}) (λ x. ⊥)) (λ e. e ≡ Refusal.Memory) }

@@ -1,12 +1,12 @@
 //! Readers of what the forms are made of. Each gives what it read and the bytes behind it, and refuses with the number
 //! of bytes that were left where the fault stands.
 
-ghost use Rattle.std.specs.Prelude.{◌≡◌, ◌≤◌, ◌<◌, ◌^◌, ◌+◌, ◌*◌, [], ℕ, List, Result, map, Ok, IfOk, true, false, MatchOption};
+ghost use Rattle.std.specs.Prelude.{◌≡◌, ◌≤◌, ◌<◌, ◌^◌, ◌+◌, ◌*◌, [], ℕ, List, Result, map, Ok, IfOk, IfErr, true, false, MatchOption};
 ghost use Rattle.std.specs.Str.{is_utf8};
 ghost use Rattle.comp_format.specs.Numbers.{leb_at, signed_leb_at, number_at, signed_index_at};
 ghost use Rattle.comp_format.specs.Vectors.{ReaderOf, front_at, name_at, any_name_at, byte_at, mark_at, carried_at, many_at, vector_at, labelled_at, labelled_vector_at};
 ghost use Rattle.comp_format.specs.Sections.{whole_at};
-ghost use Rattle.comp_reader.specs.Refusal.{Gives};
+ghost use Rattle.comp_reader.specs.Refusal.{Gives, IsForm};
 
 use crate::refusal::Refusal;
 use std::alloc::Global;
@@ -18,6 +18,7 @@ use warg_values::Text;
 fn leb_of(left: u8, at: usize, bytes: &[u8]) -> Result<(u64, &[u8]), Refusal>
     requires { left ≤ 5 }
     ensures exact { Gives (λ x. (x.0, x.1.now)) result (leb_at left bytes.now) }
+    ensures form { IfErr result IsForm }
     ensures below { IfOk result (λ x. x.0 < 128 ^ left) }
 {
     if left == 0 {
@@ -38,7 +39,8 @@ fn leb_of(left: u8, at: usize, bytes: &[u8]) -> Result<(u64, &[u8]), Refusal>
 /// A number below 2^32.
 #[tactic(auto, unfolding(comp_format::specs::Numbers::number_at))]
 pub fn number_of(bytes: &[u8]) -> Result<(u32, &[u8]), Refusal>
-    ensures { Gives (λ x. (x.0, x.1.now)) result (number_at bytes.now) }
+    ensures exact { Gives (λ x. (x.0, x.1.now)) result (number_at bytes.now) }
+    ensures form { IfErr result IsForm }
 {
     let (number, rest) = leb_of(5, bytes.len(), bytes)?;
     match u32::try_from(number) {
@@ -87,7 +89,8 @@ pub fn signed_index_of(bytes: &[u8]) -> Result<(u32, &[u8]), Refusal>
 /// So many bytes, and the bytes behind them.
 #[tactic(auto, unfolding(comp_format::specs::Vectors::front_at))]
 pub fn front_of(count: u32, bytes: &[u8]) -> Result<(&[u8], &[u8]), Refusal>
-    ensures { Gives (λ x. (x.0.now, x.1.now)) result (front_at count bytes.now) }
+    ensures exact { Gives (λ x. (x.0.now, x.1.now)) result (front_at count bytes.now) }
+    ensures form { IfErr result IsForm }
 {
     let count = count as usize;
     if bytes.len() < count {

@@ -158,13 +158,14 @@ fn tuple_of(alloc: Global, bytes: &[u8]) -> Result<(DefinedType, &[u8]), Refusal
 fn flags_of(alloc: Global, bytes: &[u8]) -> Result<(DefinedType, &[u8]), Refusal>
     ensures { Gives (λ x. (x.0, x.1.now)) result (flags_at bytes.now) }
 {
+    let (count, _) = number_of(bytes)?;
+    if count == 0 {
+        return Err(Refusal::Form(bytes.len()));
+    }
+    if 32 < count {
+        return Err(Refusal::Form(bytes.len()));
+    }
     let (labels, rest) = labelled_of::<Text>(alloc, bytes)?;
-    if labels.is_empty() {
-        return Err(Refusal::Form(bytes.len()));
-    }
-    if 32 < labels.len() {
-        return Err(Refusal::Form(bytes.len()));
-    }
     Ok((DefinedType::FlagsOf(Sequence::from_vec(labels)), rest))
 }
 

@@ -44,7 +44,14 @@ const READ: [&str; 33] = [
 ];
 
 /// Damaged sections in hexadecimal digits, and how their refusal begins, with the place where it is told apart.
-const REFUSED: [&str; 46] = [
+const REFUSED: [&str; 53] = [
+    "09 = NotCarried(8)",
+    "0c05 = NotCarried(8)",
+    "0d = Form(8)",
+    "0dff = Form(8)",
+    "0005 = Form(9)",
+    "0703016e21 = Form(12)",
+    "0703016e00 = Form(12)",
     "090100 = NotCarried(8)",
     "0c0100 = NotCarried(8)",
     "0d0100 = Form(8)",

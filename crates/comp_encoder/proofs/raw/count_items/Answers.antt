@@ -10,7 +10,8 @@ use Rattle.comp_format.specs.declared.types.Item.{Item}
 use Rattle.comp_format.specs.Items.{item_tree}
 use Rattle.comp_format.specs.Spaces.{space_of}
 use Rattle.comp_encoder.specs.Writing.{item_sort, numbers, numbered}
-use Rattle.comp_encoder.proofs.CountLaws.{one_sized, one_small, numbered_push, numbered_front}
+use Rattle.comp_encoder.proofs.CountLaws.{one_sized, one_small}
+use Rattle.comp_encoder.proofs.SizeLaws.{counted_more, front_counted}
 use Rattle.comp_encoder.proofs.raw.count_items.Goals as goal
 use Rattle.comp_encoder.proofs.raw.count_items.Goals.{in-Some+in-Some-checked_add, in_default}
 
@@ -19,19 +20,6 @@ failed x = Err x
 
 size_is : (a b : ℕ) → failed (encode_error.TooLarge a) ≡ failed (encode_error.TooLarge b) → a ≡ b
 size_is a b e = cc
-
--- one item more is counted
-counted_more : (kind : Sort) (items : List Item) (i : ℕ) (item : Item) → i < length items → item ≡ get_or items i item
-    → numbered kind (map item_tree (take (i + 1) items)) ≡ numbered kind (map item_tree (take i items)) + cond (numbers (space_of kind) (item_sort (item_tree item))) 1 0
-counted_more kind items i item lt is =
-    ap (λ (xs : List Item). numbered kind (map item_tree xs)) (take_more items i item lt ∙ ap (λ (x : Item). take i items ++ x ∷ []) (sym is))
-    ∙ ap (numbered kind) (map_push item_tree (take i items) item) ∙ numbered_push kind (map item_tree (take i items)) (item_tree item)
-
--- all of the items are no fewer than the first of them
-front_counted : (kind : Sort) (items : List Item) (n : ℕ) → numbered kind (map item_tree (take n items)) ≤ numbered kind (map item_tree items)
-front_counted kind items n =
-    let whole : map item_tree items ≡ map item_tree (take n items) ++ map item_tree (drop n items) = ap (map item_tree) (sym (take-append-drop n items)) ∙ map-append item_tree (take n items) (drop n items) in
-    omega (arith, ap (numbered kind) whole, numbered_front kind (map item_tree (take n items)) (map item_tree (drop n items)))
 
 pub loop-item-preserved : goal.loop-item-preserved
 loop-item-preserved c =
@@ -72,8 +60,10 @@ returns-in-None-clause-too_large c = λ n e.
     let item = c.item-item.result in
     let sizes = c.loop-item.sizes in
     let of = c.in-Some.sort in
-    let full : slice_index sizes (space_of of) + 1 ≡ n = ap (λ s. slice_index sizes s + 1) (sym c.space_of-space.ensures.value) ∙ size_is (slice_index sizes c.space_of-space.result + 1) n e in
+    let told : c.size_with.result ≡ n = size_is c.size_with.result n e in
+    let size : n ≡ slice_index c.args.counts (space_of of) + numbered of (map item_tree items) =
+    sym told ∙ c.size_with.ensures ∙ ap (λ s. slice_index c.args.counts s + numbered of (map item_tree items)) c.space_of-space.ensures.value in
     let sorted : item_sort (item_tree item) ≡ Some of = sym c.sort_of.ensures ∙ c.in-Some.is in
     let one : cond {A = ℕ} (numbers (space_of of) (item_sort (item_tree item))) 1 0 ≡ 1 = rw (sorted, eq-eqb (space_of of) (space_of of) refl) refl in
-    let last : n ≡ 2 ^ 32 = omega (arith, c.in-None.ensures, size_is (slice_index sizes c.space_of-space.result + 1) n e) in
-    (last, (of, omega (arith, last, full, c.loop-item.invariant.counted of, counted_more of items i item c.loop-item-test.true c.item-item.is, one, front_counted of items (i + 1))))
+    let full : 2 ^ 32 ≤ slice_index sizes (space_of of) + 1 = omega (arith, c.in-None.ensures, ap (λ s. slice_index sizes s) c.space_of-space.ensures.value) in
+    (omega (arith, size, full, c.loop-item.invariant.counted of, counted_more of items i item c.loop-item-test.true c.item-item.is, one, front_counted of items (i + 1)), (of, size))

@@ -34,4 +34,4 @@ returns-clause-too_large c = λ items is n e.
     let reads : Reads c.deref.result.now items = subst (λ (bytes : List ℕ). Reads bytes items) (sym text) (subst (Reads _) is.items_are (one_section c.args.id c.args.content.now is.section is.id_is is.form c.in_ok-component.ensures.fits)) in
     let same : map item_tree c.deref-2.result.now ≡ items = ap (map item_tree) c.deref-2.ensures.value ∙ reads_once c.deref.result.now _ items c.in_ok-items.ensures.reads reads in
     let refused = c.count_items.ensures.too_large n e in
-    (omega (arith, refused.0), inr (refused.0, (refused.1.0, subst (λ (xs : List ItemTree). 2 ^ 32 ≤ slice_index c.args.counts (space_of refused.1.0) + numbered refused.1.0 xs) same refused.1.1)))
+    (refused.0, inr (refused.1.0, subst (λ (xs : List ItemTree). n ≡ slice_index c.args.counts (space_of refused.1.0) + numbered refused.1.0 xs) same refused.1.1))

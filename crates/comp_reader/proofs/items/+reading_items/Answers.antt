@@ -7,7 +7,7 @@ use Rattle.comp_format.specs.Fault.{Fault}
 use Rattle.comp_format.specs.Items.{ItemTree, Component, item_tree}
 use Rattle.comp_format.specs.Sections.{content_at}
 use Rattle.comp_reader.specs.Refusal.{Gives}
-use Rattle.comp_reader.proofs.ItemLaws.{goes_on, no_frame, no_content, is_done, same_fails, frame_shorter, nested_adds, component_items_are}
+use Rattle.comp_reader.proofs.ItemLaws.{goes_on, no_section, no_content, is_done, same_fails, section_shorter, nested_adds, component_items_are}
 use Rattle.comp_reader.proofs.items.+reading_items.Goals as goal
 
 pub any_section-returns : goal.any_section-returns
@@ -26,7 +26,7 @@ pub sections_of-returns-in_err-id : goal.sections_of-returns-in_err-id
 sections_of-returns-in_err-id t c =
     let p = err_from_is_err_and c.from_residual.result c.from_residual.ensures.1 in
     let some : 0 < length c.loop-rest.rest.now = grind (arith, common_steps) in
-    rw (p.1, p.2) (no_frame (content_at c.args.scopes) c.in_err-id.field-0.0 c.args.bytes.now (map item_tree c.loop-rest.items.items) c.loop-rest.rest.now some c.in_err-id.ensures c.loop-rest.invariant)
+    rw (p.1, p.2) (no_section (content_at c.args.scopes) c.in_err-id.field-0.0 c.args.bytes.now (map item_tree c.loop-rest.items.items) c.loop-rest.rest.now some c.in_err-id.ensures c.loop-rest.invariant)
 
 pub sections_of-returns-in-Err : goal.sections_of-returns-in-Err
 sections_of-returns-in-Err t c =
@@ -35,7 +35,7 @@ sections_of-returns-in-Err t c =
     (no_content (content_at c.args.scopes) c.in-Err.error c.args.bytes.now (map item_tree c.loop-rest.items.items) c.loop-rest.rest.now c.in_ok-id.id c.in_ok-id.content.now c.in_ok-id.after.now some c.in_ok-id.ensures c.in-Err.ensures c.loop-rest.invariant)
 
 pub sections_of-loop-rest-smaller : goal.sections_of-loop-rest-smaller
-sections_of-loop-rest-smaller t c = frame_shorter c.loop-rest.rest.now ((c.in_ok-id.id, c.in_ok-id.content.now), c.in_ok-id.after.now) c.in_ok-id.ensures
+sections_of-loop-rest-smaller t c = section_shorter c.loop-rest.rest.now ((c.in_ok-id.id, c.in_ok-id.content.now), c.in_ok-id.after.now) c.in_ok-id.ensures
 
 pub sections_of-loop-rest-preserved : goal.sections_of-loop-rest-preserved
 sections_of-loop-rest-preserved t c =

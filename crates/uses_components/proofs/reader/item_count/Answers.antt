@@ -1,7 +1,10 @@
-use Rattle.std.proofs.Common.{length, sym, ap, ◌∙◌}
+use Rattle.std.proofs.Common.{◌≡◌, length, map, sym, ap, ◌∙◌, arith}
+use Rattle.std.proofs.lemmas.Grind.{common_steps}
 use Rattle.std.proofs.lemmas.List.{length-map}
 use Rattle.comp_format.specs.Items.{item_tree}
 use Rattle.uses_components.proofs.reader.item_count.Goals as goal
 
 pub returns-in-Ok : goal.returns-in-Ok
-returns-in-Ok c = λ items reads. c.len.ensures ∙ sym (length-map c.in-Ok.items.items item_tree) ∙ ap length (c.in-Ok.ensures.only items reads)
+returns-in-Ok c = λ items reads.
+    let same : length c.in-Ok.items.items ≡ length items = sym (length-map c.in-Ok.items.items item_tree) ∙ ap length (c.in-Ok.ensures.only items reads) in
+    grind (arith, common_steps, same)

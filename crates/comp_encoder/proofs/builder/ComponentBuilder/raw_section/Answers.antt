@@ -14,10 +14,10 @@ use Rattle.comp_encoder.proofs.CountLaws.{section_built, entries_section}
 use Rattle.comp_encoder.proofs.builder.ComponentBuilder.raw_section.Goals as goal
 
 -- which number is too large, by what index spaces number in place of their counts
-told : (length n : ℕ) (had has more : Sort → ℕ) → ((kind : Sort) → had kind ≡ has kind) → ((n ≡ length) ⊎ ((n ≡ 2 ^ 32) × ((kind : Sort) × (2 ^ 32 ≤ had kind + more kind))))
-    → ((n ≡ length) ⊎ ((n ≡ 2 ^ 32) × ((kind : Sort) × (2 ^ 32 ≤ has kind + more kind))))
+told : (length n : ℕ) (had has more : Sort → ℕ) → ((kind : Sort) → had kind ≡ has kind) → ((n ≡ length) ⊎ ((kind : Sort) × (n ≡ had kind + more kind)))
+    → ((n ≡ length) ⊎ ((kind : Sort) × (n ≡ has kind + more kind)))
 told length n had has more same (inl h) = inl h
-told length n had has more same (inr h) = inr (h.0, (h.1.0, omega (arith, h.1.1, same h.1.0)))
+told length n had has more same (inr h) = inr (h.0, omega (arith, h.1, same h.0))
 
 abbrev failed : {A : Type 0} → EncodeError → Result A EncodeError
 failed x = Err x
