@@ -1,15 +1,16 @@
 -- The best of releases, as one more is seen.
-use Rattle.std.proofs.Common.{◌≡◌, ◌≢◌, ℕ, Bool, true, false, List, [], ◌∷◌, ◌++◌, Option, Some, None, refl, sym, ap, ◌∙◌}
+use Rattle.std.proofs.Common.{◌≡◌, ◌≢◌, ℕ, Bool, true, false, List, [], ◌∷◌, ◌++◌, Option, Some, None, cond, ◌&&◌, fold, refl, sym, ap, subst, ◌∙◌, append_assoc}
 use Rattle.std.specs.List.{AllByRecursion}
 use Rattle.std.specs.Cmp.{IsTotalOrder, nat_cmp_total, then_total, on_total, tied_itself}
 use Rattle.std.specs.Ordering.{is_lt}
 use Rattle.std.specs.declared.cmp.Ordering.{Ordering}
 use Rattle.std.specs.declared.cmp.Ordering.TheVariants.{Less, Equal, Greater}
 use Rattle.std.proofs.lemmas.Bool.{false≢true}
+use Rattle.std.proofs.lemmas.List.{append-nil}
 use Rattle.std.proofs.lemmas.List.Elements.{Contains-push, Contains-append_left}
 use Rattle.semver.specs.OrderLaws.{pre_total, build_total}
 use Rattle.semver.specs.Parse.{Parts}
-use Rattle.warg_log.specs.Choice.{version_cmp, IsGreatest}
+use Rattle.warg_log.specs.Choice.{version_cmp, IsGreatest, better, greatest}
 
 pub version_total : IsTotalOrder version_cmp
 version_total = then_total (on_total (λ (v : Parts). v.0) nat_cmp_total) (then_total (on_total (λ (v : Parts). v.1) nat_cmp_total) (then_total (on_total (λ (v : Parts). v.2) nat_cmp_total)
@@ -65,3 +66,27 @@ replaced passes rs b r passed above is = (
       (λ s least can over. least can (version_total.trans b.0 r.0 s.0 (less_is (version_cmp b.0 r.0) above) over)) rs is.2)
       (λ same. not_itself r.0),
 )
+
+-- the better of what was found before and one more
+pub better_is : (passes : Parts × Option (List ℕ) → Bool) (rs : List (Parts × Option (List ℕ))) (best : Option (Parts × Option (List ℕ))) (r : Parts × Option (List ℕ)) → IsGreatest passes rs best → IsGreatest passes (rs ++ r ∷ []) (better passes best r)
+better_is passes rs None r is = by (passes r) refl
+  where
+    by : (b : Bool) → passes r ≡ b → IsGreatest passes (rs ++ r ∷ []) (cond b (Some r) None)
+    by true e = first_found passes rs r e is
+    by false e = missed passes rs None r e is
+better_is passes rs (Some b) r is = by (passes r) (is_lt (version_cmp b.0 r.0)) refl refl
+  where
+    by : (p above : Bool) → passes r ≡ p → is_lt (version_cmp b.0 r.0) ≡ above → IsGreatest passes (rs ++ r ∷ []) (cond (p && above) (Some r) (Some b))
+    by true true e above = replaced passes rs b r e above is
+    by true false e above = kept passes rs b r above is
+    by false above e is_above = missed passes rs (Some b) r e is
+
+-- what is found from the first release on is the greatest
+pub greatest_from : (passes : Parts × Option (List ℕ) → Bool) (seen rs : List (Parts × Option (List ℕ))) (best : Option (Parts × Option (List ℕ))) → IsGreatest passes seen best → IsGreatest passes (seen ++ rs) (fold (better passes) best rs)
+greatest_from passes seen [] best is = subst (λ xs. IsGreatest passes xs best) (sym (append-nil seen)) is
+greatest_from passes seen (r ∷ rs) best is =
+    subst (λ xs. IsGreatest passes xs (fold (better passes) (better passes best r) rs)) (append_assoc seen (r ∷ []) rs)
+    (greatest_from passes (seen ++ r ∷ []) rs (better passes best r) (better_is passes seen best r is))
+
+pub greatest_is : (passes : Parts × Option (List ℕ) → Bool) (rs : List (Parts × Option (List ℕ))) → IsGreatest passes rs (greatest passes rs)
+greatest_is passes rs = greatest_from passes [] rs None tt

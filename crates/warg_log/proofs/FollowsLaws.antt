@@ -12,7 +12,8 @@ use Rattle.warg_log.specs.Breaches.{IsBreach, wants_memory}
 use Rattle.warg_log.specs.History.{last_or}
 use Rattle.warg_log.specs.Facts.{PlainFacts, known_steps, known_entries_breach, lacks_opening, signer_by}
 use Rattle.warg_log.specs.Lawful.{IsLawful}
-use Rattle.warg_log.specs.Rules.{Breach, Signed, Accepts, entries_of, head_of, head_from, head_rules, broken, FirstEntryNotInit, BadSignature, signature_breach, signed_text, lacks_init, is_first, signer_key, breach_of}
+use Rattle.warg_log.specs.Rules.{Breach, Accepts, entries_of, head_of, head_from, head_rules, broken, FirstEntryNotInit, BadSignature, signature_breach, signed_text, lacks_init, is_first, signer_key, breach_of}
+use Rattle.warg_record.specs.Envelope.{Signed}
 use Rattle.warg_log.proofs.AgreesLaws.{breaches-agree, steps-agree}
 
 -- what a breach or what comes after it says

@@ -3,6 +3,7 @@ pub mod VersionKeys
 pub mod ReleaseLaws
 pub mod PlacedLaws
 pub mod FactsLaws
+pub mod ReadLaws
 pub mod PermissionLaws
 pub mod AgreesLaws
 pub mod FollowsLaws

@@ -1,8 +1,8 @@
 -- The choice of a release.
-use Rattle.std.specs.Prelude.{◌≡◌, ◌≢◌, ◌&&◌, ℕ, Bool, true, false, List, bytes_eq, is_some, Contains, Option, Some, None}
+use Rattle.std.specs.Prelude.{◌≡◌, ◌≢◌, ◌&&◌, ℕ, Bool, true, false, if◌then◌else◌, List, fold, bytes_eq, is_some, Contains, Option, Some, None}
 use Rattle.std.specs.List.{AllByRecursion}
 use Rattle.std.specs.Option.{option_eq, option_map_or}
-use Rattle.std.specs.Ordering.{ordering_then, nat_cmp}
+use Rattle.std.specs.Ordering.{ordering_then, nat_cmp, is_lt}
 use Rattle.std.specs.declared.cmp.Ordering.{Ordering}
 use Rattle.std.specs.declared.cmp.Ordering.TheVariants.{Less}
 use Rattle.semver.specs.EvalViews.{matches_views}
@@ -33,6 +33,19 @@ abbrev pub IsGreatest : (Parts × Option (List ℕ) → Bool) → List (Parts ×
 IsGreatest passes rs None = AllByRecursion (λ s. passes s ≡ false) rs
 IsGreatest passes rs (Some r) = Contains rs r × (passes r ≡ true) × AllByRecursion (λ s. passes s ≡ true → version_cmp r.0 s.0 ≢ Less) rs
 
+-- of the best release before and one more: the later one where it passes and is greater
+abbrev pub better : (Parts × Option (List ℕ) → Bool) → Option (Parts × Option (List ℕ)) → Parts × Option (List ℕ) → Option (Parts × Option (List ℕ))
+better passes None r = if passes r then Some r else None
+better passes (Some b) r = if passes r && is_lt (version_cmp b.0 r.0) then Some r else Some b
+
+-- the greatest of the releases that pass a test, as it is found from the first one on
+abbrev pub greatest : (Parts × Option (List ℕ) → Bool) → List (Parts × Option (List ℕ)) → Option (Parts × Option (List ℕ))
+greatest passes rs = fold (better passes) None rs
+
 -- the choice by a requirement, and by an exact version and a digest where they are given: the greatest of the candidates
 abbrev pub IsChosen : List Held → Option Parts → Option (List ℕ) → List (Parts × Option (List ℕ)) → Option (Parts × Option (List ℕ)) → Type 0
 IsChosen req exact digest rs choice = IsGreatest (is_candidate req exact digest) rs choice
+
+-- that choice, as it is found
+abbrev pub choice : List Held → Option Parts → Option (List ℕ) → List (Parts × Option (List ℕ)) → Option (Parts × Option (List ℕ))
+choice req exact digest rs = greatest (is_candidate req exact digest) rs

@@ -14,7 +14,8 @@ use Rattle.warg_log.specs.Keys.{known, given, taken, restored}
 use Rattle.warg_log.specs.Namespaces.{space}
 use Rattle.warg_log.specs.Permissions.{has_permission, set_of, all_of}
 use Rattle.warg_log.specs.Places.{content_at, place_of, versions_of, without_last, with_content}
-use Rattle.warg_log.specs.Rules.{Breach, InitAgain, HashAlgorithm, Unpermitted, ReleaseAgain, YankUnreleased, YankYanked, NamespaceTaken, broken, Signed, opening_key}
+use Rattle.warg_log.specs.Rules.{Breach, InitAgain, HashAlgorithm, Unpermitted, ReleaseAgain, YankUnreleased, YankYanked, NamespaceTaken, broken, opening_key}
+use Rattle.warg_record.specs.Envelope.{Signed}
 use Rattle.warg_log.specs.declared.head.Head.{Head}
 use Rattle.warg_log.specs.History.{has_id}
 

@@ -6,15 +6,9 @@ use Rattle.warg_values.specs.declared.moment.Moment.{Moment}
 use Rattle.semver.specs.Parse.{Parts}
 use Rattle.sha2.specs.Sha256.{sha256}
 use Rattle.warg_record.specs.Record.{Kind, Package, Operator, PlainEntry, Init, GrantFlat, RevokeFlat, Release, Yank, DefineNamespace, ImportNamespace, PlainRecord}
+use Rattle.warg_record.specs.Envelope.{Signed}
 use Rattle.warg_log.specs.declared.head.Head.{Head}
 use Rattle.warg_log.specs.History.{key_with, has_id, holds, is_released, is_yanked, namespace_of, last_or}
-
--- a record with its message, the id of the key that signed it, and the signature
-pub record Signed : Type 0 where
-  pub rec : PlainRecord
-  pub contents : List ℕ
-  pub key_id : List ℕ
-  pub signature : List ℕ
 
 -- the entries of a list of records, in order
 abbrev pub entries_of : List Signed → List PlainEntry

@@ -3,7 +3,7 @@
 ghost use Rattle.std.specs.Prelude.{◌≡◌, ◌≤◌, ◌↔◌, ◌⊎◌, ◌++◌, ◌∷◌, [], List, ℕ, Some, true, false, IfOk, IfSome, IfNone, IsErrOf, OnOk, OnErr};
 ghost use Rattle.std.specs.List.{list_any};
 ghost use Rattle.std.specs.List.Sorted.{IsPermutation};
-ghost use Rattle.warg_values.specs.Faults.{Rose, one_more};
+ghost use Rattle.warg_values.specs.Faults.{one_more};
 ghost use Rattle.warg_log.specs.Listed.{is_signature_of, is_signature_listed, IsDue, IsUnlisted};
 
 use crate::signer::{SignError, Signer};
@@ -109,7 +109,8 @@ impl Signer for ListedSigner {
         ensures signed { IfOk result (λ signature. is_signature_listed self.old.listed text.now signature ≡ true) }
         ensures failed { IsErrOf result SignError.Failed
             ↔ (IsDue self.old.schedule ⊎ IsUnlisted self.old.listed text.now) }
-        ensures counted { IsErrOf result SignError.Failed → Rose self.old.faults self.new.faults }
+        ensures counted { IsErrOf result SignError.Failed → self.new.faults ≡ one_more self.old.faults }
+        ensures steady { ¬ (IsErrOf result SignError.Failed) → self.new.faults ≡ self.old.faults }
         ensures calls { self.new.schedule.calls ≡ one_more self.old.schedule.calls }
         ensures failing { self.new.schedule.failing ≡ self.old.schedule.failing }
     {

@@ -1,18 +1,20 @@
 //! The state of a log.
 
 ghost use Rattle.std.specs.Prelude.{◌≡◌, ◌∷◌, ◌++◌, [], List, Option, Some, None, IfOk, IfErr, OnOk, OnErr, MatchOption, false, map, is_some, not, option_copied, option_map, find};
-ghost use Rattle.warg_log.specs.Rules.{Signed, Accepts, any_signature, signed_text, head_from, breach_of, head_rules, broken, FirstEntryNotInit, signature_breach, Breach, head_of, entries_of};
+ghost use Rattle.warg_log.specs.Rules.{Accepts, any_signature, signed_text, head_from, breach_of, head_rules, broken, FirstEntryNotInit, signature_breach, Breach, head_of, entries_of};
+ghost use Rattle.warg_record.specs.Envelope.{Signed};
 ghost use Rattle.warg_log.specs.Breaches.{IsBreach};
 ghost use Rattle.warg_log.specs.Lawful.{IsLawful};
 ghost use Rattle.warg_log.specs.Facts.{known_by, known_steps, known_entries_breach, lacks_opening, signer_by};
-ghost use Rattle.warg_log.specs.Follows.{Follows, signed};
+ghost use Rattle.warg_record.specs.View.{envelope_view};
+ghost use Rattle.warg_log.specs.Follows.{Follows, IsReplayOf};
 ghost use Rattle.warg_log.specs.History.{key_with, releases_of, same_version, namespace_of};
 ghost use Rattle.warg_log.specs.Places.{release_view, release_views};
 ghost use Rattle.warg_log.specs.Namespaces.{namespace_view};
-ghost use Rattle.warg_log.specs.Choice.{IsChosen};
+ghost use Rattle.warg_log.specs.Choice.{IsChosen, choice};
 ghost use Rattle.semver.specs.Identifiers.{parts_of, comparator_view};
 
-use crate::choice::chosen;
+use crate::choice::{Candidate, greatest};
 use crate::error::ValidationError;
 use crate::facts::Facts;
 use crate::head::Head;
@@ -23,7 +25,7 @@ use crate::verifier::Verifier;
 use semver::{Version, VersionReq};
 use std::alloc::Global;
 use std::marker::PhantomData;
-use warg_hash::{KeyId, RecordId};
+use warg_hash::{AnyHash, KeyId, RecordId};
 use warg_record::{Envelope, PublicKey, Record};
 use warg_values::Memory;
 
@@ -40,9 +42,9 @@ fn check_head<E: JudgedEntry>(
     head: &Option<Head>,
     env: &Envelope<Record<E>>,
 ) -> Result<(), ValidationError>
-    ensures ok { OnOk result ((next : Option Breach) → head_rules head.now (signed E.plain env.now) next ≡ next) }
+    ensures ok { OnOk result ((next : Option Breach) → head_rules head.now (envelope_view E.plain env.now) next ≡ next) }
     ensures err { IfErr result (λ e. (next : Option Breach)
-        → IsBreach e (head_rules head.now (signed E.plain env.now) next)) }
+        → IsBreach e (head_rules head.now (envelope_view E.plain env.now) next)) }
 {
     let rec = &env.rec;
     if rec.version != 0 {
@@ -80,12 +82,12 @@ fn signer_of<'a, E: JudgedEntry>(
     facts: &'a Facts,
     env: &'a Envelope<Record<E>>,
 ) -> Result<&'a PublicKey, ValidationError>
-    ensures lacks { IfOk result (λ key. lacks_opening head.now (signed E.plain env.now) ≡ false) }
-    ensures key { IfOk result (λ key. signer_by head.now (known_by facts.now) (signed E.plain env.now) ≡ Some key.now) }
+    ensures lacks { IfOk result (λ key. lacks_opening head.now (envelope_view E.plain env.now) ≡ false) }
+    ensures key { IfOk result (λ key. signer_by head.now (known_by facts.now) (envelope_view E.plain env.now) ≡ Some key.now) }
     ensures err { IfErr result (λ e. (accepts : Accepts)
-        → IsBreach e (broken (lacks_opening head.now (signed E.plain env.now)) FirstEntryNotInit
-        (signature_breach E.kind accepts (signed E.plain env.now) (signer_by head.now (known_by facts.now)
-        (signed E.plain env.now))))) }
+        → IsBreach e (broken (lacks_opening head.now (envelope_view E.plain env.now)) FirstEntryNotInit
+        (signature_breach E.kind accepts (envelope_view E.plain env.now) (signer_by head.now (known_by facts.now)
+        (envelope_view E.plain env.now))))) }
 {
     if head.is_some() {
         let Some(known) = facts.keys.get(&env.key_id) else {
@@ -139,7 +141,7 @@ impl<E: JudgedEntry> LogState<E> {
             (known_by self.old.facts) (map E.plain env.now.rec.entries.items) ≡ None) }
         ensures after { OnOk result (known_by self.new.facts
             ≡ known_steps E.kind (known_by self.old.facts) (map E.plain env.now.rec.entries.items)) }
-        ensures head { OnOk result (self.new.head ≡ Some (head_from (signed E.plain env.now))) }
+        ensures head { OnOk result (self.new.head ≡ Some (head_from (envelope_view E.plain env.now))) }
         ensures err { IfErr result (λ e. IsBreach e (known_entries_breach E.kind env.now.key_id (not
             (is_some self.old.head)) (known_by self.old.facts) (map E.plain env.now.rec.entries.items))) }
         ensures same { OnErr result (known_by self.new.facts ≡ known_by self.old.facts) }
@@ -162,6 +164,9 @@ impl<E: JudgedEntry> LogState<E> {
 
     /// Accepts a record that obeys the rules after those that were accepted. Where it breaks one, the error is the
     /// first, and nothing changes.
+    ///
+    /// The signature is judged over the contents, and the entries are those of the record: only of an envelope as
+    /// `Envelope::read` gives it are they those that were signed.
     pub fn validate<V: Verifier>(
         &mut self,
         alloc: Global,
@@ -170,13 +175,13 @@ impl<E: JudgedEntry> LogState<E> {
     ) -> Result<(), ValidationError>
         ensures ok { OnOk result ((log : List Signed)
             → Follows E.kind self.old log
-            → breach_of E.kind (V.good verifier.now) log (signed E.plain env.now) ≡ None) }
+            → breach_of E.kind (V.good verifier.now) log (envelope_view E.plain env.now) ≡ None) }
         ensures follows { OnOk result ((log : List Signed)
             → Follows E.kind self.old log
-            → Follows E.kind self.new (log ++ signed E.plain env.now ∷ [])) }
+            → Follows E.kind self.new (log ++ envelope_view E.plain env.now ∷ [])) }
         ensures err { IfErr result (λ e. (log : List Signed)
             → Follows E.kind self.old log
-            → IsBreach e (breach_of E.kind (V.good verifier.now) log (signed E.plain env.now))) }
+            → IsBreach e (breach_of E.kind (V.good verifier.now) log (envelope_view E.plain env.now))) }
         ensures same { OnErr result ((log : List Signed) → Follows E.kind self.old log → Follows E.kind self.new log) }
     {
         check_head(&self.head, env)?;
@@ -191,13 +196,13 @@ impl<E: JudgedEntry> LogState<E> {
     fn follow(&mut self, alloc: Global, env: &Envelope<Record<E>>) -> Result<(), ValidationError>
         ensures ok { OnOk result ((log : List Signed)
             → Follows E.kind self.old log
-            → breach_of E.kind any_signature log (signed E.plain env.now) ≡ None) }
+            → breach_of E.kind any_signature log (envelope_view E.plain env.now) ≡ None) }
         ensures follows { OnOk result ((log : List Signed)
             → Follows E.kind self.old log
-            → Follows E.kind self.new (log ++ signed E.plain env.now ∷ [])) }
+            → Follows E.kind self.new (log ++ envelope_view E.plain env.now ∷ [])) }
         ensures err { IfErr result (λ e. (log : List Signed)
             → Follows E.kind self.old log
-            → IsBreach e (breach_of E.kind any_signature log (signed E.plain env.now))) }
+            → IsBreach e (breach_of E.kind any_signature log (envelope_view E.plain env.now))) }
     {
         check_head(&self.head, env)?;
         signer_of(&self.head, &self.facts, env)?;
@@ -205,10 +210,13 @@ impl<E: JudgedEntry> LogState<E> {
     }
 
     /// The state of a list of records, where they obey all rules but that of the signature.
+    ///
+    /// The records are taken as they are: only of envelopes as `Envelope::read` gives them are the entries those that
+    /// were signed.
     pub fn replay(alloc: Global, envs: &[Envelope<Record<E>>]) -> Result<Option<Self>, Memory>
-        ensures { IfOk result (λ o. MatchOption o (IsLawful E.kind any_signature (map (signed E.plain) envs.now)
-            → ⊥) (λ state. IsLawful E.kind any_signature (map (signed E.plain) envs.now)
-            × Follows E.kind state (map (signed E.plain) envs.now))) }
+        ensures { IfOk result (λ o. MatchOption o
+            (IsLawful E.kind any_signature (map (envelope_view E.plain) envs.now) → ⊥)
+            (λ state. IsReplayOf E.kind state (map (envelope_view E.plain) envs.now))) }
     {
         let mut state = LogState::new(alloc);
         for env in envs {
@@ -262,12 +270,35 @@ impl<E: JudgedEntry> LogState<E> {
     /// The greatest of the releases that are not yanked and meet a requirement, by precedence and then by build
     /// metadata.
     pub fn find_latest_release(&self, req: &VersionReq) -> Option<&Release>
-        ensures { (log : List Signed)
-            → Follows E.kind self.now log
-            → IsChosen (map comparator_view req.now.comparators.items) None None (releases_of (entries_of log))
+        ensures value { (log : List Signed) → Follows E.kind self.now log
+            → option_map release_view (option_copied result)
+            ≡ choice (map comparator_view req.now.comparators.items) None None (releases_of (entries_of log)) }
+        ensures chosen { (log : List Signed) → Follows E.kind self.now log
+            → IsChosen (map comparator_view req.now.comparators.items) None None
+            (releases_of (entries_of log)) (option_map release_view (option_copied result)) }
+    {
+        self.find_release(req, None, None)
+    }
+
+    /// The greatest of the releases that are not yanked and meet a requirement, as `find_latest_release`, of those of
+    /// this very version and of this digest where they are given.
+    pub fn find_release(
+        &self,
+        req: &VersionReq,
+        exact: Option<&Version>,
+        digest: Option<&AnyHash>,
+    ) -> Option<&Release>
+        ensures value { (log : List Signed) → Follows E.kind self.now log
+            → option_map release_view (option_copied result)
+            ≡ choice (map comparator_view req.now.comparators.items) (option_map parts_of (option_copied exact.entry))
+            (option_copied digest.entry) (releases_of (entries_of log)) }
+        ensures chosen { (log : List Signed) → Follows E.kind self.now log
+            → IsChosen (map comparator_view req.now.comparators.items) (option_map parts_of (option_copied exact.entry))
+            (option_copied digest.entry) (releases_of (entries_of log))
             (option_map release_view (option_copied result)) }
     {
-        chosen(req, self.facts.releases.as_slice())
+        let wanted = Candidate { req, exact, digest };
+        greatest(&wanted, self.facts.releases.as_slice())
     }
 
     /// What is known of a namespace.

@@ -14,3 +14,6 @@ pub mod TrueLaws
 pub mod TrueMaps
 pub mod TrueBundles
 mod Worked
+pub mod HashedLaws
+pub mod LeafLaws
+pub mod WrittenLaws

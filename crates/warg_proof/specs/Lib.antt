@@ -1,5 +1,6 @@
 pub mod Merkle
 pub mod LogTree
+pub mod HashedTree
 pub mod MapTree
 pub mod LogProofs
 pub mod MapProofs

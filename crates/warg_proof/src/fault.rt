@@ -1,11 +1,12 @@
 //! Why a proof is refused.
 
 ghost use Rattle.std.specs.Prelude.{◌≡◌};
-ghost use Rattle.warg_proof.specs.declared.fault.ProofFault.TheVariants.{Memory};
+ghost use Rattle.warg_proof.specs.declared.fault.ProofFault.TheVariants.{Memory as WantsMemory};
 
 use std::alloc::{AllocError, AllocFailed};
 use thiserror::Error;
 use warg_hash::AnyHash;
+use warg_values::Memory;
 
 /// Why the bytes of a proof bundle, or a proof in it, are refused.
 #[derive(Clone, Copy, Debug, PartialEq, Eq, Error)]
@@ -38,8 +39,16 @@ pub enum ProofFault {
     Memory,
 }
 
+impl From<Memory> for ProofFault {
+    ghost from_gives = { λ _ fault. fault ≡ WantsMemory };
+
+    fn from(_memory: Memory) -> ProofFault {
+        ProofFault::Memory
+    }
+}
+
 impl From<AllocError> for ProofFault {
-    ghost from_gives = { λ _ fault. fault ≡ Memory };
+    ghost from_gives = { λ _ fault. fault ≡ WantsMemory };
 
     fn from(_error: AllocError) -> ProofFault {
         ProofFault::Memory
@@ -47,7 +56,7 @@ impl From<AllocError> for ProofFault {
 }
 
 impl<T: Drop> From<AllocFailed<T>> for ProofFault {
-    ghost from_gives = { λ _ fault. fault ≡ Memory };
+    ghost from_gives = { λ _ fault. fault ≡ WantsMemory };
 
     fn from(_error: AllocFailed<T>) -> ProofFault {
         ProofFault::Memory

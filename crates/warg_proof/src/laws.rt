@@ -4,6 +4,7 @@ ghost use Rattle.std.specs.Prelude.{◌≡◌, ◌⊎◌, ℕ, ◌+◌, ◌^◌,
 ghost use Rattle.sha2.specs.Sha256.{sha256};
 ghost use Rattle.hex.specs.Hex.{IsBytes};
 ghost use Rattle.warg_hash.specs.Hash.{IsDigest};
+ghost use Rattle.warg_proof.specs.Leaves.{log_entry, map_value};
 ghost use Rattle.warg_proof.specs.Merkle.{AreBytes, AreHashes, IsClash, leaf_hash, branch_hash};
 ghost use Rattle.warg_proof.specs.LogTree.{root, inclusion_ranges, path_root, inclusion_clash, consistency_ranges, two_roots, consistency_clash};
 ghost use Rattle.warg_proof.specs.LogProofs.{LogProofs, asked_inclusion, ProvesInclusion, asked_consistency, ProvesConsistency};
@@ -98,6 +99,16 @@ pub fn listed_consistency()
         → asked_consistency proofs ≡ Some (record { old_length = old; new_length = length entries })
         → ListsTruly proofs.nodes entries (consistency_ranges old (length entries))
         → ProvesConsistency proofs old (length entries) (root (take old entries)) (root entries) }
+{}
+
+/// An entry of a registry's log tells which log and which record it is, and a value of its map which record.
+pub fn leaves_are_told_apart()
+    ensures entries { (log_id record_id other_log other_record : List ℕ)
+        → IsDigest log_id → IsDigest record_id → IsDigest other_log → IsDigest other_record
+        → log_entry log_id record_id ≡ log_entry other_log other_record
+        → (log_id ≡ other_log) × (record_id ≡ other_record) }
+    ensures values { (record_id other_record : List ℕ) → IsDigest record_id → IsDigest other_record
+        → map_value record_id ≡ map_value other_record → record_id ≡ other_record }
 {}
 
 /// A map bundle whose path has the true siblings of a log's key proves the log's value. `MapBundle::inclusion` is then

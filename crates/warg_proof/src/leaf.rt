@@ -1,8 +1,9 @@
 //! What stands at the leaves of a registry's log and map.
 
 ghost use Rattle.std.specs.Prelude.{◌≡◌, IfOk};
-ghost use Rattle.warg_proof.specs.Leaves.{log_entry, map_value};
+ghost use Rattle.warg_proof.specs.Leaves.{entry_hash, log_entry, map_value};
 
+use sha2::{Digest, Sha256};
 use std::alloc::Global;
 use warg_hash::{LogId, RecordId};
 use warg_values::Memory;
@@ -27,6 +28,19 @@ impl LogLeaf {
         bytes.extend_from_slice(b":")?;
         bytes.extend_from_slice(&self.record_id.hash().text_bytes())?;
         Ok(bytes)
+    }
+
+    /// The hash of the entry's leaf: SHA-256 of a byte 0 and the entry's bytes.
+    pub(crate) fn hash(&self) -> [u8; 32]
+        ensures { result ≡ entry_hash self.now }
+    {
+        let mut hasher = Sha256::new();
+        hasher.update([0u8]);
+        hasher.update("WARG-LOG-LEAF-V0:");
+        hasher.update(self.log_id.hash().text_bytes());
+        hasher.update(":");
+        hasher.update(self.record_id.hash().text_bytes());
+        hasher.finalize()
     }
 }
 

@@ -14,9 +14,13 @@ mod map_bundle;
 mod node;
 mod ranges;
 mod reading;
+mod root;
 mod verdict;
+mod writing;
 
 pub use fault::ProofFault;
 pub use leaf::{LogLeaf, MapLeaf};
 pub use log_bundle::LogBundle;
 pub use map_bundle::MapBundle;
+pub use node::{Consistency, Inclusion, Node};
+pub use root::log_root;

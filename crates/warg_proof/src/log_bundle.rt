@@ -10,9 +10,11 @@ use crate::node::{Consistency, Inclusion, Node};
 use crate::ranges::{TOP, rebuilt_root, rebuilt_roots};
 use crate::reading::{counted_of, is_ascending};
 use crate::verdict::{judge_root, judge_roots};
+use crate::writing::push_counted;
 use std::alloc::Global;
 use std::marker::Model;
 use warg_hash::AnyHash;
+use warg_values::Memory;
 
 /// A bundle of inclusion proofs, or one consistency proof, over a log, with the hashes that they need.
 ///
@@ -102,6 +104,18 @@ impl LogBundle {
             consistencies,
             inclusions,
         })
+    }
+
+    /// The bundle's bytes, which `decode` reads as this bundle.
+    pub fn encode(&self, alloc: Global) -> Result<Vec<u8>, Memory>
+        ensures { IfOk result (λ bytes. bytes.items ≡ log_text self.now) }
+    {
+        let mut bytes = Vec::new(alloc);
+        bytes.push(0)?;
+        push_counted(&mut bytes, self.nodes.as_slice())?;
+        push_counted(&mut bytes, self.consistencies.as_slice())?;
+        push_counted(&mut bytes, self.inclusions.as_slice())?;
+        Ok(bytes)
     }
 
     /// How many consistencies and how many inclusions the bundle has proofs of.

@@ -11,10 +11,12 @@ use crate::fault::ProofFault;
 use crate::hashing::{branch_hash, has_bit, leaf_hash};
 use crate::reading::{Field, counted_of, each_of, given_count};
 use crate::verdict::judge_root;
+use crate::writing::{Written, push_counted, push_each};
 use sha2::{Digest, Sha256};
 use std::alloc::Global;
 use std::marker::Model;
 use warg_hash::{AnyHash, LogId};
+use warg_values::Memory;
 
 /// The siblings of a key that are given, and at which depths.
 #[derive(Debug, Drop)]
@@ -35,6 +37,18 @@ impl Field for SiblingPath {
         let (given, rest) = <[u8; 32]>::read(alloc, bytes)?;
         let (siblings, rest) = each_of::<[u8; 32]>(alloc, given_count(&given), rest)?;
         Ok((SiblingPath { given, siblings }, rest))
+    }
+}
+
+impl Written for SiblingPath {
+    ghost use Rattle.warg_proof.specs.MapProofs.{path_of, path_text};
+
+    ghost text = { λ path. path_text (path_of path.given path.siblings.items) };
+
+    fn push_to(&self, out: &mut Vec<u8>) -> Result<(), Memory> {
+        out.extend_from_slice(&self.given)?;
+        push_each(out, self.siblings.as_slice())?;
+        Ok(())
     }
 }
 
@@ -133,6 +147,16 @@ impl MapBundle {
     {
         let paths = all_of(alloc, bytes)?;
         Ok(MapBundle { paths })
+    }
+
+    /// The bundle's bytes, which `decode` reads as this bundle.
+    pub fn encode(&self, alloc: Global) -> Result<Vec<u8>, Memory>
+        ensures { IfOk result (λ bytes. bytes.items ≡ map_text self.now) }
+    {
+        let mut bytes = Vec::new(alloc);
+        bytes.push(0)?;
+        push_counted(&mut bytes, self.paths.as_slice())?;
+        Ok(bytes)
     }
 
     /// How many paths the bundle has.

@@ -1,10 +1,13 @@
 //! What a log bundle lists.
 
 /// A hash of the log's tree: the root of the `2 ^ level` entries from entry `place * 2 ^ level` on.
-#[derive(Clone, Copy, Debug)]
+#[derive(Clone, Copy, Debug, PartialEq, Eq)]
 pub struct Node {
+    /// The level: 0 for a leaf.
     pub level: u8,
+    /// The place on the level, counted from 0.
     pub place: u64,
+    /// The root of the entries.
     pub hash: [u8; 32],
 }
 
@@ -21,15 +24,19 @@ impl Node {
 }
 
 /// What a consistency proof is about: two lengths of a log, in entries.
-#[derive(Clone, Copy, Debug)]
+#[derive(Clone, Copy, Debug, PartialEq, Eq)]
 pub struct Consistency {
+    /// The shorter length, or the same.
     pub old_length: u64,
+    /// The longer length.
     pub new_length: u64,
 }
 
 /// What an inclusion proof is about: a length of a log, in entries, and the index of an entry.
-#[derive(Clone, Copy, Debug)]
+#[derive(Clone, Copy, Debug, PartialEq, Eq)]
 pub struct Inclusion {
+    /// The length of the log.
     pub log_length: u64,
+    /// The index of the entry, counted from 0.
     pub index: u64,
 }

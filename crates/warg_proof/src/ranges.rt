@@ -25,7 +25,7 @@ fn listed(nodes: &[Node], level: u8, place: u64) -> Option<[u8; 32]>
 }
 
 /// Half of the entries that fit a level.
-fn half_of(level: u8) -> u64
+pub fn half_of(level: u8) -> u64
     requires above { 0 < level }
     requires within { level ≤ 64 }
     ensures { result ≡ 2 ^ (level - 1) }

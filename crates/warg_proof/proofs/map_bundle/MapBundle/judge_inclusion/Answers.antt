@@ -21,6 +21,6 @@ returns-clause-verdict c =
     let got = ap (λ (ps : List SiblingPath). slice_get ps c.args.at) (sym c.deref.ensures.value) ∙ slice_get_read c.deref.result.now (length c.deref.result.now) c.args.at c.in-Some.path.now refl look.3.0 look.1 in
     let found = c.root_of-found.ensures
     ∙ ap (λ (hashes : List (List ℕ)). subtree_path_root c.digest-key.result c.args.value.now (siblings (record { given = c.in-Some.path.now.given; siblings = hashes }))) c.as_slice.ensures.value
-    ∙ ap (λ (key : List ℕ). subtree_path_root key c.args.value.now (siblings (seen c.in-Some.path.now))) (c.digest-key.ensures ∙ ap sha256 (c.bytes.ensures ∙ c.hash.ensures)) in
+    ∙ ap (λ (key : List ℕ). subtree_path_root key c.args.value.now (siblings (seen c.in-Some.path.now))) (c.digest-key.ensures ∙ ap sha256 (c.bytes.ensures.value ∙ c.hash.ensures.value)) in
     c.judge_root.ensures ∙ judged_path c.self.inside.paths.items c.args.at c.in-Some.path.now c.args.log_id.now c.args.value.now c.args.root.now c.root_of-found.result got found
     ∙ ap (λ (ps : List MapPath). map_verdict ps c.args.at c.args.log_id.now c.args.value.now c.args.root.now) c.self.view_is
