@@ -117,7 +117,10 @@ fn nested_components_have_sections_of_their_own(rt: HostRuntime) -> Result<(), F
     assert_eq!(rt; add_empty(rt.alloc(), &mut builder)?, 0);
     assert_eq!(rt; add_empty(rt.alloc(), &mut builder)?, 1);
     let written = sections(rt.alloc(), builder)?;
-    assert_eq!(rt; written.as_str(), "04080061736d0d00010004080061736d0d000100");
+    assert_eq!(rt;
+        written.as_str(),
+        "04080061736d0d00010004080061736d0d000100"
+    );
     Ok(())
 }
 
@@ -161,7 +164,10 @@ fn imports_and_exports_share_with_their_own_kind(rt: HostRuntime) -> Result<(), 
         2
     );
     let written = sections(rt.alloc(), builder)?;
-    assert_eq!(rt; written.as_str(), "0a0c0200016103010001620011010b1002000163030000000164030001030000");
+    assert_eq!(rt;
+        written.as_str(),
+        "0a0c0200016103010001620011010b1002000163030000000164030001030000"
+    );
     Ok(())
 }
 
@@ -177,7 +183,10 @@ fn types_share_a_section_until_another_kind_comes(rt: HostRuntime) -> Result<(),
     assert_eq!(rt; builder.type_defined(rt.alloc(), &DefinedType::Own(1))?, 3);
     assert_eq!(rt; builder.type_count(), 4);
     let written = sections(rt.alloc(), builder)?;
-    assert_eq!(rt; written.as_str(), "070502743f7f000a07010001610300000703016901");
+    assert_eq!(rt;
+        written.as_str(),
+        "070502743f7f000a07010001610300000703016901"
+    );
     Ok(())
 }
 
@@ -189,7 +198,10 @@ fn functions_records_and_tuples_are_types(rt: HostRuntime) -> Result<(), Fail> {
     assert_eq!(rt; builder.type_defined(alloc, &two_fields(alloc)?)?, 1);
     assert_eq!(rt; builder.type_defined(alloc, &one_part(alloc)?)?, 2);
     let written = sections(alloc, builder)?;
-    assert_eq!(rt; written.as_str(), "07140340010170c000007f72020161790162036f017e");
+    assert_eq!(rt;
+        written.as_str(),
+        "07140340010170c000007f72020161790162036f017e"
+    );
     Ok(())
 }
 
@@ -201,7 +213,10 @@ fn types_are_built_by_their_declarations(rt: HostRuntime) -> Result<(), Fail> {
     assert_eq!(rt; builder.type_component(alloc, &component_type(alloc)?)?, 1);
     assert_eq!(rt; builder.core_type_module(alloc, &module_type(alloc)?)?, 0);
     let written = sections(alloc, builder)?;
-    assert_eq!(rt; written.as_str(), "072f024204017d02030201020060000004000174030000410503000169030101680000500002001002000004000165050403190150040160017f00021001010500016d016e00000300037e01");
+    assert_eq!(rt;
+        written.as_str(),
+        "072f024204017d02030201020060000004000174030000410503000169030101680000500002001002000004000165050403190150040160017f00021001010500016d016e00000300037e01"
+    );
     Ok(())
 }
 
@@ -290,7 +305,10 @@ fn types_of_values_are_written_by_their_bytes(rt: HostRuntime) -> Result<(), Fai
 fn options_and_results_are_written_with_their_flags(rt: HostRuntime) -> Result<(), Fail> {
     let alloc = rt.alloc();
     let mut builder = ComponentBuilder::new(alloc);
-    let (s32, u64) = (ValType::Primitive(Primitive::S32), ValType::Primitive(Primitive::U64));
+    let (s32, u64) = (
+        ValType::Primitive(Primitive::S32),
+        ValType::Primitive(Primitive::U64),
+    );
     builder.type_defined(alloc, &DefinedType::OptionOf(s32))?;
     let (ok, err) = (Some(s32), None);
     builder.type_defined(alloc, &DefinedType::ResultOf { ok, err })?;
@@ -309,7 +327,10 @@ fn labels_are_written_with_what_stands_behind_them(rt: HostRuntime) -> Result<()
     builder.type_defined(alloc, &two_flags(alloc)?)?;
     builder.type_defined(alloc, &two_names(alloc)?)?;
     let written = sections(alloc, builder)?;
-    assert_eq!(rt; written.as_str(), "07180371020161017d00016200006e02016101626d0201610162");
+    assert_eq!(rt;
+        written.as_str(),
+        "07180371020161017d00016200006e02016101626d0201610162"
+    );
     Ok(())
 }
 
@@ -321,6 +342,9 @@ fn empty_types_are_written(rt: HostRuntime) -> Result<(), Fail> {
     builder.type_instance(alloc, &InstanceType::new(alloc))?;
     builder.core_type_module(alloc, &memory_type(alloc)?)?;
     let written = sections(alloc, builder)?;
-    assert_eq!(rt; written.as_str(), "07050241004200031901500303016d02010102000161016201700001030167037c00");
+    assert_eq!(rt;
+        written.as_str(),
+        "07050241004200031901500303016d02010102000161016201700001030167037c00"
+    );
     Ok(())
 }

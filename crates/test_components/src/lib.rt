@@ -2,6 +2,10 @@
 #![tactic(auto)]
 
 #[cfg(test)]
+mod compose;
+#[cfg(test)]
 mod encoder;
 #[cfg(test)]
 mod reader;
+#[cfg(test)]
+mod shape;

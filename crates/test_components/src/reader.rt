@@ -94,7 +94,8 @@ const REFUSED: [&str; 46] = [
 ];
 
 /// Two types, a section without items, a custom section and an export. The length of the first section is padded.
-const PLACED: &[u8] = b"\0asm\r\0\x01\0\x07\x83\0\x02\x7f\x73\x07\x01\0\0\x02\x01a\x0b\x07\x01\0\x01a\x03\0\0";
+const PLACED: &[u8] =
+    b"\0asm\r\0\x01\0\x07\x83\0\x02\x7f\x73\x07\x01\0\0\x02\x01a\x0b\x07\x01\0\x01a\x03\0\0";
 
 /// The number of an item, and the places of its section and of itself.
 const PLACES: [(usize, usize, usize); 6] = [

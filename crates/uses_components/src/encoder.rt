@@ -11,10 +11,8 @@ use std::alloc::Global;
 /// A component that imports a fresh resource type under this name, and holds nothing else.
 pub fn import_resource(alloc: Global, name: &str) -> Result<Vec<u8>, EncodeError>
     requires { 0 < length name.now }
-    ensures {
-        IfOk result
-            (λ bytes. Reads bytes.items (Import (record { name = name.now; ty = description.TyFresh }) ∷ []))
-    }
+    ensures { IfOk result
+        (λ bytes. Reads bytes.items (Import (record { name = name.now; ty = description.TyFresh }) ∷ [])) }
 {
     let mut builder = ComponentBuilder::new(alloc);
     builder.import(alloc, name, &TypeRef::TyFresh)?;

@@ -11,9 +11,8 @@ use std::alloc::Global;
 
 /// A type of components that import an instance of the type 0 under this name.
 pub fn one_import(alloc: Global, name: &str) -> Result<ComponentType, EncodeError>
-    ensures declared {
-        IfOk result (λ ty. component_type_tree ty ≡ with_decl tree.none (tree.Import name.now (description.Instance 0)))
-    }
+    ensures declared { IfOk result
+        (λ ty. component_type_tree ty ≡ with_decl tree.none (tree.Import name.now (description.Instance 0))) }
     ensures fits { OnOk result (length name.now < 2 ^ 32) }
 {
     let mut ty = ComponentType::new(alloc);

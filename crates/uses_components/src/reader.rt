@@ -9,10 +9,8 @@ use std::alloc::Global;
 
 /// How many items a component has.
 pub fn item_count(alloc: Global, bytes: &[u8]) -> Result<usize, ReadError>
-    ensures {
-        (items : List ItemTree) → Reads bytes.now items
-            → MatchResult result (λ count. count ≡ length items) (λ e. e ≡ ReadError.Memory)
-    }
+    ensures { (items : List ItemTree) → Reads bytes.now items
+        → MatchResult result (λ count. count ≡ length items) (λ e. e ≡ ReadError.Memory) }
 {
     match read_items(alloc, bytes) {
         Ok(items) => Ok(items.len()),

@@ -11,13 +11,10 @@ use std::alloc::Global;
 
 /// How many exports a component has.
 pub fn export_count(alloc: Global, bytes: &[u8]) -> Result<usize, ShapeError>
-    ensures {
-        IfOk result
-            (λ count.
-                (items : List ItemTree)
-                    × InFirstForm bytes.now items
-                    × (option_map (λ s. length s.exports) (shape items) ≡ Some count))
-    }
+    ensures { IfOk result
+        (λ count.
+        (items : List ItemTree) × InFirstForm bytes.now items
+        × (option_map (λ s. length s.exports) (shape items) ≡ Some count)) }
 {
     match read_shape(alloc, bytes) {
         Ok(shape) => Ok(shape.exports.len()),

@@ -2,7 +2,9 @@
 
 ghost use Rattle.std.specs.Prelude.{◌≡◌, ◌≤◌, ◌++◌, ◌∷◌, [], ◌↔◌, ◌||◌, not, nat_eq, filter, bytes_eq, Some, None, is_some, IfOk, IsErrOf, OnOk, OnErr, Contains};
 ghost use Rattle.std.specs.FinMap as map;
-ghost use Rattle.std.specs.BTreeMap.{keys};
+ghost use Rattle.std.specs.BTreeMap.{IsOrdered, keys};
+ghost use Rattle.std.specs.Cmp.Lexicographic.{slice_cmp};
+ghost use Rattle.std.specs.Ordering.{nat_cmp};
 ghost use Rattle.std.specs.List.{starts_with};
 ghost use Rattle.warg_values.specs.Faults.{Rose, after_call, one_more};
 ghost use Rattle.warg_base.specs.Files.{LeavesPartlyRemoved, LeavesPartlyWritten, file_at, paths_under, with_file, without_path};
@@ -162,7 +164,8 @@ fn paths_with(
     files: &BTreeMap<Text, Bytes>,
     folder: &str,
 ) -> Result<Vec<Text>, Memory>
-    ensures { IfOk result (λ paths. paths.items ≡ filter (λ q. starts_with nat_eq q folder.now) (keys files.now)) }
+    ensures found { IfOk result (λ paths. paths.items ≡ filter (λ q. starts_with nat_eq q folder.now) (keys files.now)) }
+    ensures ordered { OnOk result (IsOrdered (slice_cmp nat_cmp) files.now) }
 {
     let mut paths = Vec::new(alloc);
     for file in files.keys() {
