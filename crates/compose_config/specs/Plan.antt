@@ -1,6 +1,6 @@
 -- What a configuration says, and which nodes are read as it: the fields of its maps by their names, of which a
 -- repeated one counts at last.
-use Rattle.std.specs.Prelude.{ℕ, List, [], ◌∷◌, Bool, true, false, cond, Option, Some, None, Result, Ok, Err, bytes_eq, codes, unwrap_or}
+use Rattle.std.specs.Prelude.{ℕ, List, [], ◌∷◌, Bool, true, false, if◌then◌else◌, Option, Some, None, Result, Ok, Err, bytes_eq, codes, unwrap_or}
 use Rattle.indexmap.specs.IndexMap.{insert_entry}
 use Rattle.warg_values.specs.Reading.{◌>>=◌}
 use Rattle.yaml_small.specs.declared.schema.Resolved.{Resolved}
@@ -66,7 +66,7 @@ short_for text None = Err (WrongScalar text)
 short_for text (Some x) = Ok x
 
 abbrev pub text_value : {X : Type 0} → (Name → Option X) → Name → Result X Refusal
-text_value of_text text = cond (is_text_of text) (short_for text (of_text text)) (Err (WrongScalar text))
+text_value of_text text = if is_text_of text then short_for text (of_text text) else Err (WrongScalar text)
 
 -- a scalar that is a text, or a map
 abbrev pub value_node : {X : Type 0} → (Name → Option X) → (Option Tree → Option X) → Option Tree → Option X
@@ -98,10 +98,10 @@ required field (Some name) = Ok name
 
 -- a dependency: its path
 abbrev pub path_takes : Option Name → Name → Option Tree → Option (Option Name)
-path_takes x key = cond (is_name key (codes "path")) (mapped_node Some (any_node Ok)) refused_node
+path_takes x key = if is_name key (codes "path") then mapped_node Some (any_node Ok) else refused_node
 
 abbrev pub path_fills : Option Name → Name → Source → Result (Option Name × Source) Refusal
-path_fills x key = cond (is_name key (codes "path")) (mapped_at Some any_at) (refused_at (UnknownField key))
+path_fills x key = if is_name key (codes "path") then mapped_at Some any_at else refused_at (UnknownField key)
 
 abbrev pub dependency_node : Option Tree → Option Name
 dependency_node = checked_node (required (codes "path")) (map_node path_takes None)
@@ -125,13 +125,15 @@ with_export p name = record p { export = name }
 
 abbrev pub part_takes : Parts → Name → Option Tree → Option Parts
 part_takes p key =
-    cond (is_name key (codes "instance")) (mapped_node (with_instance p) (any_node Ok))
-    (cond (is_name key (codes "export")) (mapped_node (with_export p) (option_node (any_node Ok))) refused_node)
+    if is_name key (codes "instance") then mapped_node (with_instance p) (any_node Ok)
+    else if is_name key (codes "export") then mapped_node (with_export p) (option_node (any_node Ok))
+    else refused_node
 
 abbrev pub part_fills : Parts → Name → Source → Result (Parts × Source) Refusal
 part_fills p key =
-    cond (is_name key (codes "instance")) (mapped_at (with_instance p) any_at)
-    (cond (is_name key (codes "export")) (mapped_at (with_export p) (option_at any_at)) (refused_at (UnknownField key)))
+    if is_name key (codes "instance") then mapped_at (with_instance p) any_at
+    else if is_name key (codes "export") then mapped_at (with_export p) (option_at any_at)
+    else refused_at (UnknownField key)
 
 abbrev pub argument_of : Parts → Result Argument Refusal
 argument_of p = required (codes "instance") p.instance >>= λ name. Ok (record { instance = name; export = p.export })
@@ -158,13 +160,16 @@ with_arguments i arguments = record i { arguments = arguments }
 
 abbrev pub instance_takes : Instance → Name → Option Tree → Option Instance
 instance_takes i key =
-    cond (is_name key (codes "dependency")) (mapped_node (with_dependency i) (option_node (any_node Ok)))
-    (cond (is_name key (codes "arguments")) (mapped_node (with_arguments i) (index_node plain_argument argument_node)) refused_node)
+    if is_name key (codes "dependency") then mapped_node (with_dependency i) (option_node (any_node Ok))
+    else if is_name key (codes "arguments") then
+    mapped_node (with_arguments i) (index_node plain_argument argument_node)
+    else refused_node
 
 abbrev pub instance_fills : Instance → Name → Source → Result (Instance × Source) Refusal
 instance_fills i key =
-    cond (is_name key (codes "dependency")) (mapped_at (with_dependency i) (option_at any_at))
-    (cond (is_name key (codes "arguments")) (mapped_at (with_arguments i) (index_at plain_argument argument_at)) (refused_at (UnknownField key)))
+    if is_name key (codes "dependency") then mapped_at (with_dependency i) (option_at any_at)
+    else if is_name key (codes "arguments") then mapped_at (with_arguments i) (index_at plain_argument argument_at)
+    else refused_at (UnknownField key)
 
 abbrev pub instance_node : Option Tree → Option Instance
 instance_node = map_node instance_takes no_instance
@@ -215,23 +220,26 @@ with_instantiations s i = record s { instantiations = i }
 
 abbrev pub setting_takes : Settings → Name → Option Tree → Option Settings
 setting_takes s key =
-    cond (is_name key (codes "definitions")) (mapped_node (with_definitions s) names_node)
-    (cond (is_name key (codes "search-paths")) (mapped_node (with_search_paths s) names_node)
-    (cond (is_name key (codes "skip-validation")) (mapped_node (with_skip_validation s) (plain_node truth))
-    (cond (is_name key (codes "import-components")) (mapped_node (with_import_components s) (plain_node truth))
-    (cond (is_name key (codes "disallow-imports")) (mapped_node (with_disallow_imports s) (plain_node truth))
-    (cond (is_name key (codes "dependencies")) (mapped_node (with_dependencies s) (index_node plain_path dependency_node))
-    (cond (is_name key (codes "instantiations")) (mapped_node (with_instantiations s) instances_node) refused_node))))))
+    if is_name key (codes "definitions") then mapped_node (with_definitions s) names_node
+    else if is_name key (codes "search-paths") then mapped_node (with_search_paths s) names_node
+    else if is_name key (codes "skip-validation") then mapped_node (with_skip_validation s) (plain_node truth)
+    else if is_name key (codes "import-components") then mapped_node (with_import_components s) (plain_node truth)
+    else if is_name key (codes "disallow-imports") then mapped_node (with_disallow_imports s) (plain_node truth)
+    else if is_name key (codes "dependencies") then
+    mapped_node (with_dependencies s) (index_node plain_path dependency_node)
+    else if is_name key (codes "instantiations") then mapped_node (with_instantiations s) instances_node
+    else refused_node
 
 abbrev pub setting_fills : Settings → Name → Source → Result (Settings × Source) Refusal
 setting_fills s key =
-    cond (is_name key (codes "definitions")) (mapped_at (with_definitions s) names_at)
-    (cond (is_name key (codes "search-paths")) (mapped_at (with_search_paths s) names_at)
-    (cond (is_name key (codes "skip-validation")) (mapped_at (with_skip_validation s) bool_at)
-    (cond (is_name key (codes "import-components")) (mapped_at (with_import_components s) bool_at)
-    (cond (is_name key (codes "disallow-imports")) (mapped_at (with_disallow_imports s) bool_at)
-    (cond (is_name key (codes "dependencies")) (mapped_at (with_dependencies s) (index_at plain_path dependency_at))
-    (cond (is_name key (codes "instantiations")) (mapped_at (with_instantiations s) instances_at) (refused_at (UnknownField key))))))))
+    if is_name key (codes "definitions") then mapped_at (with_definitions s) names_at
+    else if is_name key (codes "search-paths") then mapped_at (with_search_paths s) names_at
+    else if is_name key (codes "skip-validation") then mapped_at (with_skip_validation s) bool_at
+    else if is_name key (codes "import-components") then mapped_at (with_import_components s) bool_at
+    else if is_name key (codes "disallow-imports") then mapped_at (with_disallow_imports s) bool_at
+    else if is_name key (codes "dependencies") then mapped_at (with_dependencies s) (index_at plain_path dependency_at)
+    else if is_name key (codes "instantiations") then mapped_at (with_instantiations s) instances_at
+    else refused_at (UnknownField key)
 
 -- the settings that a node, or none, is read as
 abbrev pub settings_node : Option Tree → Option Settings
@@ -248,7 +256,7 @@ named name (Some i) = unwrap_or i.dependency name
 -- the instance of a name
 abbrev pub instance_named : List (Name × Instance) → Name → Option Instance
 instance_named [] name = None
-instance_named (e ∷ es) name = cond (bytes_eq e.0 name) (Some e.1) (instance_named es name)
+instance_named (e ∷ es) name = if bytes_eq e.0 name then Some e.1 else instance_named es name
 
 abbrev pub dependency_name : Settings → Name → Name
 dependency_name s name = named name (instance_named s.instantiations name)

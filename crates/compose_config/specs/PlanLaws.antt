@@ -1,4 +1,4 @@
--- Each read of a configuration takes what the node that is told there stands for.
+-- Each read of a configuration takes what the node that is emitted there stands for.
 use Rattle.std.proofs.Common.{◌≡◌, List, [], Bool, true, false, Option, Some, None, Result, Ok, Err, refl, sym, ap, ◌∙◌, bytes_eq, codes}
 use Rattle.indexmap.specs.IndexMap.{insert_entry}
 use Rattle.warg_values.specs.Reading.{◌>>=◌}
@@ -11,10 +11,10 @@ use Rattle.yaml_read.specs.Source.{Source, Refusal, UnknownField, front}
 use Rattle.yaml_read.specs.Scalar.{truth, any_at}
 use Rattle.yaml_read.specs.Collections.{is_scalar, scalar_front, option_at, pushed, mapped_at, checked_at}
 use Rattle.yaml_read.specs.Nodes.{any_node, option_node, mapped_node, checked_node}
-use Rattle.yaml_read.specs.Told.{Tells, Found, Gets, Reads}
-use Rattle.yaml_read.specs.Taking.{pull_is, front_is, fronts}
+use Rattle.yaml_read.specs.Emitted.{Emits, Found, Gets, Reads}
+use Rattle.yaml_read.specs.TakingLaws.{pull_is, front_is, fronts}
 use Rattle.yaml_read.specs.Laws.{plain_reads, any_reads}
-use Rattle.yaml_read.specs.CollectionLaws.{told_once, seq_reads, map_reads}
+use Rattle.yaml_read.specs.CollectionLaws.{emitted_once, seq_reads, map_reads}
 use Rattle.yaml_read.specs.PartLaws.{option_reads, mapped_reads, checked_reads, choice_reads, refused_reads}
 use Rattle.compose_config.specs.Plan
 
@@ -47,23 +47,23 @@ value_found {X} of_text of_node read law s x m h =
     leaf (Some (Seq ts)) is = absurd (some_apart x is)
     leaf (Some (Map ps)) is = absurd (some_apart x is)
 
-    other : (e : Event) (z : State) → next s.state ≡ Ok (e, z) → is_scalar e ≡ false → (node : Option Tree) → Tells s.state node m.state → of_node node ≡ Some x → Plan.value_node of_text of_node node ≡ Some x
+    other : (e : Event) (z : State) → next s.state ≡ Ok (e, z) → is_scalar e ≡ false → (node : Option Tree) → Emits s.state node m.state → of_node node ≡ Some x → Plan.value_node of_text of_node node ≡ Some x
     other e z here unlike None telling is = is
-    other e z here unlike (Some (Leaf sc)) telling is = told_once s.state e (scalar_event sc) z telling.0 here telling.1 (λ same there. absurd (true_false (ap is_scalar (sym same) ∙ unlike)))
+    other e z here unlike (Some (Leaf sc)) telling is = emitted_once s.state e (scalar_event sc) z telling.0 here telling.1 (λ same there. absurd (true_false (ap is_scalar (sym same) ∙ unlike)))
     other e z here unlike (Some (Seq ts)) telling is = is
     other e z here unlike (Some (Map ps)) telling is = is
 
     by_event : (e : Event) (z : State) → next s.state ≡ Ok (e, z) → (b : Bool) → is_scalar e ≡ b → Plan.chosen b of_text read s ≡ Ok (x, m) → Found (Plan.value_node of_text of_node) s x m
-    by_event e z here true is h = let f = (text_reads of_text).sound s x m h in record { node = f.node; told = f.told; read = leaf f.node f.read }
-    by_event e z here false is h = let f = law.sound s x m h in record { node = f.node; told = f.told; read = other e z here is f.node f.told f.read }
+    by_event e z here true is h = let f = (text_reads of_text).sound s x m h in record { node = f.node; emitted = f.emitted; read = leaf f.node f.read }
+    by_event e z here false is h = let f = law.sound s x m h in record { node = f.node; emitted = f.emitted; read = other e z here is f.node f.emitted f.read }
 
 value_gets : {X : Type 0} (of_text : Plan.Name → Option X) (of_node : Option Tree → Option X) (read : Source → Result (X × Source) Refusal) → Reads of_node read
-    → (s : Source) (node : Option Tree) (z : State) (x : X) → Tells s.state node z → Plan.value_node of_text of_node node ≡ Some x → Gets s.left x z (Plan.value_at of_text read s)
+    → (s : Source) (node : Option Tree) (z : State) (x : X) → Emits s.state node z → Plan.value_node of_text of_node node ≡ Some x → Gets s.left x z (Plan.value_at of_text read s)
 unfolding Plan.value_at scalar_front
 value_gets {X} of_text of_node read law s node z x run is =
     rw (bind_twice (front s) (λ event. Ok (is_scalar event)) (λ is_one. Plan.chosen is_one of_text read s)) (by_node node run is)
   where
-    by_node : (node : Option Tree) → Tells s.state node z → Plan.value_node of_text of_node node ≡ Some x → Gets s.left x z (front s >>= λ event. Plan.chosen (is_scalar event) of_text read s)
+    by_node : (node : Option Tree) → Emits s.state node z → Plan.value_node of_text of_node node ≡ Some x → Gets s.left x z (front s >>= λ event. Plan.chosen (is_scalar event) of_text read s)
     by_node None run is = fronts s.left s events.StreamEnd z x z _ run (law.complete s None z x run is)
     by_node (Some (Leaf sc)) run is = fronts s.left s (scalar_event sc) run.0 x z _ run.1 ((text_reads of_text).complete s (Some (Leaf sc)) z x run is)
     by_node (Some (Seq ts)) run is = fronts s.left s events.SequenceStart run.0 x z _ run.1 (law.complete s (Some (Seq ts)) z x run is)

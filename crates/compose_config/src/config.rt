@@ -1,18 +1,19 @@
 //! The configuration of a composition.
 
 ghost use Rattle.std.specs.Prelude.{◌≡◌, [], IfOk, Ok, map, option_map, option_copied};
-ghost use Rattle.yaml_read.specs.Answers.{source_of, Gives};
+ghost use Rattle.yaml_read.specs.Answers.{source_of, ReadGives};
 ghost use Rattle.yaml_read.specs.Entries.{seen_entry};
 ghost use Rattle.yaml_read.specs.Whole.{Holds, whole_at};
 ghost use Rattle.compose_config.specs.Plan as plan;
 ghost use Rattle.compose_config.specs.View.{settings_of, instance_of};
 ghost use Rattle.compose_config.specs.PlanLaws as laws;
 
+use crate::copy::{copied_map, copied_names};
 use crate::index::index_map;
 use crate::parts::{Dependency, Instantiation};
 use indexmap::IndexMap;
 use std::alloc::Global;
-use warg_values::Text;
+use warg_values::{Memory, Text};
 use yaml_read::{DeError, MapFill, ReadYaml, YamlDeserializer, from_str};
 
 /// How a component is composed of others.
@@ -56,6 +57,23 @@ impl Config {
         }
     }
 
+    /// A configuration of the same settings and folder.
+    pub fn try_clone(&self, alloc: Global) -> Result<Self, Memory>
+        ensures settings { IfOk result (λ copy. settings_of copy ≡ settings_of self.now) }
+        ensures dir { IfOk result (λ copy. copy.dir ≡ self.now.dir) }
+    {
+        Ok(Config {
+            dir: Text::copy_of(alloc, self.dir.as_str())?,
+            definitions: copied_names(alloc, &self.definitions)?,
+            search_paths: copied_names(alloc, &self.search_paths)?,
+            skip_validation: self.skip_validation,
+            import_components: self.import_components,
+            disallow_imports: self.disallow_imports,
+            dependencies: copied_map(alloc, &self.dependencies)?,
+            instantiations: copied_map(alloc, &self.instantiations)?,
+        })
+    }
+
     /// The configuration that a text holds: one YAML document, a map of the fields.
     ///
     /// Another field is `UnknownField`, an argument without `instance` or a dependency without `path`
@@ -64,9 +82,11 @@ impl Config {
         // What is read stands in a carried document.
         ensures found { IfOk result (λ config. Holds plan.settings_node text.now (settings_of config)) }
         // What stands in a carried document is read, unless memory runs out.
-        ensures only { (settings : plan.Settings) → Holds plan.settings_node text.now settings → Gives settings_of result (Ok settings) }
+        ensures only { (settings : plan.Settings)
+            → Holds plan.settings_node text.now settings
+            → ReadGives settings_of result (Ok settings) }
         // Which error it is.
-        ensures exact { Gives settings_of result (whole_at plan.settings_at text.now) }
+        ensures exact { ReadGives settings_of result (whole_at plan.settings_at text.now) }
         // The folder stays empty, whatever the text holds.
         ensures dir { IfOk result (λ config. config.dir ≡ []) }
     {
@@ -97,7 +117,8 @@ fn instance_named<'a>(
     all: &'a IndexMap<Text, Instantiation>,
     name: &str,
 ) -> Option<&'a Instantiation>
-    ensures { option_map instance_of (option_copied result) ≡ plan.instance_named (map (seen_entry instance_of) all.now.entries) name.now }
+    ensures { option_map instance_of (option_copied result) ≡ plan.instance_named
+        (map (seen_entry instance_of) all.now.entries) name.now }
 {
     for index in 0..all.len() {
         if let Some((key, instantiation)) = all.get_index(index) {
@@ -118,7 +139,7 @@ struct ConfigFill {
 /// A list of names.
 #[tactic(auto, using(crate::proofs::Same::list_same))]
 fn read_names(alloc: Global, de: &mut YamlDeserializer<'_>) -> Result<Vec<Text>, DeError>
-    ensures { Gives (λ read. (read.items, source_of de.new)) result (plan.names_at (source_of de.old)) }
+    ensures { ReadGives (λ read. (read.items, source_of de.new)) result (plan.names_at (source_of de.old)) }
 {
     Vec::<Text>::read_yaml(alloc, de)
 }

@@ -3,7 +3,7 @@
 ghost use Rattle.std.specs.Prelude.{◌≡◌, ℕ, List, Option, Some, map, bytes_eq, IfOk};
 ghost use Rattle.indexmap.specs.IndexMap.{insert_entry};
 ghost use Rattle.yaml_small.specs.Trees.{Tree};
-ghost use Rattle.yaml_read.specs.Answers.{source_of, Gives};
+ghost use Rattle.yaml_read.specs.Answers.{source_of, ReadGives};
 ghost use Rattle.yaml_read.specs.Collections as collections;
 ghost use Rattle.yaml_read.specs.Nodes as nodes;
 ghost use Rattle.yaml_read.specs.Entries.{seen_entry};
@@ -35,7 +35,8 @@ struct IndexFill<V> {
 /// A value: a map of its own, or a scalar that is a text.
 #[tactic(auto, unfolding(crate::specs::Plan::value_at))]
 fn read_value<V: FromText>(alloc: Global, de: &mut YamlDeserializer<'_>) -> Result<V, DeError>
-    ensures { Gives (λ read. (V.seen read, source_of de.new)) result (plan.value_at (λ text. V.of_node (V.node text)) V.read_at (source_of de.old)) }
+    ensures { ReadGives (λ read. (V.seen read, source_of de.new)) result
+        (plan.value_at (λ text. V.of_node (V.node text)) V.read_at (source_of de.old)) }
 {
     if !de.at_scalar(alloc)? {
         return V::read_yaml(alloc, de);
@@ -64,9 +65,11 @@ impl<V: FromText> MapFill for IndexFill<V> {
 
     ghost seen = { λ fill. map (seen_entry V.seen) fill.entries.entries };
 
-    ghost takes = { λ es key. nodes.mapped_node (insert_entry bytes_eq es key) (plan.value_node (λ text. V.of_node (V.node text)) V.of_node) };
+    ghost takes = { λ es key. nodes.mapped_node (insert_entry bytes_eq es key)
+        (plan.value_node (λ text. V.of_node (V.node text)) V.of_node) };
 
-    ghost fills = { λ es key. collections.mapped_at (insert_entry bytes_eq es key) (plan.value_at (λ text. V.of_node (V.node text)) V.read_at) };
+    ghost fills = { λ es key. collections.mapped_at (insert_entry bytes_eq es key)
+        (plan.value_at (λ text. V.of_node (V.node text)) V.read_at) };
 
     fn entry(
         &mut self,
@@ -91,7 +94,8 @@ pub fn index_map<V: FromText>(
     alloc: Global,
     de: &mut YamlDeserializer<'_>,
 ) -> Result<IndexMap<Text, V>, DeError>
-    ensures { Gives (λ read. (map (seen_entry V.seen) read.entries, source_of de.new)) result (plan.index_at (λ text. V.of_node (V.node text)) V.read_at (source_of de.old)) }
+    ensures { ReadGives (λ read. (map (seen_entry V.seen) read.entries, source_of de.new)) result
+        (plan.index_at (λ text. V.of_node (V.node text)) V.read_at (source_of de.old)) }
 {
     let mut fill = IndexFill {
         entries: IndexMap::<Text, V>::new(alloc),

@@ -2,10 +2,9 @@
 #![tactic(auto)]
 
 mod config;
+mod copy;
 mod index;
 mod parts;
-#[cfg(test)]
-mod tests;
 
 pub use config::Config;
 pub use index::{FromText, index_map};

@@ -11,7 +11,7 @@ use Rattle.serde_yaml2.specs.declared.error.Errors.TheVariants as errors
 use Rattle.serde_yaml2.specs.Output.{Output, appended, IsCut, Explains, Puts, Writes, item_text, head, list_head}
 use Rattle.serde_yaml2.proofs.Pieces.{appended_twice, cut_first, cut_second}
 
--- why a shallower value was not written tells why a deeper one was not
+-- why a shallower value was not written emits why a deeper one was not
 pub explains_more : (e : Errors) (m n : ℕ) → m ≤ n → Explains e m → Explains e n
 explains_more errors.FormArgsError m n le h = let lt : 64 < m = h in omega arith
 explains_more (errors.UnsupportedSerializationError what) m n le h = h

@@ -1,5 +1,5 @@
 -- What is written behind what, and why not.
-use Rattle.std.specs.Prelude.{◌≡◌, ℕ, ◌+◌, ◌<◌, ◌≤◌, List, [], ◌∷◌, ◌++◌, ◌==◌, cond, Result, Ok, Err, string_bytes}
+use Rattle.std.specs.Prelude.{◌≡◌, ℕ, ◌+◌, ◌<◌, ◌≤◌, List, [], ◌∷◌, ◌++◌, ◌==◌, if◌then◌else◌, codes, Result, Ok, Err, string_bytes}
 use Rattle.std.specs.Io.{StartsWith}
 use Rattle.yaml_small.specs.Trees.{depth}
 use Rattle.yaml_text.specs.Texts.{quoted}
@@ -73,17 +73,17 @@ nested level w = below level w ++ new_line level
 
 -- an item of a list, and a key of a map
 abbrev pub item_text : ℕ → Written → List ℕ
-item_text level w = (45 ∷ 32 ∷ []) ++ nested level w
+item_text level w = codes "- " ++ nested level w
 
 abbrev pub key_text : List ℕ → List ℕ
-key_text key = quoted key ++ (58 ∷ [])
+key_text key = quoted key ++ codes ":"
 
 -- what stands for a list or map of so many parts before the first of them, and a list's and a map's
 abbrev pub head : ℕ → List ℕ → List ℕ
-head len empty = cond (len == 0) empty []
+head len empty = if len == 0 then empty else []
 
 abbrev pub list_head : ℕ → List ℕ
-list_head len = head len (91 ∷ 93 ∷ [])
+list_head len = head len (codes "[]")
 
 abbrev pub map_head : ℕ → List ℕ
-map_head len = head len (123 ∷ 125 ∷ [])
+map_head len = head len (codes "{}")

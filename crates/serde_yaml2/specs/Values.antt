@@ -1,5 +1,5 @@
 -- What is written for values of std's types.
-use Rattle.std.specs.Prelude.{ℕ, List, map, Option, Some, None, cond, encode_utf8}
+use Rattle.std.specs.Prelude.{ℕ, List, map, Option, Some, None, if◌then◌else◌, encode_utf8}
 use Rattle.std.specs.Char.{is_ascii_alphanumeric}
 use Rattle.yaml_text.specs.Written as spec
 use Rattle.yaml_text.specs.Written.{Written, elements_of, members_of, no_elements, element}
@@ -7,7 +7,7 @@ use Rattle.yaml_read.specs.Entries.{seen_entry}
 
 -- a character: a letter or digit of ASCII as it is, and any other as a text
 abbrev pub character_of : ℕ → Written
-character_of c = cond (is_ascii_alphanumeric c) (spec.character c) (spec.text (encode_utf8 c))
+character_of c = if is_ascii_alphanumeric c then spec.character c else spec.text (encode_utf8 c)
 
 -- what may be missing
 abbrev pub optional : {X : Type 0} → (X → Written) → Option X → Written

@@ -20,7 +20,8 @@ impl<'a> SequenceSerializer<'a> {
     ///
     /// `FormArgsError` exactly where lists and maps come to be nested more than 64 deep.
     pub fn element<T: WriteYaml>(&mut self, value: &T) -> Result<(), Errors>
-        ensures puts { Puts result (list_output self.old) (item_text (list_output self.old).level (T.written value.now)) (depth (tree_of (T.written value.now)) + 1) (list_output self.new) }
+        ensures puts { Puts result (list_output self.old) (item_text (list_output self.old).level (T.written value.now))
+            (depth (tree_of (T.written value.now)) + 1) (list_output self.new) }
         ensures same { list_name self.new ≡ list_name self.old }
     {
         self.ser.push("- ")?;
@@ -56,7 +57,8 @@ impl<'a> MapSerializer<'a> {
     ///
     /// `FormArgsError` exactly where lists and maps come to be nested more than 64 deep.
     pub fn value<T: WriteYaml>(&mut self, value: &T) -> Result<(), Errors>
-        ensures puts { Puts result (map_output self.old) (nested (map_output self.old).level (T.written value.now)) (depth (tree_of (T.written value.now)) + 1) (map_output self.new) }
+        ensures puts { Puts result (map_output self.old) (nested (map_output self.old).level (T.written value.now))
+            (depth (tree_of (T.written value.now)) + 1) (map_output self.new) }
         ensures same { map_name self.new ≡ map_name self.old }
     {
         self.ser.write_nested(value)

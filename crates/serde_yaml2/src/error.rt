@@ -11,10 +11,10 @@ use warg_values::{Memory as OutOfMemory, Text};
 #[derive(Debug, Drop, PartialEq, Eq, Error)]
 pub enum Errors {
     /// Lists and maps are nested more than 64 deep.
-    #[error("lists and maps are nested more than 64 deep; make the value flatter")]
+    #[error("lists and maps are nested more than 64 deep; nest them less deep")]
     FormArgsError,
-    /// A value has no form in YAML here: what it is.
-    #[error("{0} have no form in YAML here; write them as a text")]
+    /// A value has a form that is not supported: what it is.
+    #[error("{0} are not supported; write them as a text")]
     UnsupportedSerializationError(Text),
     /// No memory was left.
     #[error("out of memory: free some, or give the program more, and try again")]

@@ -7,28 +7,28 @@ const MOST_OPEN: usize = 64;
 
 /// How many lists and maps are open.
 #[derive(Clone, Copy, Debug)]
-pub(crate) struct Level {
+pub struct Level {
     depth: usize,
     ghost within: { depth ≤ 64 },
 }
 
 impl Level {
     /// No list and no map is open.
-    pub(crate) fn outermost() -> Self
+    pub fn outermost() -> Self
         ensures { result.depth ≡ 0 }
     {
         Level { depth: 0 }
     }
 
     /// How many are open.
-    pub(crate) fn depth(self) -> usize
+    pub fn depth(self) -> usize
         ensures { result ≡ self.depth }
     {
         self.depth
     }
 
     /// The level within one more.
-    pub(crate) fn deeper(self) -> Option<Level>
+    pub fn deeper(self) -> Option<Level>
         ensures some { IfSome result (λ level. level.depth ≡ self.depth + 1) }
         ensures none { IsNone result → 64 ≤ self.depth }
     {

@@ -12,8 +12,6 @@ mod list;
 mod node;
 mod round_trip;
 mod serializer;
-#[cfg(test)]
-mod tests;
 mod text;
 mod write;
 

@@ -55,7 +55,8 @@ fn write_items(ser: &mut YamlSerializer, items: &[Yaml]) -> Result<(), Errors>
 /// An item of a list.
 #[cycle(node)]
 fn write_item(ser: &mut YamlSerializer, item: &Yaml) -> Result<(), Errors>
-    ensures { Puts result (output_of ser.old) (item_text (output_of ser.old).level (node_written item.now)) (depth (tree_of (node_written item.now)) + 1) (output_of ser.new) }
+    ensures { Puts result (output_of ser.old) (item_text (output_of ser.old).level (node_written item.now))
+        (depth (tree_of (node_written item.now)) + 1) (output_of ser.new) }
 {
     ser.push("- ")?;
     write_nested(ser, item)
@@ -77,7 +78,8 @@ fn write_pairs(ser: &mut YamlSerializer, pairs: &[(Text, Yaml)]) -> Result<(), E
 /// A value on a line of its own, one level deeper, and a new line behind it.
 #[cycle(node)]
 fn write_nested(ser: &mut YamlSerializer, node: &Yaml) -> Result<(), Errors>
-    ensures { Puts result (output_of ser.old) (nested (output_of ser.old).level (node_written node.now)) (depth (tree_of (node_written node.now)) + 1) (output_of ser.new) }
+    ensures { Puts result (output_of ser.old) (nested (output_of ser.old).level (node_written node.now))
+        (depth (tree_of (node_written node.now)) + 1) (output_of ser.new) }
 {
     write_below(ser, node)?;
     ser.new_line()
@@ -86,7 +88,8 @@ fn write_nested(ser: &mut YamlSerializer, node: &Yaml) -> Result<(), Errors>
 /// A value on a line of its own, one level deeper.
 #[cycle(node)]
 fn write_below(ser: &mut YamlSerializer, node: &Yaml) -> Result<(), Errors>
-    ensures { Puts result (output_of ser.old) (below (output_of ser.old).level (node_written node.now)) (depth (tree_of (node_written node.now)) + 1) (output_of ser.new) }
+    ensures { Puts result (output_of ser.old) (below (output_of ser.old).level (node_written node.now))
+        (depth (tree_of (node_written node.now)) + 1) (output_of ser.new) }
 {
     let outer = ser.level;
     let Some(inner) = outer.deeper() else {
@@ -101,7 +104,8 @@ fn write_below(ser: &mut YamlSerializer, node: &Yaml) -> Result<(), Errors>
 /// A value on a line of its own.
 #[cycle(node)]
 fn write_on_new_line(ser: &mut YamlSerializer, node: &Yaml) -> Result<(), Errors>
-    ensures { Puts result (output_of ser.old) (line_of (output_of ser.old).level (node_written node.now)) (depth (tree_of (node_written node.now))) (output_of ser.new) }
+    ensures { Puts result (output_of ser.old) (line_of (output_of ser.old).level (node_written node.now))
+        (depth (tree_of (node_written node.now))) (output_of ser.new) }
 {
     ser.new_line()?;
     write_node(ser, node)

@@ -151,7 +151,10 @@ impl YamlSerializer {
     /// `FormArgsError` exactly where 64 lists and maps are open.
     pub fn seq(&mut self, len: usize) -> Result<SequenceSerializer<'_>, Errors>
         ensures* rests { sem 𝓛 (ListRests self.entry (list_head len) result) }
-        ensures begun { IfOk result (λ list. (list_output list ≡ appended (output_of self.old) (list_head len)) × (list_name list ≡ self.entry.ghost_name) × ((output_of self.old).level + 1 ≤ 64)) }
+        ensures begun { IfOk result
+            (λ list. (list_output list ≡ appended (output_of self.old) (list_head len))
+            × (list_name list ≡ self.entry.ghost_name)
+            × ((output_of self.old).level + 1 ≤ 64)) }
         ensures refused { IfErr result (λ e. Explains e ((output_of self.old).level + 1)) }
     {
         self.begin(len, "[]")?;
@@ -163,7 +166,10 @@ impl YamlSerializer {
     /// `FormArgsError` exactly where 64 lists and maps are open.
     pub fn map(&mut self, len: usize) -> Result<MapSerializer<'_>, Errors>
         ensures* rests { sem 𝓛 (MapRests self.entry (map_head len) result) }
-        ensures begun { IfOk result (λ map. (map_output map ≡ appended (output_of self.old) (map_head len)) × (map_name map ≡ self.entry.ghost_name) × ((output_of self.old).level + 1 ≤ 64)) }
+        ensures begun { IfOk result
+            (λ map. (map_output map ≡ appended (output_of self.old) (map_head len))
+            × (map_name map ≡ self.entry.ghost_name)
+            × ((output_of self.old).level + 1 ≤ 64)) }
         ensures refused { IfErr result (λ e. Explains e ((output_of self.old).level + 1)) }
     {
         self.begin(len, "{}")?;
@@ -186,7 +192,8 @@ impl YamlSerializer {
 
     /// A value on a line of its own, one level deeper, and a new line behind it.
     pub(crate) fn write_nested<T: WriteYaml>(&mut self, value: &T) -> Result<(), Errors>
-        ensures { Puts result (output_of self.old) (nested (output_of self.old).level (T.written value.now)) (depth (tree_of (T.written value.now)) + 1) (output_of self.new) }
+        ensures { Puts result (output_of self.old) (nested (output_of self.old).level (T.written value.now))
+            (depth (tree_of (T.written value.now)) + 1) (output_of self.new) }
     {
         self.write_below(value)?;
         self.new_line()
@@ -194,7 +201,8 @@ impl YamlSerializer {
 
     /// A value on a line of its own, one level deeper.
     fn write_below<T: WriteYaml>(&mut self, value: &T) -> Result<(), Errors>
-        ensures { Puts result (output_of self.old) (below (output_of self.old).level (T.written value.now)) (depth (tree_of (T.written value.now)) + 1) (output_of self.new) }
+        ensures { Puts result (output_of self.old) (below (output_of self.old).level (T.written value.now))
+            (depth (tree_of (T.written value.now)) + 1) (output_of self.new) }
     {
         let outer = self.level;
         let Some(inner) = outer.deeper() else {
@@ -208,7 +216,8 @@ impl YamlSerializer {
 
     /// A value on a line of its own.
     fn write_on_new_line<T: WriteYaml>(&mut self, value: &T) -> Result<(), Errors>
-        ensures { Puts result (output_of self.old) (line_of (output_of self.old).level (T.written value.now)) (depth (tree_of (T.written value.now))) (output_of self.new) }
+        ensures { Puts result (output_of self.old) (line_of (output_of self.old).level (T.written value.now))
+            (depth (tree_of (T.written value.now))) (output_of self.new) }
     {
         self.new_line()?;
         value.write_yaml(self)

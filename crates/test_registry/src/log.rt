@@ -50,8 +50,8 @@ struct Draft {
     prev: Option<RecordId>,
     /// The seconds of its time.
     seconds: u64,
-    /// The key that signs it.
-    signer: &'static str,
+    /// Whether `k:BA==` signs it, and not `k:AA==`.
+    is_by_another: bool,
 }
 
 impl Draft {
@@ -61,7 +61,7 @@ impl Draft {
             version: 0,
             prev: None,
             seconds: 1,
-            signer: "k:AA==",
+            is_by_another: false,
         }
     }
 }
@@ -82,7 +82,12 @@ fn envelope<E: JudgedEntry>(
         entries,
     };
     let contents = Envelope::write(alloc, &rec)?;
-    let key_id = PublicKey::new(alloc, draft.signer)?.id();
+    let signer = if draft.is_by_another {
+        "k:BA=="
+    } else {
+        "k:AA=="
+    };
+    let key_id = PublicKey::new(alloc, signer)?.id();
     let signature = Signature::new(alloc, "k:BA==")?;
     Ok(Envelope {
         rec,
@@ -287,7 +292,7 @@ fn the_rules_of_a_record_against_the_head_are_checked(rt: HostRuntime) -> Result
         ),
         (
             Draft {
-                signer: "k:BA==",
+                is_by_another: true,
                 ..draft
             },
             "UnknownKey",

@@ -1,15 +1,31 @@
-//! Callers of the crates of components, each proved from their public contracts alone: a module for each crate, whose
-//! page quotes it.
+//! Callers of the crates of components, of YAML and of composition, each proved from their public contracts alone: a
+//! module for each crate, whose page quotes it.
 #![tactic(auto)]
 
+mod completions;
 mod compose;
+mod documents;
 mod encoder;
+mod examples;
 mod format;
+mod lines;
+mod plans;
 mod reader;
 mod shape;
+mod texts;
+mod typed_reads;
+mod values;
 
+pub use completions::emitted_events_begin_a_document;
 pub use compose::link_bytes;
+pub use documents::{number_of, take_scalar};
 pub use encoder::import_resource;
+pub use examples::saved_sample;
 pub use format::one_import;
+pub use lines::holds_content;
+pub use plans::root_dependency;
 pub use reader::item_count;
 pub use shape::export_count;
+pub use texts::push_field;
+pub use typed_reads::port;
+pub use values::saved;

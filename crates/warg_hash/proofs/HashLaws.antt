@@ -1,33 +1,17 @@
--- What is known of hash texts.
-use Rattle.std.proofs.Common.{true, false, ◌≡◌, ℕ, List, length, drop, Result, Ok, Err, sym, ap, ◌∙◌, arith, MatchResult}
+-- What decoding leaves in its room, of a text that is a hash text or not.
+use Rattle.std.proofs.Common.{true, false, ◌≡◌, ℕ, List, drop, Result, Ok, Err, sym, ap, ◌∙◌, MatchResult}
 use Rattle.std.specs.Result.{is_err}
 use Rattle.std.proofs.lemmas.Bool.{false≢true}
-use Rattle.hex.specs.Hex.{decode_sized, lower_digits}
+use Rattle.hex.specs.Hex.{decode_sized}
 use Rattle.hex.specs.declared.error.FromHexError.{FromHexError}
-use Rattle.hex.proofs.HexLemmas.{length-encode_with, decode_sized-encode_lower, decode_sized-ok, decode_sized-twice, decode_of-ok}
 use Rattle.warg_hash.specs.Hash.{IsHashText, hash_text}
-
--- a hash text has 71 bytes
-pub length-hash_text : (digest : List ℕ) → length digest ≡ 32 → length (hash_text digest) ≡ 71
-length-hash_text digest is = omega (arith, length-encode_with lower_digits digest, is)
-
--- the digits of a digest's text decode to the digest
-pub digits_decode : (text digest : List ℕ) → IsHashText text digest → decode_sized (drop 7 text) 32 ≡ Ok digest
-digits_decode text digest is =
-    ap (λ (t : List ℕ). decode_sized (drop 7 t) 32) is.1 ∙ decode_sized-encode_lower digest 32 is.0.0 is.0.1
+use Rattle.warg_hash.specs.HashLaws.{digits_decode}
 
 -- what decoding into room leaves there, where the text decodes
 pub decoded : (d : Result (List ℕ) FromHexError) (r : Result Unit FromHexError) (out digest : List ℕ)
     → MatchResult d (λ bytes. (r ≡ Ok tt) × (out ≡ bytes)) (λ e. r ≡ Err e) → d ≡ Ok digest → (r ≡ Ok tt) × (out ≡ digest)
 decoded (Ok bytes) r out digest given is = (given.0, given.1 ∙ cc)
 decoded (Err e) r out digest given is = absurd cc
-
--- a digest that a text's digits decode to, and whose text it is
-pub is_hash_text : (text digits digest : List ℕ) → decode_sized digits 32 ≡ Ok digest → text ≡ hash_text digest → IsHashText text digest
-is_hash_text text digits digest decodes same =
-    let len = decode_sized-ok digits 32 digest decodes in
-    let ok = decode_of-ok digits digest (sym (decode_sized-twice digits 32 len) ∙ decodes) in
-    ((omega (arith, len, ok.2), ok.3), same)
 
 -- what was left in the room, where decoding did not fail
 pub decodes : (d : Result (List ℕ) FromHexError) (r : Result Unit FromHexError) (out : List ℕ)

@@ -1,2 +1,4 @@
 pub mod Hash
+pub mod HashLaws
 pub mod Name
+pub mod NameLaws

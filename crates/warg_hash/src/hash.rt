@@ -2,7 +2,8 @@
 
 ghost use Rattle.std.specs.Prelude.{◌≡◌, List, ℕ, Some, IfOk, IfErr, Err};
 ghost use Rattle.sha2.specs.Sha256.{sha256};
-ghost use Rattle.warg_hash.specs.Hash.{IsHashText, hash_text, operator_log_id, package_log_id};
+ghost use Rattle.std.specs.Prelude.{None, MatchOption, Ok};
+ghost use Rattle.warg_hash.specs.Hash.{IsDigest, IsHashText, digest_of, hash_text, operator_log_id, package_log_id};
 ghost use Rattle.warg_hash.specs.declared.name.NameError.TheVariants.{Form};
 
 use crate::name::{NameError, PackageName};
@@ -14,7 +15,7 @@ use warg_values::{Memory, Text};
 
 /// A SHA-256 digest (FIPS 180-4), written as `sha256:` and 64 lower-case hex digits.
 ///
-/// A clause sees a hash as its 32 bytes.
+/// A clause sees a hash as its 32 bytes, by which hashes are equal, are ordered and hash. Their texts are ordered alike.
 #[derive(Clone, Copy, Debug, PartialEq, Eq, PartialOrd, Ord, Hash)]
 pub struct AnyHash {
     digest: [u8; 32],
@@ -25,7 +26,11 @@ impl Model for AnyHash {
 
     ghost Value = { List ℕ };
 
+    ghost use Rattle.warg_hash.specs.Hash.{IsDigest};
+
     ghost view = { λ h. h.digest };
+
+    ghost invariant = { λ h. IsDigest h.digest };
 
     ghost inverse = { λ d. record { digest = d } };
 }
@@ -51,6 +56,7 @@ impl AnyHash {
     ///
     /// Any other text is `Form`. No memory is taken.
     pub fn from_text(_alloc: Global, text: &str) -> Result<Self, NameError>
+        ensures exact { MatchOption (digest_of text.now) (result ≡ Err Form) (λ digest. result ≡ Ok digest) }
         ensures ok { IfOk result (λ hash. IsHashText text.now hash) }
         ensures form { (result ≡ Err Form) → (digest : List ℕ) → IsHashText text.now digest → ⊥ }
         ensures err { IfErr result (λ e. e ≡ Form) }
@@ -73,7 +79,8 @@ impl AnyHash {
 
     /// The 32 bytes of the digest.
     pub fn bytes(&self) -> &[u8; 32]
-        ensures { result.now ≡ self.now }
+        ensures value { result.now ≡ self.now }
+        ensures form { IsDigest self.now }
     {
         &self.digest
     }
@@ -112,7 +119,7 @@ impl fmt::Display for AnyHash {
 
 /// The id of a log: the hash of a text that names the log.
 ///
-/// A clause sees it as the hash's 32 bytes.
+/// A clause sees it as the hash's 32 bytes, by which ids are equal, are ordered and hash.
 #[derive(Clone, Copy, Debug, PartialEq, Eq, PartialOrd, Ord, Hash)]
 pub struct LogId {
     hash: AnyHash,
@@ -123,7 +130,11 @@ impl Model for LogId {
 
     ghost Value = { List ℕ };
 
+    ghost use Rattle.warg_hash.specs.Hash.{IsDigest};
+
     ghost view = { λ id. id.hash };
+
+    ghost invariant = { λ id. IsDigest id.hash };
 
     ghost inverse = { λ d. record { hash = d } };
 }
@@ -154,6 +165,7 @@ impl LogId {
 
     /// The id that a hash text names. Any other text is `Form`. No memory is taken.
     pub fn from_text(alloc: Global, text: &str) -> Result<Self, NameError>
+        ensures exact { MatchOption (digest_of text.now) (result ≡ Err Form) (λ digest. result ≡ Ok digest) }
         ensures ok { IfOk result (λ id. IsHashText text.now id) }
         ensures form { (result ≡ Err Form) → (digest : List ℕ) → IsHashText text.now digest → ⊥ }
         ensures err { IfErr result (λ e. e ≡ Form) }
@@ -166,7 +178,8 @@ impl LogId {
 
     /// The hash that the id is.
     pub fn hash(&self) -> &AnyHash
-        ensures { result.now ≡ self.now }
+        ensures value { result.now ≡ self.now }
+        ensures form { IsDigest self.now }
     {
         &self.hash
     }
@@ -197,7 +210,7 @@ impl fmt::Display for LogId {
 
 /// The id of a record: the hash of the record's contents.
 ///
-/// A clause sees it as the hash's 32 bytes.
+/// A clause sees it as the hash's 32 bytes, by which ids are equal, are ordered and hash.
 #[derive(Clone, Copy, Debug, PartialEq, Eq, PartialOrd, Ord, Hash)]
 pub struct RecordId {
     hash: AnyHash,
@@ -208,7 +221,11 @@ impl Model for RecordId {
 
     ghost Value = { List ℕ };
 
+    ghost use Rattle.warg_hash.specs.Hash.{IsDigest};
+
     ghost view = { λ id. id.hash };
+
+    ghost invariant = { λ id. IsDigest id.hash };
 
     ghost inverse = { λ d. record { hash = d } };
 }
@@ -225,6 +242,7 @@ impl RecordId {
 
     /// The id that a hash text names. Any other text is `Form`. No memory is taken.
     pub fn from_text(alloc: Global, text: &str) -> Result<Self, NameError>
+        ensures exact { MatchOption (digest_of text.now) (result ≡ Err Form) (λ digest. result ≡ Ok digest) }
         ensures ok { IfOk result (λ id. IsHashText text.now id) }
         ensures form { (result ≡ Err Form) → (digest : List ℕ) → IsHashText text.now digest → ⊥ }
         ensures err { IfErr result (λ e. e ≡ Form) }
@@ -237,7 +255,8 @@ impl RecordId {
 
     /// The hash that the id is.
     pub fn hash(&self) -> &AnyHash
-        ensures { result.now ≡ self.now }
+        ensures value { result.now ≡ self.now }
+        ensures form { IsDigest self.now }
     {
         &self.hash
     }
@@ -268,7 +287,7 @@ impl fmt::Display for RecordId {
 
 /// The id of a key: the hash of the key's text.
 ///
-/// A clause sees it as the hash's 32 bytes.
+/// A clause sees it as the hash's 32 bytes, by which ids are equal, are ordered and hash.
 #[derive(Clone, Copy, Debug, PartialEq, Eq, PartialOrd, Ord, Hash)]
 pub struct KeyId {
     hash: AnyHash,
@@ -279,7 +298,11 @@ impl Model for KeyId {
 
     ghost Value = { List ℕ };
 
+    ghost use Rattle.warg_hash.specs.Hash.{IsDigest};
+
     ghost view = { λ id. id.hash };
+
+    ghost invariant = { λ id. IsDigest id.hash };
 
     ghost inverse = { λ d. record { hash = d } };
 }
@@ -296,6 +319,7 @@ impl KeyId {
 
     /// The id that a hash text names. Any other text is `Form`. No memory is taken.
     pub fn from_text(alloc: Global, text: &str) -> Result<Self, NameError>
+        ensures exact { MatchOption (digest_of text.now) (result ≡ Err Form) (λ digest. result ≡ Ok digest) }
         ensures ok { IfOk result (λ id. IsHashText text.now id) }
         ensures form { (result ≡ Err Form) → (digest : List ℕ) → IsHashText text.now digest → ⊥ }
         ensures err { IfErr result (λ e. e ≡ Form) }
@@ -308,7 +332,8 @@ impl KeyId {
 
     /// The hash that the id is.
     pub fn hash(&self) -> &AnyHash
-        ensures { result.now ≡ self.now }
+        ensures value { result.now ≡ self.now }
+        ensures form { IsDigest self.now }
     {
         &self.hash
     }

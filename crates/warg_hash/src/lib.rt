@@ -2,6 +2,7 @@
 #![tactic(auto)]
 
 mod hash;
+pub mod laws;
 mod name;
 
 pub use hash::{AnyHash, KeyId, LogId, RecordId};

@@ -2,13 +2,13 @@
 
 ghost use Rattle.std.specs.Prelude.{◌≡◌, ◌||◌, ℕ, List, Some, refl, bytes_eq, IfOk, Err};
 ghost use Rattle.std.proofs.Common.{rules};
-ghost use Rattle.std.specs.List.{list_all};
+ghost use Rattle.std.specs.List.{list_all, before_first, after_first};
 ghost use Rattle.std.specs.Ordering.{nat_cmp};
 ghost use Rattle.std.specs.Cmp.{partial_equiv_from_equiv};
 ghost use Rattle.std.specs.Cmp.Lexicographic.{slice_cmp, nat_list_eq_equiv, nat_list_cmp_total, texts_ties, texts_po};
 ghost use Rattle.std.specs.Cmp.Rules.{hashing};
 ghost use Rattle.std.specs.Hash as fed;
-ghost use Rattle.warg_hash.specs.Name.{is_lower, is_digit, is_word, is_label, is_package_name, IsNameOf, IsPackageName};
+ghost use Rattle.warg_hash.specs.Name.{is_lower, is_digit, is_word, is_label, is_colon, is_package_name, IsNameOf, IsPackageName};
 ghost use Rattle.warg_hash.specs.declared.name.NameError.TheVariants.{Form, Memory as WantsMemory};
 
 use std::alloc::Global;
@@ -111,21 +111,25 @@ impl PackageName {
 
     /// The namespace and the name in it.
     fn parts(&self) -> (&str, &str)
-        ensures { IsNameOf self.now result.0.now result.1.now }
+        ensures parts { IsNameOf self.now result.0.now result.1.now }
+        ensures before { result.0.now ≡ before_first is_colon self.now }
+        ensures after { result.1.now ≡ after_first is_colon self.now }
     {
         self.text.as_str().split_once(':').unwrap()
     }
 
     /// The label before the colon.
     pub fn namespace(&self) -> &str
-        ensures { (name : List ℕ) × IsNameOf self.now result.now name }
+        ensures value { result.now ≡ before_first is_colon self.now }
+        ensures parts { (name : List ℕ) × IsNameOf self.now result.now name }
     {
         self.parts().0
     }
 
     /// The label after the colon.
     pub fn name(&self) -> &str
-        ensures { (namespace : List ℕ) × IsNameOf self.now namespace result.now }
+        ensures value { result.now ≡ after_first is_colon self.now }
+        ensures parts { (namespace : List ℕ) × IsNameOf self.now namespace result.now }
     {
         self.parts().1
     }

@@ -5,12 +5,12 @@ use Rattle.std.proofs.lemmas.Bool.{cases_Bool, and_parts, eqb-true, lt-ltb, ltb-
 use Rattle.std.proofs.lemmas.List.{length-append, append-nil, nil_from_length}
 use Rattle.warg_values.specs.declared.moment.Moment.{Moment}
 use Rattle.warg_hash.specs.Hash.{hash_text, IsDigest}
-use Rattle.warg_hash.proofs.HashLaws.{length-hash_text}
+use Rattle.warg_hash.specs.HashLaws.{length-hash_text, one_digest}
 use Rattle.warg_record.specs.Wire.{field, fields, optional_field, number_field}
 use Rattle.warg_record.specs.Record.{Kind, PlainRecord, IsEntry, IsRecord, entry_text, moment_text, record_text}
 use Rattle.warg_record.specs.Reading.{hash_of, optional_hash_of, optional_at, number_at, field_at, some_fields, entry_at, moment_of, record_of}
 use Rattle.warg_record.specs.Answer.{GivesOrForm}
-use Rattle.warg_record.specs.Envelope.{IsMessageOf}
+use Rattle.warg_record.specs.Envelope.{IsMessageOf, IsEnvelopeOf, Signed}
 use Rattle.warg_record.specs.declared.error.EnvelopeError.{EnvelopeError}
 use Rattle.warg_record.specs.declared.error.EnvelopeError.TheVariants as error
 use Rattle.warg_record.proofs.Steps.{bind_some, pass_some, some_is, never}
@@ -144,3 +144,20 @@ one_record_lem kind contents r s short is_r is_s =
     let read_r : record_of kind contents ≡ Some r = ap (record_of kind) is_r.text ∙ record_of-again kind r is_r.form (subst (λ (t : List ℕ). length t < 2 ^ 64) is_r.text short) in
     let read_s : record_of kind contents ≡ Some s = ap (record_of kind) is_s.text ∙ record_of-again kind s is_s.form (subst (λ (t : List ℕ). length t < 2 ^ 64) is_s.text short) in
     some_is r s (sym read_r ∙ read_s)
+
+abbrev envelope_of : PlainRecord → List ℕ → List ℕ → List ℕ → Signed
+envelope_of r c k g = record { rec = r; contents = c; key_id = k; signature = g }
+
+same_parts : (r r' : PlainRecord) (c c' k k' g g' : List ℕ) → r ≡ r' → c ≡ c' → k ≡ k' → g ≡ g'
+    → envelope_of r c k g ≡ envelope_of r' c' k' g'
+same_parts r r' c c' k k' g g' a b d e = rw (a, b, d, e) refl
+
+-- contents and the texts of a key's id and of a signature are those of one envelope at most
+pub one_envelope_lem : (kind : Kind) (contents key_id signature : List ℕ) (s t : Signed) → length contents < 2 ^ 64
+    → IsEnvelopeOf kind contents key_id signature s → IsEnvelopeOf kind contents key_id signature t → s ≡ t
+one_envelope_lem kind contents key_id signature s t len a b =
+    same_parts s.rec t.rec s.contents t.contents s.key_id t.key_id s.signature t.signature
+    (one_record_lem kind contents s.rec t.rec len a.message b.message)
+    (a.same_contents ∙ sym b.same_contents)
+    (one_digest key_id s.key_id t.key_id a.key b.key)
+    (a.same_signature ∙ sym b.same_signature)

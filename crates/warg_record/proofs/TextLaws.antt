@@ -14,14 +14,13 @@ use Rattle.semver.specs.Parse.{Parts, version_parts}
 use Rattle.semver.specs.Identifiers.{parts_text}
 use Rattle.semver.specs.Grammar.{IsValid}
 use Rattle.semver.proofs.Grammar.{version_parts-sound, version_parts-complete}
-use Rattle.hex.specs.Hex.{decode_sized, encode_lower, lower_digits}
-use Rattle.hex.specs.declared.error.FromHexError.{FromHexError}
+use Rattle.hex.specs.Hex.{encode_lower, lower_digits}
 use Rattle.hex.proofs.HexLemmas.{IsAscii-encode_with}
-use Rattle.warg_hash.specs.Hash.{IsDigest, IsHashText, hash_text}
-use Rattle.warg_hash.proofs.HashLaws.{digits_decode, is_hash_text, length-hash_text}
+use Rattle.warg_hash.specs.Hash.{IsDigest, hash_text, digest_of}
+use Rattle.warg_hash.specs.HashLaws.{length-hash_text, digest_of-again, digest_of-sound}
 use Rattle.warg_record.specs.Key.{is_key_text, IsKeyText}
 use Rattle.warg_record.specs.Record.{Kind, Package, Operator, IsText, is_permission, permissions_of}
-use Rattle.warg_record.specs.Reading.{text_of, key_of, digest_with_text, digest_of, hash_of, version_of, permission_of}
+use Rattle.warg_record.specs.Reading.{text_of, key_of, hash_of, version_of, permission_of}
 use Rattle.warg_record.proofs.Steps.{bind_some, some_is, never}
 use Rattle.warg_record.proofs.KeyLaws.{is_key_text-sound, is_key_text-complete}
 use Rattle.warg_record.proofs.VersionLaws.{IsAscii-parts_text, parts_text-some}
@@ -29,33 +28,6 @@ use Rattle.warg_record.proofs.VersionLaws.{IsAscii-parts_text, parts_text-some}
 ok_from : {A E : Type 0} (r : Result A E) (x : A) → result_ok r ≡ Some x → r ≡ Ok x
 ok_from (Ok y) x e = ap (λ (z : _). Ok z) (some_is y x e)
 ok_from (Err y) x e = never x e
-
--- a hash text is read as its digest
-pub digest_of-again : (text digest : List ℕ) → IsHashText text digest → digest_of text ≡ Some digest
-unfolding digest_of
-digest_of-again text digest is =
-    let same : bytes_eq (hash_text digest) text ≡ true = (bytes_eq-Decides (hash_text digest) text).1 (sym is.1) in
-    rw (digits_decode text digest is, same) refl
-
-with_text-sound : (text digest : List ℕ) (d : Result (List ℕ) FromHexError) → decode_sized (drop 7 text) 32 ≡ d → digest_with_text text d ≡ Some digest → IsHashText text digest
-with_text-sound text digest (Ok x) decodes read =
-    let c = cond_some (bytes_eq (hash_text x) text) x digest read in
-    let same : text ≡ hash_text x = sym ((bytes_eq-Decides (hash_text x) text).0 c.0) in
-    rw (← c.1) (is_hash_text text (drop 7 text) x decodes same)
-with_text-sound text digest (Err e) decodes read = absurd (none-some digest read)
-
--- what is read of a text is the digest whose text it is
-pub digest_of-sound : (text digest : List ℕ) → digest_of text ≡ Some digest → IsHashText text digest
-unfolding digest_of
-digest_of-sound text digest read = with_text-sound text digest (decode_sized (drop 7 text) 32) refl read
-
-none_from : {A : Type 0} (o : Option A) → ((x : A) → o ≡ Some x → ⊥) → o ≡ None
-none_from None h = refl
-none_from (Some x) h = absurd (h x refl)
-
--- nothing is read of any other text
-pub digest_of-none : (text : List ℕ) → ((digest : List ℕ) → IsHashText text digest → ⊥) → digest_of text ≡ None
-digest_of-none text h = none_from (digest_of text) (λ digest read. h digest (digest_of-sound text digest read))
 
 -- what is read as a text is the bytes, which are a text
 pub text_of-sound : (bytes text : List ℕ) → text_of bytes ≡ Some text → (bytes ≡ text) × IsText text

@@ -9,7 +9,17 @@ pub record IsMessageOf (kind : Kind) (contents : List ℕ) (r : PlainRecord) : T
   pub form : IsRecord kind r
   pub text : contents ≡ record_text r
 
--- the contents are a record's message, and the two texts are those of a key id and of a signature
-abbrev pub IsEnvelope : Kind → List ℕ → List ℕ → List ℕ → Type 0
-IsEnvelope kind contents key_id signature =
-    (r : PlainRecord) × IsMessageOf kind contents r × (digest : List ℕ) × IsHashText key_id digest × IsKeyText signature
+-- an envelope: a record with its message, the id of the key that signed it, and the text of the signature
+pub record Signed : Type 0 where
+  pub rec : PlainRecord
+  pub contents : List ℕ
+  pub key_id : List ℕ
+  pub signature : List ℕ
+
+-- the contents, the text of a key's id and that of a signature are read as this envelope
+pub record IsEnvelopeOf (kind : Kind) (contents key_id signature : List ℕ) (s : Signed) : Type 0 where
+  pub message : IsMessageOf kind contents s.rec
+  pub same_contents : s.contents ≡ contents
+  pub key : IsHashText key_id s.key_id
+  pub same_signature : s.signature ≡ signature
+  pub key_text : IsKeyText signature

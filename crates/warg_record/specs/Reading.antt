@@ -4,9 +4,7 @@ use Rattle.std.specs.Result.{result_ok}
 use Rattle.std.specs.Str.{is_utf8}
 use Rattle.warg_values.specs.declared.moment.Moment.{Moment}
 use Rattle.semver.specs.Parse.{Parts, version_parts}
-use Rattle.hex.specs.Hex.{decode_sized}
-use Rattle.hex.specs.declared.error.FromHexError.{FromHexError}
-use Rattle.warg_hash.specs.Hash.{hash_text}
+use Rattle.warg_hash.specs.Hash.{digest_of}
 use Rattle.warg_record.specs.Key.{is_key_text}
 use Rattle.warg_record.specs.Record.{Kind, Package, Operator, PlainEntry, Init, GrantFlat, RevokeFlat, Release, Yank, DefineNamespace, ImportNamespace, PlainRecord, is_permission}
 
@@ -58,15 +56,7 @@ key_of bytes = do
   text ← text_of bytes
   if is_key_text text then Some text else None
 
--- the digest, where the text is its hash text
-abbrev pub digest_with_text : List ℕ → Result (List ℕ) FromHexError → Option (List ℕ)
-digest_with_text text (Ok digest) = if bytes_eq (hash_text digest) text then Some digest else None
-digest_with_text text (Err e) = None
-
 -- the digest that a hash text names
-unfoldable pub digest_of : List ℕ → Option (List ℕ)
-digest_of text = digest_with_text text (decode_sized (drop 7 text) 32)
-
 unfoldable pub hash_of : List ℕ → Option (List ℕ)
 hash_of bytes = text_of bytes >>= digest_of
 

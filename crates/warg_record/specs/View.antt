@@ -2,6 +2,8 @@
 use Rattle.std.specs.Prelude.{List, ℕ, codes, map}
 use Rattle.semver.specs.Identifiers.{parts_of}
 use Rattle.warg_record.specs.Record.{PlainEntry, Init, GrantFlat, RevokeFlat, Release, Yank, DefineNamespace, ImportNamespace, PlainRecord}
+use Rattle.warg_record.specs.Envelope.{Signed}
+use Rattle.warg_record.specs.declared.envelope.Envelope.{Envelope}
 use Rattle.warg_record.specs.declared.record.Record.{Record}
 use Rattle.warg_record.specs.declared.package.Permission.{Permission}
 use Rattle.warg_record.specs.declared.package.Permission.TheVariants as package_permission
@@ -41,3 +43,7 @@ operator_entry_view (operator_entry.ImportNamespace namespace registry) = Import
 -- a record, where an entry is seen by view
 abbrev pub record_view : {E : Type 0} → (E → PlainEntry) → Record E → PlainRecord
 record_view view r = record { prev = r.prev; version = r.version; time = r.time; entries = map view r.entries.items }
+
+-- an envelope, where an entry is seen by view
+abbrev pub envelope_view : {E : Type 0} → (E → PlainEntry) → Envelope (Record E) → Signed
+envelope_view view env = record { rec = record_view view env.rec; contents = env.contents.items; key_id = env.key_id; signature = env.signature }

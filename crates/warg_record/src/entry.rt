@@ -39,6 +39,10 @@ pub trait LogEntry: Drop {
     fn read(alloc: Global, bytes: &[u8]) -> Result<Self, EnvelopeError>
         ensures { GivesOrForm plain result (entry_at kind bytes.now) };
 
+    /// An equal entry of its own.
+    fn try_clone(&self, alloc: Global) -> Result<Self, Memory>
+        ensures { IfOk result (λ copy. plain copy ≡ plain self.now) };
+
     /// Writes the entry's message.
     fn message(&self, alloc: Global) -> Result<Vec<u8>, Memory>
         ensures { IfOk result (λ message. message.items ≡ entry_text (plain self.now)) };

@@ -4,9 +4,9 @@ ghost use Rattle.std.specs.Prelude.{◌≡◌, ◌++◌, IfOk, IfErr, OnOk, Err,
 ghost use Rattle.warg_hash.specs.Hash.{IsHashText};
 ghost use Rattle.warg_record.specs.Key.{IsKeyText};
 ghost use Rattle.warg_record.specs.Wire.{fields};
-ghost use Rattle.warg_record.specs.Record.{PlainRecord, entry_text, moment_text, record_text};
-ghost use Rattle.warg_record.specs.Envelope.{IsMessageOf, IsEnvelope};
-ghost use Rattle.warg_record.specs.View.{record_view};
+ghost use Rattle.warg_record.specs.Record.{PlainRecord, IsRecord, entry_text, moment_text, record_text};
+ghost use Rattle.warg_record.specs.Envelope.{IsMessageOf, IsEnvelopeOf, Signed};
+ghost use Rattle.warg_record.specs.View.{record_view, envelope_view};
 ghost use Rattle.warg_record.specs.declared.error.EnvelopeError.TheVariants.{Form};
 
 use crate::entry::LogEntry;
@@ -99,11 +99,10 @@ impl<E: LogEntry> Envelope<Record<E>> {
         key_id: &str,
         signature: &str,
     ) -> Result<Self, EnvelopeError>
-        ensures rec { IfOk result (λ env. IsMessageOf E.kind contents.now (record_view E.plain env.rec)) }
-        ensures contents { IfOk result (λ env. env.contents.items ≡ contents.now) }
-        ensures key_id { IfOk result (λ env. IsHashText key_id.now env.key_id) }
-        ensures signature { IfOk result (λ env. (env.signature ≡ signature.now) × IsKeyText signature.now) }
-        ensures form { (result ≡ Err Form) → ¬ (IsEnvelope E.kind contents.now key_id.now signature.now) }
+        ensures ok { IfOk result (λ env.
+            IsEnvelopeOf E.kind contents.now key_id.now signature.now (envelope_view E.plain env)) }
+        ensures form { (result ≡ Err Form)
+            → (s : Signed) → IsEnvelopeOf E.kind contents.now key_id.now signature.now s → ⊥ }
     {
         let rec = checked_record_of(alloc, contents)?;
         let key_id = key_id_of(alloc, key_id)?;
@@ -118,7 +117,9 @@ impl<E: LogEntry> Envelope<Record<E>> {
 
     /// Writes a record's message, which `read` reads again where the record has the form.
     pub fn write(alloc: Global, rec: &Record<E>) -> Result<Vec<u8>, Memory>
-        ensures { IfOk result (λ contents. contents.items ≡ record_text (record_view E.plain rec.now)) }
+        ensures text { IfOk result (λ contents. contents.items ≡ record_text (record_view E.plain rec.now)) }
+        ensures message { IfOk result (λ contents. IsRecord E.kind (record_view E.plain rec.now)
+            → IsMessageOf E.kind contents.items (record_view E.plain rec.now)) }
     {
         let mut contents = Vec::new(alloc);
         if let Some(prev) = &rec.prev {
@@ -129,5 +130,17 @@ impl<E: LogEntry> Envelope<Record<E>> {
         push_field(&mut contents, 3, &time)?;
         push_entries(alloc, &mut contents, &rec.entries)?;
         Ok(contents)
+    }
+
+    /// An equal envelope of its own.
+    pub fn try_clone(&self, alloc: Global) -> Result<Self, Memory>
+        ensures { IfOk result (λ copy. envelope_view E.plain copy ≡ envelope_view E.plain self.now) }
+    {
+        Ok(Envelope {
+            rec: self.rec.try_clone(alloc)?,
+            contents: Vec::from_slice(alloc, self.contents.as_slice())?,
+            key_id: self.key_id,
+            signature: self.signature.try_clone(alloc)?,
+        })
     }
 }

@@ -2,7 +2,7 @@
 
 ghost use Rattle.std.specs.Prelude.{◌≡◌, ◌<◌, ◌^◌, ℕ, List, length};
 ghost use Rattle.warg_record.specs.Record.{Kind, PlainRecord};
-ghost use Rattle.warg_record.specs.Envelope.{IsMessageOf};
+ghost use Rattle.warg_record.specs.Envelope.{IsMessageOf, IsEnvelopeOf, Signed};
 
 /// Contents are the message of one record at most. So what is written of a record of the form is read as that record
 /// again.
@@ -12,4 +12,13 @@ pub fn one_record()
         → IsMessageOf kind contents r
         → IsMessageOf kind contents s
         → r ≡ s }
+{}
+
+/// Contents, the text of a key's id and that of a signature are read as one envelope at most.
+pub fn one_envelope()
+    ensures { (kind : Kind) (contents key_id signature : List ℕ) (s t : Signed)
+        → length contents < 2 ^ 64
+        → IsEnvelopeOf kind contents key_id signature s
+        → IsEnvelopeOf kind contents key_id signature t
+        → s ≡ t }
 {}

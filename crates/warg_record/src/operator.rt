@@ -119,6 +119,39 @@ impl LogEntry for OperatorEntry {
         }
     }
 
+    fn try_clone(&self, alloc: Global) -> Result<Self, Memory> {
+        match self {
+            OperatorEntry::Init {
+                key,
+                hash_algorithm,
+            } => Ok(OperatorEntry::Init {
+                key: key.try_clone(alloc)?,
+                hash_algorithm: hash_algorithm.try_clone(alloc)?,
+            }),
+            OperatorEntry::GrantFlat { key, permissions } => Ok(OperatorEntry::GrantFlat {
+                key: key.try_clone(alloc)?,
+                permissions: Vec::from_slice(alloc, permissions.as_slice())?,
+            }),
+            OperatorEntry::RevokeFlat {
+                key_id,
+                permissions,
+            } => Ok(OperatorEntry::RevokeFlat {
+                key_id: *key_id,
+                permissions: Vec::from_slice(alloc, permissions.as_slice())?,
+            }),
+            OperatorEntry::DefineNamespace { namespace } => Ok(OperatorEntry::DefineNamespace {
+                namespace: namespace.try_clone(alloc)?,
+            }),
+            OperatorEntry::ImportNamespace {
+                namespace,
+                registry,
+            } => Ok(OperatorEntry::ImportNamespace {
+                namespace: namespace.try_clone(alloc)?,
+                registry: registry.try_clone(alloc)?,
+            }),
+        }
+    }
+
     fn message(&self, alloc: Global) -> Result<Vec<u8>, Memory> {
         match self {
             OperatorEntry::Init {

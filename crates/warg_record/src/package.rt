@@ -117,6 +117,36 @@ impl LogEntry for PackageEntry {
         }
     }
 
+    fn try_clone(&self, alloc: Global) -> Result<Self, Memory> {
+        match self {
+            PackageEntry::Init {
+                key,
+                hash_algorithm,
+            } => Ok(PackageEntry::Init {
+                key: key.try_clone(alloc)?,
+                hash_algorithm: hash_algorithm.try_clone(alloc)?,
+            }),
+            PackageEntry::GrantFlat { key, permissions } => Ok(PackageEntry::GrantFlat {
+                key: key.try_clone(alloc)?,
+                permissions: Vec::from_slice(alloc, permissions.as_slice())?,
+            }),
+            PackageEntry::RevokeFlat {
+                key_id,
+                permissions,
+            } => Ok(PackageEntry::RevokeFlat {
+                key_id: *key_id,
+                permissions: Vec::from_slice(alloc, permissions.as_slice())?,
+            }),
+            PackageEntry::Release { version, content } => Ok(PackageEntry::Release {
+                version: copy_of(version)?,
+                content: *content,
+            }),
+            PackageEntry::Yank { version } => Ok(PackageEntry::Yank {
+                version: copy_of(version)?,
+            }),
+        }
+    }
+
     fn message(&self, alloc: Global) -> Result<Vec<u8>, Memory> {
         match self {
             PackageEntry::Init {
@@ -134,6 +164,13 @@ impl LogEntry for PackageEntry {
             PackageEntry::Yank { version } => yank_message(alloc, version),
         }
     }
+}
+
+/// A version of its own, equal to this one.
+fn copy_of(version: &Version) -> Result<Version, Memory>
+    ensures { IfOk result (λ copy. parts_of copy ≡ parts_of version.now) }
+{
+    Ok(version.clone()?)
 }
 
 /// A released version, and the digest of its content.

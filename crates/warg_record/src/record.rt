@@ -1,6 +1,6 @@
 //! Records, and reading them.
 
-ghost use Rattle.std.specs.Prelude.{map, length, option_map};
+ghost use Rattle.std.specs.Prelude.{◌≡◌, IfOk, map, length, option_map};
 ghost use Rattle.warg_record.specs.Reading as reading;
 ghost use Rattle.warg_record.specs.Answer.{GivesOrForm};
 ghost use Rattle.warg_record.specs.View.{record_view};
@@ -13,7 +13,7 @@ use crate::package::PackageEntry;
 use crate::wire::{field_of, number_of, optional_of};
 use std::alloc::Global;
 use warg_hash::RecordId;
-use warg_values::Moment;
+use warg_values::{Memory, Moment};
 
 /// One record of a log.
 #[derive(Debug, Drop)]
@@ -26,6 +26,31 @@ pub struct Record<E> {
     pub time: Moment,
     /// What the record says, in order.
     pub entries: Vec<E>,
+}
+
+impl<E: LogEntry> Record<E> {
+    /// An equal record of its own.
+    pub fn try_clone(&self, alloc: Global) -> Result<Self, Memory>
+        ensures { IfOk result (λ copy. record_view E.plain copy ≡ record_view E.plain self.now) }
+    {
+        Ok(Record {
+            prev: self.prev,
+            version: self.version,
+            time: self.time,
+            entries: copies_of(alloc, self.entries.as_slice())?,
+        })
+    }
+}
+
+/// Equal entries, in the same order.
+fn copies_of<E: LogEntry>(alloc: Global, entries: &[E]) -> Result<Vec<E>, Memory>
+    ensures { IfOk result (λ copies. map E.plain copies.items ≡ map E.plain entries.now) }
+{
+    let mut copies = Vec::new(alloc);
+    for entry in entries {
+        copies.push(entry.try_clone(alloc)?)?;
+    }
+    Ok(copies)
 }
 
 /// One record of a package's log.

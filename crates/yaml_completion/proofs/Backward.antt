@@ -3,13 +3,13 @@ use Rattle.std.proofs.Common.{◌≡◌, ℕ, List, [], ◌∷◌, ◌++◌, len
 use Rattle.yaml_small.specs.declared.event.Event.{Event}
 use Rattle.yaml_small.specs.declared.event.Event.TheVariants.{StreamStart, StreamEnd}
 use Rattle.yaml_small.specs.declared.state.Mode.{Mode}
-use Rattle.yaml_small.specs.declared.state.Mode.TheVariants.{Begin, Document, Root, Item, Key, Value, Open, Paired, Done, Stray, Last, Ended}
+use Rattle.yaml_small.specs.declared.state.Mode.TheVariants.{Begin, Document, Root, Item, Key, Value, Open, AfterKey, Done, Trailing, Last, Ended}
 use Rattle.yaml_small.specs.declared.state.Frame.{Frame}
 use Rattle.yaml_small.specs.declared.state.Frame.TheVariants.{InList, InMap, InSeq, InPairs}
 use Rattle.yaml_small.specs.Places.{At, flow_next, begins, is_end, at_dots, at_dash, list_ends, map_ends}
 use Rattle.yaml_small.specs.Scalars.{Fault, Form}
 use Rattle.yaml_small.specs.Grammar.{closes_value, is_flow_colon}
-use Rattle.yaml_small.specs.Step.{Go, go, missing_go, open_at, paired_at, list_done, map_done, seq_done, pairs_done, root_done, done_at, step_at}
+use Rattle.yaml_small.specs.Step.{Transition, transition, missing_transition, open_at, after_key_at, list_done, map_done, seq_done, pairs_done, root_done, done_at, step_at}
 use Rattle.yaml_small.specs.Stream.{State, top_of, changed, behind, Runs}
 use Rattle.yaml_small.proofs.Grows.{the_end, SameMode}
 use Rattle.yaml_small.proofs.Runs.{runs_of, from_of, step_of, top_pushed, state}
@@ -18,11 +18,11 @@ use Rattle.yaml_completion.proofs.Contents.{Ready}
 use Rattle.yaml_completion.proofs.Scans.{begins_low}
 use Rattle.yaml_completion.proofs.Blocks.{Alike, Next}
 use Rattle.yaml_completion.proofs.Frames.{is_flow, sits, nested, in_flow, flow_push, nested_pop, agreed, innermost, pairs_flow}
-use Rattle.yaml_completion.proofs.Moves.{Starts, Flowing, Fits, Fine, is_tied, tied, other, last, Lasts, Moves, moves_err, moves_map, moves_ok}
+use Rattle.yaml_completion.proofs.Moves.{Starts, Flowing, Fits, Consistent, is_tied, tied, other, last, Lasts, Moves, moves_err, moves_map, moves_ok}
 use Rattle.yaml_completion.proofs.Leaves.{same_mode}
 use Rattle.yaml_completion.proofs.BlockMoves.{moves_node, moves_item, moves_value, moves_explicit, moves_keyed, moves_list_done, moves_map_done}
 use Rattle.yaml_completion.proofs.DocumentMoves.{moves_root_done, moves_document, moves_last}
-use Rattle.yaml_completion.proofs.FlowMoves.{moves_seq_next, moves_pairs_next, moves_seq_done, moves_pairs_done, moves_paired}
+use Rattle.yaml_completion.proofs.FlowMoves.{moves_seq_next, moves_pairs_next, moves_seq_done, moves_pairs_done, moves_after_key}
 
 -- behind an innermost list or map
 pub fits_out : (flow g : Bool) (a c : At) → flow ≡ false → Next a c → Fits flow (Done g) a c
@@ -63,13 +63,13 @@ open_moves j (InPairs inner) a nest sit flow = moves_pairs_next j inner a (agree
 
 start_moves : (k : List Frame) (depth : ℕ) (f : Option Frame) (a : At) → nested false k ≡ true → in_flow false k ≡ false → Moves k (Ready a) (step_at Begin f depth) a
 unfolding step_at
-start_moves k depth f a nest flow = moves_ok k (Ready a) (λ c. go StreamStart c Document (missing_go c).change) a
-    (λ d fits. record { at = d; like = fits; along = stays a d; mode = Document; same = same_mode Document; is = refl }) (λ rest tie. absurd cc) (record { nest = nest; suits = flow })
+start_moves k depth f a nest flow = moves_ok k (Ready a) (λ c. transition StreamStart c Document (missing_transition c).change) a
+    (λ d fits. record { at = d; like = fits; along = stays a d; mode = Document; same = same_mode Document; is = refl }) (λ rest tie. absurd cc) (record { nest = nest; mode_matches = flow })
 
 end_moves : (k : List Frame) (depth : ℕ) (f : Option Frame) (a : At) → nested false k ≡ true → Moves k (λ c. c ≡ the_end) (step_at Ended f depth) a
 unfolding step_at
-end_moves k depth f a nest = moves_ok k (λ c. c ≡ the_end) (λ c. go StreamEnd c Ended (missing_go c).change) a
-    (λ d fits. record { at = d; like = fits; along = stays a d; mode = Ended; same = same_mode Ended; is = refl }) (λ rest tie. absurd cc) (record { nest = nest; suits = tt })
+end_moves k depth f a nest = moves_ok k (λ c. c ≡ the_end) (λ c. transition StreamEnd c Ended (missing_transition c).change) a
+    (λ d fits. record { at = d; like = fits; along = stays a d; mode = Ended; same = same_mode Ended; is = refl }) (λ rest tie. absurd cc) (record { nest = nest; mode_matches = tt })
 
 root_moves : (k : List Frame) (depth : ℕ) (f : Option Frame) (a : At) → nested false k ≡ true → in_flow false k ≡ false → Moves k (Starts a) (step_at (Root false) f depth) a
 unfolding step_at
@@ -77,53 +77,53 @@ root_moves k depth f a nest flow =
     moves_map k (Alike a) (Starts a) _ a (λ c alike. record { instead = alike.instead; dashes = λ e. alike.dashes ∙ e; percent = λ e. alike.percent ∙ e }) (moves_node k depth None a flow nest)
 
 -- each step
-step_moves : (m : Mode) (k : List Frame) (a : At) → Fine m k a → Moves k (Fits (in_flow false k) m a) (step_at m (top_of k) (length k)) a
+step_moves : (m : Mode) (k : List Frame) (a : At) → Consistent m k a → Moves k (Fits (in_flow false k) m a) (step_at m (top_of k) (length k)) a
 unfolding step_at done_at
-step_moves Begin k a fine = start_moves k (length k) (top_of k) a fine.nest fine.suits
-step_moves Document k a fine = moves_document k a fine.suits fine.nest
-step_moves (Root true) k a fine = moves_explicit k (length k) a fine.suits fine.nest
-step_moves (Root false) k a fine = root_moves k (length k) (top_of k) a fine.nest fine.suits.0
-step_moves (Item col) k a fine = moves_item k (length k) col a fine.suits fine.nest
-step_moves Key k a fine = moves_keyed k a fine.suits fine.nest
-step_moves (Value col) k a fine = moves_value k (length k) col a fine.suits fine.nest
-step_moves Open k a fine =
+step_moves Begin k a consistent = start_moves k (length k) (top_of k) a consistent.nest consistent.mode_matches
+step_moves Document k a consistent = moves_document k a consistent.mode_matches consistent.nest
+step_moves (Root true) k a consistent = moves_explicit k (length k) a consistent.mode_matches consistent.nest
+step_moves (Root false) k a consistent = root_moves k (length k) (top_of k) a consistent.nest consistent.mode_matches.0
+step_moves (Item col) k a consistent = moves_item k (length k) col a consistent.mode_matches consistent.nest
+step_moves Key k a consistent = moves_keyed k a consistent.mode_matches consistent.nest
+step_moves (Value col) k a consistent = moves_value k (length k) col a consistent.mode_matches consistent.nest
+step_moves Open k a consistent =
     elim ((innermost k).either) [
-      | inl none ↦ absurd (off (sym (ap (in_flow false) none) ∙ fine.suits))
+      | inl none ↦ absurd (off (sym (ap (in_flow false) none) ∙ consistent.mode_matches))
       | inr (j, (f, is)) ↦
-          let p = nested_pop false j f (sym (ap (nested false) is) ∙ fine.nest) in
+          let p = nested_pop false j f (sym (ap (nested false) is) ∙ consistent.nest) in
           subst (λ (k : List Frame). Moves k (λ c. c.col ≡ a.col) (step_at Open (top_of k) (length k)) a) (sym is)
-          (at_top Open j f (λ c. c.col ≡ a.col) a (open_moves j f a p.0 p.1 (sym (flow_push false j f) ∙ sym (ap (in_flow false) is) ∙ fine.suits)))
+          (at_top Open j f (λ c. c.col ≡ a.col) a (open_moves j f a p.0 p.1 (sym (flow_push false j f) ∙ sym (ap (in_flow false) is) ∙ consistent.mode_matches)))
     ]
   where
     off : false ≡ true → ⊥
     off e = absurd cc
-step_moves (Paired quoted goes) k a fine = moves_paired k (length k) quoted goes a (pairs_flow k fine.suits) fine.nest
-step_moves (Done g) k a fine =
+step_moves (AfterKey quoted continues) k a consistent = moves_after_key k (length k) quoted continues a (pairs_flow k consistent.mode_matches) consistent.nest
+step_moves (Done g) k a consistent =
     elim ((innermost k).either) [
       | inl none ↦ subst (λ (k : List Frame). Moves k (Fits (in_flow false k) (Done g) a) (step_at (Done g) (top_of k) (length k)) a) (sym none) (moves_root_done g a)
       | inr (j, (f, is)) ↦
-          let p = nested_pop false j f (sym (ap (nested false) is) ∙ fine.nest) in
+          let p = nested_pop false j f (sym (ap (nested false) is) ∙ consistent.nest) in
           subst (λ (k : List Frame). Moves k (Fits (in_flow false k) (Done g) a) (step_at (Done g) (top_of k) (length k)) a) (sym is)
           (at_top (Done g) j f (Fits (in_flow false (j ++ (f ∷ []))) (Done g) a) a (done_moves j f g a p.0 p.1))
     ]
-step_moves Stray k a fine = moves_err k _ (λ c. Form) a
-step_moves Last k a fine = moves_last k a fine.nest
-step_moves Ended k a fine = end_moves k (length k) (top_of k) a fine.nest
+step_moves Trailing k a consistent = moves_err k _ (λ c. Form) a
+step_moves Last k a consistent = moves_last k a consistent.nest
+step_moves Ended k a consistent = end_moves k (length k) (top_of k) a consistent.nest
 
-going : Go → Result Go Fault
+going : Transition → Result Transition Fault
 going g = Ok g
 
 -- whether a plain scalar would go on matters for faults alone
-last_fault : (b c : Bool) (x y : Result Go Fault) (e f : Fault) (g : Go) → cond b x (cond c y (Err e)) ≡ Ok g → cond b x (cond c y (Err f)) ≡ Ok g
+last_fault : (b c : Bool) (x y : Result Transition Fault) (e f : Fault) (g : Transition) → cond b x (cond c y (Err e)) ≡ Ok g → cond b x (cond c y (Err f)) ≡ Ok g
 unfolding going
 last_fault true c x y e f g h = h
 last_fault false true x y e f g h = h
 last_fault false false x y e f g h = absurd (none g h)
   where
-    none : (g : Go) → Err e ≡ going g → ⊥
+    none : (g : Transition) → Err e ≡ going g → ⊥
     none g h = absurd cc
 
-done_flag : (f : Option Frame) (d : ℕ) (a : At) (g h : Bool) (x : Go) → done_at d g f a ≡ Ok x → done_at d h f a ≡ Ok x
+done_flag : (f : Option Frame) (d : ℕ) (a : At) (g h : Bool) (x : Transition) → done_at d g f a ≡ Ok x → done_at d h f a ≡ Ok x
 unfolding done_at root_done list_done map_done seq_done pairs_done
 done_flag None d a g h x e = last_fault (is_end a) (at_dots a) _ _ _ _ x e
 done_flag (Some (InList col)) d a g h x e = last_fault (list_ends col a) (at_dash col a) _ _ _ _ x e
@@ -131,17 +131,17 @@ done_flag (Some (InMap col)) d a g h x e = last_fault (map_ends col a) (eqb a.co
 done_flag (Some (InSeq inner)) d a g h x e = last_fault (begins 44 (flow_next a).line) (begins 93 (flow_next a).line) _ _ _ _ x e
 done_flag (Some (InPairs inner)) d a g h x e = last_fault (begins 44 (flow_next a).line) (begins 125 (flow_next a).line) _ _ _ _ x e
 
-paired_flag : (d : ℕ) (q : Bool) (a : At) (g h : Bool) (x : Go) → paired_at d q g a ≡ Ok x → paired_at d q h a ≡ Ok x
-unfolding paired_at
-paired_flag d q a g h x e = last_fault (is_flow_colon q (flow_next a).line) (closes_value (flow_next a).line) _ _ _ _ x e
+after_key_flag : (d : ℕ) (q : Bool) (a : At) (g h : Bool) (x : Transition) → after_key_at d q g a ≡ Ok x → after_key_at d q h a ≡ Ok x
+unfolding after_key_at
+after_key_flag d q a g h x e = last_fault (is_flow_colon q (flow_next a).line) (closes_value (flow_next a).line) _ _ _ _ x e
 
-flagless : (m n : Mode) (f : Option Frame) (d : ℕ) (a : At) (x : Go) → SameMode m n → step_at m f d a ≡ Ok x → step_at n f d a ≡ Ok x
+flagless : (m n : Mode) (f : Option Frame) (d : ℕ) (a : At) (x : Transition) → SameMode m n → step_at m f d a ≡ Ok x → step_at n f d a ≡ Ok x
 unfolding step_at
 flagless m n f d a x same e =
     elim same [
       | inl is ↦ ap (λ (m : Mode). step_at m f d a) (sym is) ∙ e
       | inr (inl (g, (h, (old, new)))) ↦ ap (λ (m : Mode). step_at m f d a) new ∙ done_flag f d a g h x (sym (ap (λ (m : Mode). step_at m f d a) old) ∙ e)
-      | inr (inr (q, (g, (h, (old, new))))) ↦ ap (λ (m : Mode). step_at m f d a) new ∙ paired_flag d q a g h x (sym (ap (λ (m : Mode). step_at m f d a) old) ∙ e)
+      | inr (inr (q, (g, (h, (old, new))))) ↦ ap (λ (m : Mode). step_at m f d a) new ∙ after_key_flag d q a g h x (sym (ap (λ (m : Mode). step_at m f d a) old) ∙ e)
     ]
 
 abbrev pub FitsAt : State → At → Type 0
@@ -167,12 +167,12 @@ stopped s z d P e fits holds =
     })
 
 -- behind a step
-led : (s : State) (e : Event) (es : List Event) (z : State) (P : At → State → Type 0) (g : Go) → step_of s ≡ Ok g → e ≡ g.event → Fine s.mode s.frames s.at → Returns (behind s.frames g) es z P → Returns s (e ∷ es) z P
+led : (s : State) (e : Event) (es : List Event) (z : State) (P : At → State → Type 0) (g : Transition) → step_of s ≡ Ok g → e ≡ g.event → Consistent s.mode s.frames s.at → Returns (behind s.frames g) es z P → Returns s (e ∷ es) z P
 unfolding going
-led s e es z P g is event fine r =
-    let n = (step_moves s.mode s.frames s.at fine).move g is (other r.at r.fits) in
+led s e es z P g is event consistent r =
+    let n = (step_moves s.mode s.frames s.at consistent).move g is (other r.at r.fits) in
     let a = n.arrives in
-    let step : step_at s.mode (top_of s.frames) (length s.frames) n.at ≡ Ok (go g.event r.at a.mode g.change) = n.is ∙ ap (λ (x : At). going (go g.event x a.mode g.change)) a.comes.1 in
+    let step : step_at s.mode (top_of s.frames) (length s.frames) n.at ≡ Ok (transition g.event r.at a.mode g.change) = n.is ∙ ap (λ (x : At). going (transition g.event x a.mode g.change)) a.comes.1 in
     record {
       at = n.at;
       fits = n.like;
@@ -184,31 +184,31 @@ led s e es z P g is event fine r =
             (
               q.1.0,
               runs_of (state m s.frames n.at) (e ∷ es) q.0
-                  (go g.event r.at a.mode g.change, flagless s.mode m (top_of s.frames) (length s.frames) n.at (go g.event r.at a.mode g.change) same step, event, q.1.1),
+                  (transition g.event r.at a.mode g.change, flagless s.mode m (top_of s.frames) (length s.frames) n.at (transition g.event r.at a.mode g.change) same step, event, q.1.1),
             ),
           );
     }
 
-pub fine_run : (s : State) (es : List Event) (z : State) → Runs s es z → Fine s.mode s.frames s.at → Fine z.mode z.frames z.at
-fine_run s [] z runs fine = subst (λ (x : State). Fine x.mode x.frames x.at) runs fine
-fine_run s (e ∷ es) z runs fine =
+pub consistent_run : (s : State) (es : List Event) (z : State) → Runs s es z → Consistent s.mode s.frames s.at → Consistent z.mode z.frames z.at
+consistent_run s [] z runs consistent = subst (λ (x : State). Consistent x.mode x.frames x.at) runs consistent
+consistent_run s (e ∷ es) z runs consistent =
     let h = from_of s e es z runs in
-    fine_run (behind s.frames h.0) es z h.3 ((step_moves s.mode s.frames s.at fine).fine h.0 h.1)
+    consistent_run (behind s.frames h.0) es z h.3 ((step_moves s.mode s.frames s.at consistent).consistent h.0 h.1)
 
 -- to another place that fits
-pub returns : (s : State) (es : List Event) (z : State) (d : At) (P : At → State → Type 0) → Runs s es z → Fine s.mode s.frames s.at → FitsAt z d → ((m : Mode) → SameMode z.mode m → P d (state m z.frames d)) → Returns s es z P
-returns s [] z d P runs fine fits holds = stopped s z d P runs fits holds
-returns s (e ∷ es) z d P runs fine fits holds =
+pub returns : (s : State) (es : List Event) (z : State) (d : At) (P : At → State → Type 0) → Runs s es z → Consistent s.mode s.frames s.at → FitsAt z d → ((m : Mode) → SameMode z.mode m → P d (state m z.frames d)) → Returns s es z P
+returns s [] z d P runs consistent fits holds = stopped s z d P runs fits holds
+returns s (e ∷ es) z d P runs consistent fits holds =
     let h = from_of s e es z runs in
-    led s e es z P h.0 h.1 h.2 fine (returns (behind s.frames h.0) es z d P h.3 ((step_moves s.mode s.frames s.at fine).fine h.0 h.1) fits holds)
+    led s e es z P h.0 h.1 h.2 consistent (returns (behind s.frames h.0) es z d P h.3 ((step_moves s.mode s.frames s.at consistent).consistent h.0 h.1) fits holds)
 
 -- to an end that the last step chooses
-lasted : (s : State) (e : Event) (P : At → State → Type 0) (g : Go) (rest : List ℕ) → step_of s ≡ Ok g → e ≡ g.event → Fine s.mode s.frames s.at → tied s.frames g ≡ true
+lasted : (s : State) (e : Event) (P : At → State → Type 0) (g : Transition) (rest : List ℕ) → step_of s ≡ Ok g → e ≡ g.event → Consistent s.mode s.frames s.at → tied s.frames g ≡ true
     → ((there to : At) (n : Mode) → Lasts (in_flow false (changed g.change s.frames)) g.mode rest there to n → P there (state n (changed g.change s.frames) to)) → Returns s (e ∷ []) (behind s.frames g) P
-lasted s e P g rest is event fine tie holds =
-    let n = (step_moves s.mode s.frames s.at fine).move g is (last rest tie) in
+lasted s e P g rest is event consistent tie holds =
+    let n = (step_moves s.mode s.frames s.at consistent).move g is (last rest tie) in
     let a = n.arrives in
-    let end = go g.event a.to a.mode g.change in
+    let end = transition g.event a.to a.mode g.change in
     record {
       at = n.at;
       fits = n.like;
@@ -223,12 +223,12 @@ lasted s e P g rest is event fine tie holds =
       );
     }
 
-pub lasts : (s : State) (e : Event) (es : List Event) (z : State) (P : At → State → Type 0) (rest : List ℕ) → Runs s (e ∷ es) z → Fine s.mode s.frames s.at → is_tied z.mode (in_flow false z.frames) (begins_low z.at.line) ≡ true
+pub lasts : (s : State) (e : Event) (es : List Event) (z : State) (P : At → State → Type 0) (rest : List ℕ) → Runs s (e ∷ es) z → Consistent s.mode s.frames s.at → is_tied z.mode (in_flow false z.frames) (begins_low z.at.line) ≡ true
     → ((there to : At) (n : Mode) → Lasts (in_flow false z.frames) z.mode rest there to n → P there (state n z.frames to)) → Returns s (e ∷ es) z P
-lasts s e [] z P rest runs fine tie holds =
+lasts s e [] z P rest runs consistent tie holds =
     let h = from_of s e [] z runs in
     subst (λ (x : State). is_tied x.mode (in_flow false x.frames) (begins_low x.at.line) ≡ true → ((there to : At) (n : Mode) → Lasts (in_flow false x.frames) x.mode rest there to n → P there (state n x.frames to)) → Returns s (e ∷ []) x P) h.3
-    (lasted s e P h.0 rest h.1 h.2 fine) tie holds
-lasts s e (f ∷ es) z P rest runs fine tie holds =
+    (lasted s e P h.0 rest h.1 h.2 consistent) tie holds
+lasts s e (f ∷ es) z P rest runs consistent tie holds =
     let h = from_of s e (f ∷ es) z runs in
-    led s e (f ∷ es) z P h.0 h.1 h.2 fine (lasts (behind s.frames h.0) f es z P rest h.3 ((step_moves s.mode s.frames s.at fine).fine h.0 h.1) tie holds)
+    led s e (f ∷ es) z P h.0 h.1 h.2 consistent (lasts (behind s.frames h.0) f es z P rest h.3 ((step_moves s.mode s.frames s.at consistent).consistent h.0 h.1) tie holds)

@@ -10,21 +10,21 @@ use Rattle.yaml_small.specs.declared.state.Mode.TheVariants.{Item, Open, Done}
 use Rattle.yaml_small.specs.declared.state.Frame.{Frame}
 use Rattle.yaml_small.specs.declared.state.Frame.TheVariants.{InList, InMap, InSeq, InPairs}
 use Rattle.yaml_small.specs.Places.{At, past, over, next_at, begins, is_end, is_within, is_dash, at_dash, list_ends, map_ends}
-use Rattle.yaml_small.specs.Scalars.{Fault, NotCarried, is_word, is_key, begins_block}
-use Rattle.yaml_small.specs.Step.{Go, list_start, map_start, inline_at, node_at, below, tabbed, item_at, under, value_at, explicit_at, key_step, line_fault, block_end, list_done, map_done}
+use Rattle.yaml_small.specs.Scalars.{Fault, NotCarried, is_scalar_token, is_key, begins_block}
+use Rattle.yaml_small.specs.Step.{Transition, list_start, map_start, inline_at, node_at, below, tabbed, item_at, under, value_at, behind_tab, explicit_at, key_step, line_fault, block_end, list_done, map_done}
 use Rattle.yaml_small.specs.Stream.{changed}
 use Rattle.yaml_small.proofs.Grows.{the_end}
 use Rattle.yaml_small.proofs.Runs.{popped}
 use Rattle.yaml_small.proofs.Marks.{and_parts, and_false, or_true, or_parts, no_key, opener_no_dash, seq_opens, map_opens}
 use Rattle.yaml_completion.proofs.Along.{stays, ahead, further, is_solid, not_ended, solid_white}
 use Rattle.yaml_completion.proofs.Contents.{place}
-use Rattle.yaml_completion.proofs.Words.{word_place, key_place, key_ok, same_key}
+use Rattle.yaml_completion.proofs.ScalarTokens.{scalar_token_place, key_place, key_ok, same_key}
 use Rattle.yaml_completion.proofs.Scans.{begins_low, same_begins}
 use Rattle.yaml_completion.proofs.Blocks.{Alike, Next, ready}
 use Rattle.yaml_completion.proofs.Frames.{in_flow, nested, flow_push, nested_push}
 use Rattle.yaml_completion.proofs.Moves.{Gap, Keyed, Moves, moves_err, moves_if, moves_map, moves_ok}
-use Rattle.yaml_completion.proofs.Leaves.{head_byte, same_mode, done_out, untied, moves_word, moves_block, moves_missing, moves_opens, moves_map_opens, moves_key}
-use Rattle.yaml_completion.proofs.Wraps.{moves_next, moves_over, gap_over, same_white, alike_seq, alike_map, alike_dash, dash_gap, alike_words, alike_line}
+use Rattle.yaml_completion.proofs.Leaves.{head_byte, same_mode, done_out, untied, moves_scalar_token, moves_block, moves_missing, moves_opens, moves_map_opens, moves_key}
+use Rattle.yaml_completion.proofs.Wraps.{moves_next, moves_over, gap_over, same_white, alike_seq, alike_map, alike_dash, dash_gap, alike_scalar_tokens, alike_line}
 
 -- what stands at a block scalar's head
 head_solid : (line : List ℕ) → begins_block line ≡ true → is_solid line ≡ true
@@ -56,9 +56,9 @@ inline_block k depth parent P a flow nest seq map line =
     moves_block k parent (λ c. ((P c × (begins 91 c.line ≡ false)) × (begins 123 c.line ≡ false)) × (begins_block c.line ≡ true)) a flow nest
     (λ c same col. (((line c (alike_line a c (head_solid a.line is) same col) (same_key a c same col), ap (begins 91) same ∙ no_seq), ap (begins 123) same ∙ no_map), ap begins_block same ∙ is)))
     (λ no_block.
-    moves_word false k (λ c. ((P c × (begins 91 c.line ≡ false)) × (begins 123 c.line ≡ false)) × (begins_block c.line ≡ false)) a flow nest
+    moves_scalar_token false k (λ c. ((P c × (begins 91 c.line ≡ false)) × (begins 123 c.line ≡ false)) × (begins_block c.line ≡ false)) a flow nest
     (λ w v c is too col first same.
-    let alike = alike_words a c (word_place false a w is) (word_place false c v too) col in
+    let alike = alike_scalar_tokens a c (scalar_token_place false a w is) (scalar_token_place false c v too) col in
     (((line c alike (same refl), same_begins 91 c.line a.line first ∙ no_seq), same_begins 123 c.line a.line first ∙ no_map), rw (same_begins 124 c.line a.line first, same_begins 62 c.line a.line first) no_block)))))
 
 dash_begins : (line : List ℕ) → is_dash line ≡ true → begins 45 line ≡ true
@@ -87,7 +87,7 @@ moves_node k depth parent a flow nest =
     let old = key_ok a key in
     let new = key_ok d keyed.key in
     let there = key_place d new.0 new.1 in
-    ((alike_words a d (key_place a old.0 old.1) there keyed.col, there.dash), keyed.key)))
+    ((alike_scalar_tokens a d (key_place a old.0 old.1) there keyed.col, there.dash), keyed.key)))
     (λ none.
     inline_block k depth parent (λ c. (Alike a c × (is_dash c.line ≡ false)) × (is_key c ≡ false)) a flow nest
     (λ c p q col. ((alike_seq a c p q col, opener_no_dash 91 c.line seq_opens q), no_key 91 c seq_opens q))
@@ -146,7 +146,7 @@ moves_alike_inline k depth parent a flow nest good =
 
 -- behind a mark, with a node on its line or below
 behind_line : (a c : At) → c.line ≡ a.line → c.col ≡ a.col → Gap a c
-behind_line a c line col = record { col = col; gap = λ gap. ap is_gap line ∙ gap }
+behind_line a c line col = record { col = col; gap = λ gap. ap is_gap line ∙ gap; mark = λ gap. ap is_break line ∙ gap }
 
 pub moves_item : (k : List Frame) (depth col : ℕ) (a : At) → in_flow false k ≡ false → nested false k ≡ true → Moves k (Gap a) (item_at depth col) a
 unfolding item_at tabbed
@@ -184,20 +184,25 @@ moves_explicit k depth a flow nest =
     moves_if k (Gap a) (λ c. ends c.line) _ _ a
     (λ is. moves_next k (Next (next_at a.later)) (λ c. Gap a c × (ends c.line ≡ true)) (below depth None) a (moves_below k depth None (next_at a.later) flow nest) (ready (next_at a.later))
     (λ c line col. (behind_line a c line col, ap ends line ∙ is)))
-    (λ more. moves_over k (Alike (over a)) (λ c. Gap a c × (ends c.line ≡ false)) (inline_at false depth None) a (moves_inline k depth None (over a) flow nest) (λ c alike. alike.instead)
-    (λ s c alike. (gap_over a s c more, not_ended s.front c.line s.all alike.instead.other)))
+    (λ more.
+    moves_if k (λ c. Gap a c × (ends c.line ≡ false)) (λ c. eqb (spaces c.line) (whites c.line)) _ _ a
+    (λ is. moves_over k (Alike (over a)) (λ c. (Gap a c × (ends c.line ≡ false)) × (eqb (spaces c.line) (whites c.line) ≡ true)) (inline_at false depth None) a (moves_inline k depth None (over a) flow nest) (λ c alike. alike.instead)
+    (λ s c alike.
+    let solid = alike.instead.other in
+    ((gap_over a s c more, not_ended s.front c.line s.all solid), same_white a s c.line (solid_white c.line solid) ∙ is)))
+    (λ is. moves_err k _ behind_tab a))
 
 pub moves_key_step : (k : List Frame) (a : At) → in_flow false k ≡ false → nested false k ≡ true → Moves k (Alike a) key_step a
 unfolding key_step
-moves_key_step k a flow nest = moves_key k (Alike a) a flow nest (λ w v c is too col first. alike_words a c (key_place a w is) (key_place c v too) col)
+moves_key_step k a flow nest = moves_key k (Alike a) a flow nest (λ w v c is too col first. alike_scalar_tokens a c (key_place a w is) (key_place c v too) col)
 
 -- the same for the key itself, which is one
 pub moves_keyed : (k : List Frame) (a : At) → in_flow false k ≡ false → nested false k ≡ true → Moves k (Keyed a) key_step a
 unfolding key_step
-moves_keyed k a flow nest = moves_key k (Keyed a) a flow nest (λ w v c is too col first. record { col = col; key = ap is_word too })
+moves_keyed k a flow nest = moves_key k (Keyed a) a flow nest (λ w v c is too col first. record { col = col; key = ap is_scalar_token too })
 
 -- behind a dash or a bracket
-pub moves_past : (x : ℕ) (k : List Frame) (P Q : At → Type 0) (r : At → Result Go Fault) (a : At) → begins x a.line ≡ true → Moves k P r (past 1 a) → ((c : At) → P c → (c.col ≡ a.col + 1) × Q (place a.col (x ∷ c.line) c.later)) → Moves k Q (λ c. r (past 1 c)) a
+pub moves_past : (x : ℕ) (k : List Frame) (P Q : At → Type 0) (r : At → Result Transition Fault) (a : At) → begins x a.line ≡ true → Moves k P r (past 1 a) → ((c : At) → P c → (c.col ≡ a.col + 1) × Q (place a.col (x ∷ c.line) c.later)) → Moves k Q (λ c. r (past 1 c)) a
 moves_past x k P Q r a here m like = record {
   move = λ g e want.
       let n = m.move g e want in
@@ -210,7 +215,7 @@ moves_past x k P Q r a here m like = record {
         arrives = n.arrives;
         is = ap (λ (m : ℕ). r (place m n.at.line n.at.later)) (sym h.0) ∙ n.is;
       };
-  fine = m.fine;
+  consistent = m.consistent;
 }
 
 -- the end of a block list or map
@@ -224,7 +229,7 @@ moves_block_ends e k f P a nest flow like = moves_ok (k ++ (f ∷ [])) P (λ c. 
       same = same_mode (Done false);
       is = refl;
     })
-    (λ rest tie. untied (in_flow false (changed (block_end e a).change (k ++ (f ∷ [])))) (begins_low a.line) (ap (in_flow false) (popped k f) ∙ flow) tie) (record { nest = ap (nested false) (popped k f) ∙ nest; suits = tt })
+    (λ rest tie. untied (in_flow false (changed (block_end e a).change (k ++ (f ∷ [])))) (begins_low a.line) (ap (in_flow false) (popped k f) ∙ flow) tie) (record { nest = ap (nested false) (popped k f) ∙ nest; mode_matches = tt })
 
 list_ends_same : (col : ℕ) (a c : At) → Alike a c → list_ends col c ≡ list_ends col a
 list_ends_same col a c alike = rw (alike.instead.col, alike.dash) refl
@@ -240,14 +245,14 @@ moves_list_done k depth col g a flow nest =
     let whole = nested_push false k (InList col) nest (rw flow refl) in
     moves_if j (Next a) (list_ends col) _ _ a
     (λ is. moves_block_ends SequenceEnd k (InList col) (λ c. Next a c × (list_ends col c ≡ true)) a nest flow (λ d next. (next, at_next (list_ends col) a d true next (list_ends_end col) (list_ends_same col a d) is)))
-    (λ goes. moves_if j (λ c. Next a c × (list_ends col c ≡ false)) (at_dash col) _ _ a
+    (λ continues. moves_if j (λ c. Next a c × (list_ends col c ≡ false)) (at_dash col) _ _ a
     (λ dash.
     let here = (and_parts (eqb a.col col) (is_dash a.line) dash).1 in
     moves_past 45 j (Gap (past 1 a)) (λ c. (Next a c × (list_ends col c ≡ false)) × (at_dash col c ≡ true)) (item_at depth col) a (dash_begins a.line here) (moves_item j depth col (past 1 a) out whole)
     (λ c gap.
     let alike = alike_dash a c.line c.later here (gap.gap (dash_gap a.line here)) in
     let d = place a.col (45 ∷ c.line) c.later in
-    (gap.col, ((next_alike a d alike, list_ends_same col a d alike ∙ goes), dash_same col a d alike ∙ dash))))
+    (gap.col, ((next_alike a d alike, list_ends_same col a d alike ∙ continues), dash_same col a d alike ∙ dash))))
     (λ none. moves_err j _ (line_fault g) a))
 
 map_ends_same : (col : ℕ) (a c : At) → Alike a c → map_ends col c ≡ map_ends col a
@@ -261,7 +266,7 @@ moves_map_done k col g a flow nest =
     let whole = nested_push false k (InMap col) nest (rw flow refl) in
     moves_if j (Next a) (map_ends col) _ _ a
     (λ is. moves_block_ends MappingEnd k (InMap col) (λ c. Next a c × (map_ends col c ≡ true)) a nest flow (λ d next. (next, at_next (map_ends col) a d true next (or_true (ltb 0 col)) (map_ends_same col a d) is)))
-    (λ goes. moves_if j (λ c. Next a c × (map_ends col c ≡ false)) (λ c. eqb c.col col) _ _ a
+    (λ continues. moves_if j (λ c. Next a c × (map_ends col c ≡ false)) (λ c. eqb c.col col) _ _ a
     (λ here. moves_map j (Alike a) (λ c. (Next a c × (map_ends col c ≡ false)) × (eqb c.col col ≡ true)) key_step a
-    (λ c alike. ((next_alike a c alike, map_ends_same col a c alike ∙ goes), ap (λ (n : ℕ). eqb n col) alike.instead.col ∙ here)) (moves_key_step j a out whole))
+    (λ c alike. ((next_alike a c alike, map_ends_same col a c alike ∙ continues), ap (λ (n : ℕ). eqb n col) alike.instead.col ∙ here)) (moves_key_step j a out whole))
     (λ none. moves_err j _ (line_fault g) a))

@@ -6,12 +6,12 @@ use Rattle.yaml_scan.specs.Bytes.{is_space, is_white, is_clean, spaces, whites}
 use Rattle.yaml_scan.specs.Lines.{is_over, is_passed, is_white_line, is_dashes, is_dots, ends}
 use Rattle.yaml_scan.specs.Block.{is_document_mark, is_deeper, indent_of, is_inside, block_lines, behind_block, content, all_clean, between, is_joined, together, with_end, block_text}
 use Rattle.yaml_small.specs.Places.{At, next_at, begins, at_dashes, at_dots, is_dash}
-use Rattle.yaml_small.specs.Scalars.{Form, NotCarried, Word, word, folded_style, gathered, headed, is_indicator, block_at}
+use Rattle.yaml_small.specs.Scalars.{Form, NotCarried, ScalarToken, scalar_token, folded_style, gathered, headed, is_indicator, block_at}
 use Rattle.yaml_small.proofs.Grows.{the_end}
 use Rattle.yaml_small.proofs.Marks.{and_parts, or_parts, or_true, both}
 use Rattle.yaml_completion.proofs.Along.{if_true, if_false, joined, Along, Before, all_of, stops, counted, is_solid, solid_white, white_space, space_white}
 use Rattle.yaml_completion.proofs.Contents.{Instead, Ready, Reads, place, next_reads, next_end, next_passed, passed_on, last_passed, not_end}
-use Rattle.yaml_completion.proofs.Words.{read_word, word_is}
+use Rattle.yaml_completion.proofs.ScalarTokens.{read_scalar_token, scalar_token_is}
 
 -- other content at the same column, which is a dash or a mark where the first one is
 pub record Alike (a d : At) : Type 0 where
@@ -130,11 +130,11 @@ record BlockReads (parent : Option ℕ) (indent : ℕ) (line : List ℕ) (lines 
   empty : (extra ≡ []) ⊎ ((v : List ℕ) × ((extra ≡ v ∷ []) × (content indent v ≡ []) × (is_clean v ≡ true)))
   indented : indent_of parent (line ∷ lines) ≡ Some indent → indent_of parent reads.others ≡ Some indent
 
-goes_in : (indent : ℕ) (l : List ℕ) (ls : List (List ℕ)) → is_inside indent l ≡ true → block_lines indent (l ∷ ls) ≡ l ∷ block_lines indent ls
-goes_in indent l ls e = ap (λ (b : Bool). cond b (l ∷ block_lines indent ls) []) e
+continues_in : (indent : ℕ) (l : List ℕ) (ls : List (List ℕ)) → is_inside indent l ≡ true → block_lines indent (l ∷ ls) ≡ l ∷ block_lines indent ls
+continues_in indent l ls e = ap (λ (b : Bool). cond b (l ∷ block_lines indent ls) []) e
 
-goes_past : (indent : ℕ) (l : List ℕ) (ls : List (List ℕ)) → is_inside indent l ≡ true → behind_block indent (l ∷ ls) ≡ behind_block indent ls
-goes_past indent l ls e = ap (λ (b : Bool). cond b (behind_block indent ls) (l ∷ ls)) e
+continues_past : (indent : ℕ) (l : List ℕ) (ls : List (List ℕ)) → is_inside indent l ≡ true → behind_block indent (l ∷ ls) ≡ behind_block indent ls
+continues_past indent l ls e = ap (λ (b : Bool). cond b (behind_block indent ls) (l ∷ ls)) e
 
 stays_out : (indent : ℕ) (l : List ℕ) (ls : List (List ℕ)) → is_inside indent l ≡ false → block_lines indent (l ∷ ls) ≡ []
 stays_out indent l ls e = ap (λ (b : Bool). cond b (l ∷ block_lines indent ls) []) e
@@ -193,9 +193,9 @@ outside parent indent l ls d out next =
             let is : n.reads.others ≡ v ∷ [] = is ∙ ap (λ (x : At). (v ++ x.line) ∷ x.later) end ∙ ap (λ (x : List ℕ). x ∷ []) (append-nil v) in
             let white : is_inside indent v ≡ true = ap (λ (b : Bool). b || (leb indent (spaces v) && not (is_document_mark v))) (white_all v all) in
             record {
-              reads = record { others = n.reads.others; to = ap (behind_at indent) is ∙ ap next_at (goes_past indent v [] white) ∙ next_end ∙ sym end; same = same };
+              reads = record { others = n.reads.others; to = ap (behind_at indent) is ∙ ap next_at (continues_past indent v [] white) ∙ next_end ∙ sym end; same = same };
               extra = v ∷ [];
-              lines_are = ap (block_lines indent) is ∙ goes_in indent v [] white ∙ ap (λ (x : List (List ℕ)). x ++ (v ∷ [])) (sym (stays_out indent l ls out));
+              lines_are = ap (block_lines indent) is ∙ continues_in indent v [] white ∙ ap (λ (x : List (List ℕ)). x ++ (v ∷ [])) (sym (stays_out indent l ls out));
               empty = inr (v, (refl, spaces_empty indent v r all stop (sym (ap (is_inside indent) line) ∙ out), clean_spaces v all));
               indented = λ e. absurd (not_given parent indent l ls out e);
             }
@@ -225,7 +225,7 @@ unfolding last_passed passed_on
 block_reads parent indent l [] d next =
     elim (cases_Bool (is_inside indent l)) [
       | inl here ↦
-          let end : behind_at indent (l ∷ []) ≡ the_end = ap next_at (goes_past indent l [] here) ∙ next_end in
+          let end : behind_at indent (l ∷ []) ≡ the_end = ap next_at (continues_past indent l [] here) ∙ next_end in
           elim (next.either) [
             | inl is ↦ subst (λ (x : At). BlockReads parent indent l [] x) (sym is)
                 (record { reads = last_passed (behind_at indent) l end; extra = []; lines_are = sym (append-nil (block_lines indent (l ∷ []))); empty = inl refl; indented = λ e. e })
@@ -236,12 +236,12 @@ block_reads parent indent l [] d next =
 block_reads parent indent l (m ∷ ms) d next =
     elim (cases_Bool (is_inside indent l)) [
       | inl here ↦
-          let passed : (x : List (List ℕ)) → behind_at indent (l ∷ x) ≡ behind_at indent x = λ x. ap next_at (goes_past indent l x here) in
+          let passed : (x : List (List ℕ)) → behind_at indent (l ∷ x) ≡ behind_at indent x = λ x. ap next_at (continues_past indent l x here) in
           let r = block_reads parent indent m ms d (subst (λ (x : At). Next x d) (passed (m ∷ ms)) next) in
           record {
             reads = passed_on (behind_at indent) l (m ∷ ms) d passed r.reads;
             extra = r.extra;
-            lines_are = goes_in indent l r.reads.others here ∙ ap (λ (x : List (List ℕ)). l ∷ x) r.lines_are ∙ ap (λ (x : List (List ℕ)). x ++ r.extra) (sym (goes_in indent l (m ∷ ms) here));
+            lines_are = continues_in indent l r.reads.others here ∙ ap (λ (x : List (List ℕ)). l ∷ x) r.lines_are ∙ ap (λ (x : List (List ℕ)). x ++ r.extra) (sym (continues_in indent l (m ∷ ms) here));
             empty = r.empty;
             indented = λ e. elim (cases_Bool (is_white_line l)) [
               | inl white ↦ skips parent l r.reads.others white ∙ r.indented (sym (skips parent l (m ∷ ms) white) ∙ e)
@@ -296,28 +296,28 @@ same_clean indent xs ys empty =
     and_true false = refl
 
 -- A block's lines can have other content behind them.
-record Gathers (folded strip : Bool) (parent : Option ℕ) (lines : List (List ℕ)) (w : Word) (d : At) : Type 0 where
+record Gathers (folded strip : Bool) (parent : Option ℕ) (lines : List (List ℕ)) (w : ScalarToken) (d : At) : Type 0 where
   others : List (List ℕ)
   is : gathered folded strip (indent_of parent others) others ≡ Ok (record { scalar = w.scalar; end = d })
   same : Before lines others w.end d
 
-gathers : (folded strip : Bool) (parent : Option ℕ) (l : List ℕ) (ls : List (List ℕ)) (w : Word) (d : At) (o : Option ℕ) → indent_of parent (l ∷ ls) ≡ o → gathered folded strip o (l ∷ ls) ≡ Ok w → Next w.end d
+gathers : (folded strip : Bool) (parent : Option ℕ) (l : List ℕ) (ls : List (List ℕ)) (w : ScalarToken) (d : At) (o : Option ℕ) → indent_of parent (l ∷ ls) ≡ o → gathered folded strip o (l ∷ ls) ≡ Ok w → Next w.end d
     → Gathers folded strip parent (l ∷ ls) w d
-unfolding read_word
+unfolding read_scalar_token
 gathers folded strip parent l ls w d None none e next =
-    let is : word [] (folded_style folded) (next_at (l ∷ ls)) ≡ w = word_is _ w e in
-    let end : w.end ≡ next_at (l ∷ ls) = sym (ap (λ (x : Word). x.end) is) in
+    let is : scalar_token [] (folded_style folded) (next_at (l ∷ ls)) ≡ w = scalar_token_is _ w e in
+    let end : w.end ≡ next_at (l ∷ ls) = sym (ap (λ (x : ScalarToken). x.end) is) in
     let r = none_reads parent l ls d none (subst (λ (x : At). Next x d) end next) in
     record {
       others = r.reads.others;
       is =
-          ap (λ (o : Option ℕ). gathered folded strip o r.reads.others) r.none ∙ ap (λ (x : At). Ok (word [] (folded_style folded) x)) r.reads.to
-          ∙ ap (λ (x : Word). Ok (record { scalar = x.scalar; end = d })) is;
+          ap (λ (o : Option ℕ). gathered folded strip o r.reads.others) r.none ∙ ap (λ (x : At). Ok (scalar_token [] (folded_style folded) x)) r.reads.to
+          ∙ ap (λ (x : ScalarToken). Ok (record { scalar = x.scalar; end = d })) is;
       same = subst (λ (x : At). Before (l ∷ ls) r.reads.others x d) (sym end) r.reads.same;
     }
 gathers folded strip parent l ls w d (Some indent) some e next =
-    let h = there (all_clean (block_lines indent (l ∷ ls))) (word (block_text folded strip indent (l ∷ ls)) (folded_style folded) (behind_at indent (l ∷ ls))) e in
-    let end : w.end ≡ behind_at indent (l ∷ ls) = sym (ap (λ (x : Word). x.end) h.1) in
+    let h = there (all_clean (block_lines indent (l ∷ ls))) (scalar_token (block_text folded strip indent (l ∷ ls)) (folded_style folded) (behind_at indent (l ∷ ls))) e in
+    let end : w.end ≡ behind_at indent (l ∷ ls) = sym (ap (λ (x : ScalarToken). x.end) h.1) in
     let r = block_reads parent indent l ls d (subst (λ (x : At). Next x d) end next) in
     let text : block_text folded strip indent r.reads.others ≡ block_text folded strip indent (l ∷ ls) =
     ap (text_from folded strip indent) r.lines_are ∙ same_text folded strip indent (block_lines indent (l ∷ ls)) r.extra r.empty in
@@ -326,31 +326,31 @@ gathers folded strip parent l ls w d (Some indent) some e next =
       others = r.reads.others;
       is =
           ap (λ (o : Option ℕ). gathered folded strip o r.reads.others) (r.indented some)
-          ∙ ap (λ (b : Bool). cond b (Ok (word (block_text folded strip indent r.reads.others) (folded_style folded) (behind_at indent r.reads.others))) (Err Form)) clean
-          ∙ ap (λ (t : List ℕ). Ok (word t (folded_style folded) (behind_at indent r.reads.others))) text
-          ∙ ap (λ (x : At). Ok (word (block_text folded strip indent (l ∷ ls)) (folded_style folded) x)) r.reads.to
-          ∙ ap (λ (x : Word). Ok (record { scalar = x.scalar; end = d })) h.1;
+          ∙ ap (λ (b : Bool). cond b (Ok (scalar_token (block_text folded strip indent r.reads.others) (folded_style folded) (behind_at indent r.reads.others))) (Err Form)) clean
+          ∙ ap (λ (t : List ℕ). Ok (scalar_token t (folded_style folded) (behind_at indent r.reads.others))) text
+          ∙ ap (λ (x : At). Ok (scalar_token (block_text folded strip indent (l ∷ ls)) (folded_style folded) x)) r.reads.to
+          ∙ ap (λ (x : ScalarToken). Ok (record { scalar = x.scalar; end = d })) h.1;
       same = subst (λ (x : At). Before (l ∷ ls) r.reads.others x d) (sym end) r.reads.same;
     }
   where
-    there : (b : Bool) (x : Word) → cond b (read_word x) (Err Form) ≡ read_word w → (b ≡ true) × (x ≡ w)
-    there true x h = (refl, word_is x w h)
+    there : (b : Bool) (x : ScalarToken) → cond b (read_scalar_token x) (Err Form) ≡ read_scalar_token w → (b ≡ true) × (x ≡ w)
+    there true x h = (refl, scalar_token_is x w h)
     there false x h = absurd cc
 
 -- behind a line, which stays
-record Under (folded strip : Bool) (parent : Option ℕ) (a : At) (w : Word) (d : At) : Type 0 where
+record Under (folded strip : Bool) (parent : Option ℕ) (a : At) (w : ScalarToken) (d : At) : Type 0 where
   others : List (List ℕ)
   is : gathered folded strip (indent_of parent others) others ≡ Ok (record { scalar = w.scalar; end = d })
   along : Along a w.end (place a.col a.line others) d
 
-gathers_under : (folded strip : Bool) (parent : Option ℕ) (a : At) (w : Word) (d : At) → gathered folded strip (indent_of parent a.later) a.later ≡ Ok w → Next w.end d → Under folded strip parent a w d
-unfolding read_word
+gathers_under : (folded strip : Bool) (parent : Option ℕ) (a : At) (w : ScalarToken) (d : At) → gathered folded strip (indent_of parent a.later) a.later ≡ Ok w → Next w.end d → Under folded strip parent a w d
+unfolding read_scalar_token
 gathers_under folded strip parent a w d e next = from a.later refl e
   where
     from : (ls : List (List ℕ)) → a.later ≡ ls → gathered folded strip (indent_of parent ls) ls ≡ Ok w → Under folded strip parent a w d
     from [] later e =
-        let is : word [] (folded_style folded) (next_at []) ≡ w = word_is _ w e in
-        let end : w.end ≡ the_end = sym (ap (λ (x : Word). x.end) is) ∙ next_end in
+        let is : scalar_token [] (folded_style folded) (next_at []) ≡ w = scalar_token_is _ w e in
+        let end : w.end ≡ the_end = sym (ap (λ (x : ScalarToken). x.end) is) ∙ next_end in
         elim (next.either) [
           | inl d_end ↦ record {
             others = [];
@@ -378,12 +378,12 @@ gathers_under folded strip parent a w d e next = from a.later refl e
         }
 
 -- A block scalar can have other content behind it.
-pub record BlockAt (parent : Option ℕ) (a : At) (w : Word) (d : At) : Type 0 where
+pub record BlockAt (parent : Option ℕ) (a : At) (w : ScalarToken) (d : At) : Type 0 where
   pub others : List (List ℕ)
   pub is : block_at parent (place a.col a.line others) ≡ Ok (record { scalar = w.scalar; end = d })
   pub along : Along a w.end (place a.col a.line others) d
 
-headed_at : (folded strip : Bool) (parent : Option ℕ) (line : List ℕ) (a : At) (w : Word) (d : At) → headed folded strip parent line a.later ≡ Ok w → Next w.end d
+headed_at : (folded strip : Bool) (parent : Option ℕ) (line : List ℕ) (a : At) (w : ScalarToken) (d : At) → headed folded strip parent line a.later ≡ Ok w → Next w.end d
     → (others : List (List ℕ)) × (headed folded strip parent line others ≡ Ok (record { scalar = w.scalar; end = d })) × Along a w.end (place a.col a.line others) d
 headed_at folded strip parent line a w d e next = from (ends line) e
   where
@@ -392,7 +392,7 @@ headed_at folded strip parent line a w d e next = from (ends line) e
     from true e = let u = gathers_under folded strip parent a w d e next in (u.others, u.is, u.along)
     from false e = absurd cc
 
-pub block_moves : (parent : Option ℕ) (a : At) (w : Word) (d : At) → block_at parent a ≡ Ok w → Next w.end d → BlockAt parent a w d
+pub block_moves : (parent : Option ℕ) (a : At) (w : ScalarToken) (d : At) → block_at parent a ≡ Ok w → Next w.end d → BlockAt parent a w d
 unfolding block_at
 block_moves parent a w d e next =
     elim (cases_Bool (begins 45 (drop 1 a.line))) [

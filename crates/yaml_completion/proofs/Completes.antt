@@ -1,4 +1,4 @@
--- What was told so far can be completed.
+-- What was emitted so far can be completed.
 use Rattle.std.proofs.Common.{◌≡◌, ℕ, List, [], ◌∷◌, ◌++◌, drop, Bool, true, false, not, ◌&&◌, ◌||◌, eqb, nat_eq, refl, sym, ap, ◌∙◌, subst, inl, inr}
 use Rattle.std.specs.List.{starts_with}
 use Rattle.std.proofs.lemmas.Bool.{cases_Bool}
@@ -17,9 +17,9 @@ use Rattle.yaml_completion.specs.Completion.{Completed}
 use Rattle.yaml_completion.proofs.Along.{if_true, if_false, joined, Along, onward}
 use Rattle.yaml_completion.proofs.Contents.{Ready, next_reads}
 use Rattle.yaml_completion.proofs.Scans.{begins_low, is_low, low, three}
-use Rattle.yaml_completion.proofs.Moves.{Fine, is_tied}
+use Rattle.yaml_completion.proofs.Moves.{Consistent, is_tied}
 use Rattle.yaml_completion.proofs.Frames.{in_flow}
-use Rattle.yaml_completion.proofs.Backward.{fine_run, Returns, returns, lasts}
+use Rattle.yaml_completion.proofs.Backward.{consistent_run, Returns, returns, lasts}
 use Rattle.yaml_completion.proofs.Endings.{Ending, closers}
 use Rattle.yaml_completion.proofs.Completions.{ending, Finish, finish, last_finish}
 use Rattle.yaml_completion.proofs.Texts.{no_feeds, text_of, text_start, lines_again, lines_feedless, tidy_place}
@@ -86,14 +86,14 @@ low_text [] (m ∷ lines) is = refl
 low_text (c ∷ line) [] is = is
 low_text (c ∷ line) (m ∷ lines) is = is
 
--- a document that begins so, which is told to the stream's end
+-- a document that begins so, which is emitted to the stream's end
 document_of : (text : List ℕ) (es : List Event) (s : State) (rest other front : List ℕ) (at : At) (q : State) → text ≡ front ++ rest → lines_of rest ≡ s.at.line ∷ s.at.later → first_at (front ++ other) ≡ at
     → Runs (state Begin [] at) es q → Ending q → Completed text es s.at
 document_of text es s rest other front at q text_is rest_is first runs end =
     let document = front ++ other in
     let begins : state Begin [] at ≡ start document = ap (λ (x : At). state Begin [] x) (sym first) in
-    let told = runs_on (start document) es q end.events end.last (subst (λ (x : State). Runs x es q) begins runs) end.runs in
-    let f = found document (es ++ end.events) (end.last, told, end.ended) in
+    let emitted = runs_on (start document) es q end.events end.last (subst (λ (x : State). Runs x es q) begins runs) end.runs in
+    let f = found document (es ++ end.events) (end.last, emitted, end.ended) in
     record {
       front = front;
       rest = rest;
@@ -104,7 +104,7 @@ document_of text es s rest other front at q text_is rest_is first runs end =
       carried = f.carried;
       more = end.events;
       count = f.count;
-      told = sym f.is;
+      emitted = sym f.is;
     }
 
 completed_lines : (text : List ℕ) (es : List Event) (s : State) (l : List ℕ) (ls : List (List ℕ)) → lines_of (without_mark text) ≡ l ∷ ls → Returns (start text) es s (Finish s.at) → Completed text es s.at
@@ -129,14 +129,14 @@ completed_by text es s r = from (lines_of (without_mark text)) refl (lines_of-op
     from [] is some = absurd cc
     from (l ∷ ls) is some = completed_lines text es s l ls is r
 
-fine_start : (text : List ℕ) → Fine Begin [] (first_at text)
-fine_start text = record { nest = refl; suits = refl }
+consistent_start : (text : List ℕ) → Consistent Begin [] (first_at text)
+consistent_start text = record { nest = refl; mode_matches = refl }
 
 -- where what may stand there does not hang on what was read before
 free_completed : (text : List ℕ) (es : List Event) (s : State) → Runs (start text) es s → is_tied s.mode (in_flow false s.frames) (begins_low s.at.line) ≡ false → Completed text es s.at
 free_completed text es s runs free =
-    let e = ending s.mode s.frames s.at free (fine_run (start text) es s runs (fine_start text)) in
-    completed_by text es s (returns (start text) es s e.at (Finish s.at) runs (fine_start text) e.fits (λ m same. finish s.mode m s.frames s.at e same))
+    let e = ending s.mode s.frames s.at free (consistent_run (start text) es s runs (consistent_start text)) in
+    completed_by text es s (returns (start text) es s e.at (Finish s.at) runs (consistent_start text) e.fits (λ m same. finish s.mode m s.frames s.at e same))
 
 -- and where it does
 tied_completed : (text : List ℕ) (es : List Event) (s : State) → Runs (start text) es s → is_tied s.mode (in_flow false s.frames) (begins_low s.at.line) ≡ true → Completed text es s.at
@@ -145,9 +145,9 @@ tied_completed text [] s runs tie = absurd (no_start (subst (λ (x : State). is_
     no_start : false ≡ true → ⊥
     no_start e = absurd cc
 tied_completed text (e ∷ es) s runs tie =
-    let fine = fine_run (start text) (e ∷ es) s runs (fine_start text) in
+    let consistent = consistent_run (start text) (e ∷ es) s runs (consistent_start text) in
     completed_by text (e ∷ es) s
-    (lasts (start text) e es s (Finish s.at) (closers s.frames) runs (fine_start text) tie (λ there to n comes. last_finish s.mode n s.frames s.at there to (in_flow false s.frames) refl tie fine comes))
+    (lasts (start text) e es s (Finish s.at) (closers s.frames) runs (consistent_start text) tie (λ there to n comes. last_finish s.mode n s.frames s.at there to (in_flow false s.frames) refl tie consistent comes))
 
 pub completed : (text : List ℕ) (es : List Event) (s : State) → Runs (start text) es s → Completed text es s.at
 completed text es s runs =

@@ -1,15 +1,14 @@
 -- Steps before and behind a document's node, to a place where something else stands.
-use Rattle.std.proofs.Common.{◌≡◌, ℕ, List, [], ◌∷◌, drop, Bool, true, false, cond, eqb, Ok, nat_eq, refl, sym, ap, ◌∙◌, inl, inr}
+use Rattle.std.proofs.Common.{◌≡◌, ℕ, List, [], ◌∷◌, drop, Bool, true, false, ◌||◌, cond, eqb, Ok, nat_eq, refl, sym, ap, ◌∙◌, inl, inr}
 use Rattle.std.specs.List.{starts_with}
 use Rattle.std.proofs.lemmas.Bool.{eqb-true}
-use Rattle.yaml_scan.specs.Bytes.{is_gap}
-use Rattle.yaml_scan.specs.Lines.{ends, is_dashes, is_dots}
+use Rattle.yaml_scan.specs.Lines.{ends, is_break, is_comment_line, is_dashes, is_dots}
 use Rattle.yaml_small.specs.declared.event.Event.TheVariants.{StreamEnd, DocumentStart, DocumentEnd}
 use Rattle.yaml_small.specs.declared.state.Mode.TheVariants.{Root, Last, Ended}
 use Rattle.yaml_small.specs.declared.state.Frame.{Frame}
 use Rattle.yaml_small.specs.Places.{At, past, next_at, begins, is_end, at_dashes, at_dots}
 use Rattle.yaml_small.specs.Scalars.{Form, NotCarried}
-use Rattle.yaml_small.specs.Step.{go, missing_go, line_fault, dots_end, root_done, document_at, last_at}
+use Rattle.yaml_small.specs.Step.{transition, missing_transition, line_fault, dots_end, root_done, document_at, last_at}
 use Rattle.yaml_small.proofs.Grows.{the_end}
 use Rattle.yaml_small.proofs.Marks.{and_parts}
 use Rattle.yaml_completion.proofs.Along.{stays, ahead, is_solid}
@@ -27,26 +26,26 @@ dots_solid [] e = absurd cc
 dots_solid (c ∷ cs) e = ap (λ (x : ℕ). is_solid (x ∷ cs)) (sym (eqb-true 46 c (and_parts (eqb 46 c) _ (and_parts (starts_with nat_eq (c ∷ cs) (46 ∷ 46 ∷ 46 ∷ [])) _ e).0).0))
 
 dashes_line : (line : List ℕ) → is_dashes line ≡ true → line ≡ 45 ∷ 45 ∷ 45 ∷ drop 3 line
-dashes_line line e = three 45 45 45 line (and_parts (starts_with nat_eq line (45 ∷ 45 ∷ 45 ∷ [])) (is_gap (drop 3 line)) e).0
+dashes_line line e = three 45 45 45 line (and_parts (starts_with nat_eq line (45 ∷ 45 ∷ 45 ∷ [])) (is_break (drop 3 line)) e).0
 
-dashes_gap : (line : List ℕ) → is_dashes line ≡ true → is_gap (drop 3 line) ≡ true
-dashes_gap line e = (and_parts (starts_with nat_eq line (45 ∷ 45 ∷ 45 ∷ [])) (is_gap (drop 3 line)) e).1
+dashes_break : (line : List ℕ) → is_dashes line ≡ true → is_break (drop 3 line) ≡ true
+dashes_break line e = (and_parts (starts_with nat_eq line (45 ∷ 45 ∷ 45 ∷ [])) (is_break (drop 3 line)) e).1
 
-at_end : (a : At) → Moves [] (λ c. c ≡ the_end) (λ c. Ok (go DocumentEnd c Last (missing_go c).change)) a
-at_end a = moves_ok [] (λ c. c ≡ the_end) (λ c. go DocumentEnd c Last (missing_go c).change) a
-    (λ d fits. record { at = d; like = fits; along = stays a d; mode = Last; same = same_mode Last; is = refl }) (λ rest tie. absurd cc) (record { nest = refl; suits = tt })
+at_end : (a : At) → Moves [] (λ c. c ≡ the_end) (λ c. Ok (transition DocumentEnd c Last (missing_transition c).change)) a
+at_end a = moves_ok [] (λ c. c ≡ the_end) (λ c. transition DocumentEnd c Last (missing_transition c).change) a
+    (λ d fits. record { at = d; like = fits; along = stays a d; mode = Last; same = same_mode Last; is = refl }) (λ rest tie. absurd cc) (record { nest = refl; mode_matches = tt })
 
 pub moves_root_done : (g : Bool) (a : At) → Moves [] (Next a) (root_done g) a
 unfolding root_done dots_end
 moves_root_done g a =
     moves_if [] (Next a) is_end _ _ a
-    (λ is. moves_ok [] (λ c. Next a c × (is_end c ≡ true)) (λ c. go DocumentEnd c Last (missing_go c).change) a
-    (λ d fits. record { at = d; like = (record { either = inl fits }, ap is_end fits); along = stays a d; mode = Last; same = same_mode Last; is = refl }) (λ rest tie. absurd cc) (record { nest = refl; suits = tt }))
+    (λ is. moves_ok [] (λ c. Next a c × (is_end c ≡ true)) (λ c. transition DocumentEnd c Last (missing_transition c).change) a
+    (λ d fits. record { at = d; like = (record { either = inl fits }, ap is_end fits); along = stays a d; mode = Last; same = same_mode Last; is = refl }) (λ rest tie. absurd cc) (record { nest = refl; mode_matches = tt }))
     (λ some. moves_if [] (λ c. Next a c × (is_end c ≡ false)) at_dots _ _ a
     (λ dots.
     let here = (and_parts (eqb a.col 0) (is_dots a.line) dots).1 in
     moves_if [] (λ c. (Next a c × (is_end c ≡ false)) × (at_dots c ≡ true)) (λ c. ends (drop 3 c.line)) _ _ a
-    (λ last. moves_next [] (λ c. c ≡ the_end) (λ c. ((Next a c × (is_end c ≡ false)) × (at_dots c ≡ true)) × (ends (drop 3 c.line) ≡ true)) (λ c. Ok (go DocumentEnd c Last (missing_go c).change)) a
+    (λ last. moves_next [] (λ c. c ≡ the_end) (λ c. ((Next a c × (is_end c ≡ false)) × (at_dots c ≡ true)) × (ends (drop 3 c.line) ≡ true)) (λ c. Ok (transition DocumentEnd c Last (missing_transition c).change)) a
     (at_end (next_at a.later)) (λ c end. record { either = inl end })
     (λ c line col.
     let alike = alike_line a c (dots_solid a.line here) line col in
@@ -61,14 +60,14 @@ pub moves_document : (k : List Frame) (a : At) → in_flow false k ≡ false →
 unfolding document_at
 moves_document k a flow nest =
     moves_if k (Ready a) is_end _ _ a
-    (λ is. moves_ok k (λ c. Ready a c × (is_end c ≡ true)) (λ c. go StreamEnd c Ended (missing_go c).change) a
-    (λ d fits. record { at = d; like = (record { either = inl fits }, ap is_end fits); along = stays a d; mode = Ended; same = same_mode Ended; is = refl }) (λ rest tie. absurd cc) (record { nest = nest; suits = tt }))
+    (λ is. moves_ok k (λ c. Ready a c × (is_end c ≡ true)) (λ c. transition StreamEnd c Ended (missing_transition c).change) a
+    (λ d fits. record { at = d; like = (record { either = inl fits }, ap is_end fits); along = stays a d; mode = Ended; same = same_mode Ended; is = refl }) (λ rest tie. absurd cc) (record { nest = nest; mode_matches = tt }))
     (λ some. moves_if k (λ c. Ready a c × (is_end c ≡ false)) at_dashes _ _ a
     (λ dashes.
     let p = and_parts (eqb a.col 0) (is_dashes a.line) dashes in
-    moves_ok k (λ c. (Ready a c × (is_end c ≡ false)) × (at_dashes c ≡ true)) (λ c. go DocumentStart (past 3 c) (Root true) (missing_go c).change) a
+    moves_ok k (λ c. (Ready a c × (is_end c ≡ false)) × (at_dashes c ≡ true)) (λ c. transition DocumentStart (past 3 c) (Root true) (missing_transition c).change) a
     (λ d fits.
-    let gap = fits.gap (dashes_gap a.line p.1) in
+    let gap = fits.mark (dashes_break a.line p.1) in
     let c = place a.col (45 ∷ 45 ∷ 45 ∷ d.line) d.later in
     record {
       at = c;
@@ -78,10 +77,10 @@ moves_document k a flow nest =
       same = same_mode (Root true);
       is = rw (← fits.col) refl;
     })
-    (λ rest tie. absurd cc) (record { nest = nest; suits = flow }))
+    (λ rest tie. absurd cc) (record { nest = nest; mode_matches = flow }))
     (λ none. moves_if k (λ c. (Ready a c × (is_end c ≡ false)) × (at_dashes c ≡ false)) (λ c. begins 37 c.line) _ _ a
     (λ bad. moves_err k _ (λ c. NotCarried) a)
-    (λ good. moves_ok k (λ c. ((Ready a c × (is_end c ≡ false)) × (at_dashes c ≡ false)) × (begins 37 c.line ≡ false)) (λ c. go DocumentStart c (Root false) (missing_go c).change) a
+    (λ good. moves_ok k (λ c. ((Ready a c × (is_end c ≡ false)) × (at_dashes c ≡ false)) × (begins 37 c.line ≡ false)) (λ c. transition DocumentStart c (Root false) (missing_transition c).change) a
     (λ d fits. record {
       at = d;
       like = (((record { either = inr fits.instead }, solid_end d fits.instead.other), fits.dashes none), fits.percent good);
@@ -90,12 +89,12 @@ moves_document k a flow nest =
       same = same_mode (Root false);
       is = refl;
     })
-    (λ rest tie. absurd cc) (record { nest = nest; suits = (flow, some) }))))
+    (λ rest tie. absurd cc) (record { nest = nest; mode_matches = (flow, some) }))))
 
 pub moves_last : (k : List Frame) (a : At) → nested false k ≡ true → Moves k (λ c. c ≡ the_end) last_at a
 unfolding last_at
 moves_last k a nest =
     moves_if k (λ c. c ≡ the_end) is_end _ _ a
-    (λ is. moves_ok k (λ c. (c ≡ the_end) × (is_end c ≡ true)) (λ c. go StreamEnd c Ended (missing_go c).change) a
-    (λ d fits. record { at = d; like = (fits, ap is_end fits); along = stays a d; mode = Ended; same = same_mode Ended; is = refl }) (λ rest tie. absurd cc) (record { nest = nest; suits = tt }))
-    (λ more. moves_err k _ (λ c. cond (at_dots c) Form NotCarried) a)
+    (λ is. moves_ok k (λ c. (c ≡ the_end) × (is_end c ≡ true)) (λ c. transition StreamEnd c Ended (missing_transition c).change) a
+    (λ d fits. record { at = d; like = (fits, ap is_end fits); along = stays a d; mode = Ended; same = same_mode Ended; is = refl }) (λ rest tie. absurd cc) (record { nest = nest; mode_matches = tt }))
+    (λ more. moves_err k _ (λ c. cond (at_dots c || is_comment_line c.line) Form NotCarried) a)

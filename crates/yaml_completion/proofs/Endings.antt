@@ -1,14 +1,14 @@
--- Each state that is no refusal has an ending: what stands there instead, and is told to the stream's end.
+-- Each state that is no refusal has an ending: what stands there instead, and is emitted to the stream's end.
 use Rattle.std.proofs.Common.{◌≡◌, ℕ, zero, suc, ◌⊎◌, List, [], ◌∷◌, ◌++◌, length, drop, Bool, true, false, ltb, Option, Some, Ok, refl, sym, ap, ◌∙◌, subst, inl, inr, arith, add-zero, append_assoc, append-nil}
 use Rattle.yaml_scan.specs.Lines.{ends}
 use Rattle.yaml_small.specs.declared.event.Event.{Event}
 use Rattle.yaml_small.specs.declared.event.Event.TheVariants.{StreamStart, StreamEnd, DocumentEnd, SequenceEnd, MappingEnd}
 use Rattle.yaml_small.specs.declared.state.Mode.{Mode}
-use Rattle.yaml_small.specs.declared.state.Mode.TheVariants.{Begin, Document, Done, Stray, Last, Ended}
+use Rattle.yaml_small.specs.declared.state.Mode.TheVariants.{Begin, Document, Done, Trailing, Last, Ended}
 use Rattle.yaml_small.specs.declared.state.Frame.{Frame}
 use Rattle.yaml_small.specs.declared.state.Frame.TheVariants.{InList, InMap, InSeq, InPairs}
 use Rattle.yaml_small.specs.Places.{At, past, over, next_at, flow_next, begins, list_ends, map_ends}
-use Rattle.yaml_small.specs.Step.{Go, go, missing_go, block_end, closed, seq_entry, pairs_entry, seq_done, pairs_done, list_done, map_done, root_done, done_at, document_at, last_at, step_at}
+use Rattle.yaml_small.specs.Step.{Transition, transition, missing_transition, block_end, closed, seq_entry, pairs_entry, seq_done, pairs_done, list_done, map_done, root_done, done_at, document_at, last_at, step_at}
 use Rattle.yaml_small.specs.Stream.{State, top_of, behind, Runs}
 use Rattle.yaml_small.proofs.Grows.{the_end}
 use Rattle.yaml_small.proofs.Marks.{and_parts, or_true}
@@ -26,7 +26,7 @@ pub record Ending (s : State) : Type 0 where
   pub ended : last.mode ≡ Ended
 
 -- by one step
-pub before : (m : Mode) (k : List Frame) (a : At) (g : Go) → step_at m (top_of k) (length k) a ≡ Ok g → Ending (behind k g) → Ending (state m k a)
+pub before : (m : Mode) (k : List Frame) (a : At) (g : Transition) → step_at m (top_of k) (length k) a ≡ Ok g → Ending (behind k g) → Ending (state m k a)
 before m k a g step e = record {
   events = g.event ∷ e.events;
   last = e.last;
@@ -40,19 +40,19 @@ over_here k a = record { events = []; last = state Ended k a; runs = refl; ended
 -- behind the document, at the text's end
 pub at_last : (k : List Frame) → Ending (state Last k the_end)
 unfolding step_at last_at
-at_last k = before Last k the_end (go StreamEnd the_end Ended (missing_go the_end).change) refl (over_here k the_end)
+at_last k = before Last k the_end (transition StreamEnd the_end Ended (missing_transition the_end).change) refl (over_here k the_end)
 
 pub at_document : (k : List Frame) → Ending (state Document k the_end)
 unfolding step_at document_at
-at_document k = before Document k the_end (go StreamEnd the_end Ended (missing_go the_end).change) refl (over_here k the_end)
+at_document k = before Document k the_end (transition StreamEnd the_end Ended (missing_transition the_end).change) refl (over_here k the_end)
 
 pub at_begin : (k : List Frame) → Ending (state Begin k the_end)
 unfolding step_at
-at_begin k = before Begin k the_end (go StreamStart the_end Document (missing_go the_end).change) refl (at_document k)
+at_begin k = before Begin k the_end (transition StreamStart the_end Document (missing_transition the_end).change) refl (at_document k)
 
 at_root : (g : Bool) → Ending (state (Done g) [] the_end)
 unfolding step_at done_at root_done
-at_root g = before (Done g) [] the_end (go DocumentEnd the_end Last (missing_go the_end).change) refl (at_last [])
+at_root g = before (Done g) [] the_end (transition DocumentEnd the_end Last (missing_transition the_end).change) refl (at_last [])
 
 -- the closing brackets, the innermost first
 abbrev pub closer : Frame → List ℕ
@@ -128,7 +128,7 @@ landed_ending true j b inside nest line later more =
 landed_ending false j b inside nest line later more =
     let none = (no_closers false j nest inside).1 in
     subst Ending
-    (sym (if_true (ends b.line) (done false (next_at b.later) j) (state Stray j (over b)) (ap ends (line ∙ none)) ∙ ap (λ (x : At). done false x j) (ap next_at later ∙ next_end)))
+    (sym (if_true (ends b.line) (done false (next_at b.later) j) (state Trailing j (over b)) (ap ends (line ∙ none)) ∙ ap (λ (x : At). done false x j) (ap next_at later ∙ next_end)))
     (more the_end false (record { either = inl (inside, refl) }))
 
 pub closed_ending : (e : Event) (inner : Bool) (j : List Frame) (f : Frame) (x : ℕ) (c : At) → in_flow false j ≡ inner → nested false j ≡ true → c.line ≡ x ∷ closers j → c.later ≡ [] → Closes j → Ending (behind (j ++ (f ∷ [])) (closed e inner c))

@@ -9,19 +9,19 @@ use Rattle.yaml_small.specs.declared.state.Mode.TheVariants.{Open}
 use Rattle.yaml_small.specs.declared.state.Frame.{Frame}
 use Rattle.yaml_small.specs.declared.state.Frame.TheVariants.{InSeq, InPairs}
 use Rattle.yaml_small.specs.Places.{At, past, over, next_at, flow_next, begins, is_end}
-use Rattle.yaml_small.specs.Scalars.{Word, word_at}
+use Rattle.yaml_small.specs.Scalars.{ScalarToken, scalar_token_at}
 use Rattle.yaml_small.specs.Grammar.{closes_value, is_flow_colon}
-use Rattle.yaml_small.specs.Step.{inline_at, seq_entry, pairs_entry, flow_fault, flow_value, paired_at, seq_fault, seq_done, pairs_done}
+use Rattle.yaml_small.specs.Step.{inline_at, seq_entry, pairs_entry, flow_fault, flow_value, after_key_at, seq_fault, seq_done, pairs_done}
 use Rattle.yaml_small.proofs.Marks.{and_parts}
 use Rattle.yaml_completion.proofs.Along.{if_false, all_of, is_solid}
 use Rattle.yaml_completion.proofs.Contents.{Instead, place, spaced_at}
 use Rattle.yaml_completion.proofs.Scans.{begins_low, first_of, same_begins, same_parts, Looks, looks_comma, looks_bracket, looks_brace, looks_colon, near_of}
-use Rattle.yaml_completion.proofs.Words.{word_place, head_line}
-use Rattle.yaml_completion.proofs.Stops.{told_white}
+use Rattle.yaml_completion.proofs.ScalarTokens.{scalar_token_place, head_line}
+use Rattle.yaml_completion.proofs.Stops.{emitted_white}
 use Rattle.yaml_completion.proofs.Tokens.{Token}
 use Rattle.yaml_completion.proofs.Frames.{in_flow, nested, flow_push, pairs_push, nested_push, agree, agrees}
 use Rattle.yaml_completion.proofs.Moves.{Flowing, Moves, moves_err, moves_if, moves_map, reads_from, weaker}
-use Rattle.yaml_completion.proofs.Leaves.{moves_word, moves_flow_missing, moves_opens, moves_flow_key, moves_closes}
+use Rattle.yaml_completion.proofs.Leaves.{moves_scalar_token, moves_flow_missing, moves_opens, moves_flow_key, moves_closes}
 use Rattle.yaml_completion.proofs.Wraps.{moves_token, solid_some}
 use Rattle.yaml_completion.proofs.BlockMoves.{moves_past}
 
@@ -52,11 +52,11 @@ inline_flow k depth parent a flow nest =
     moves_opens depth 123 MappingStart (λ n. Open) (λ n. InPairs true) k (λ c. (Entry a c × (begins 91 c.line ≡ false)) × (begins 123 c.line ≡ true)) a is nest flow (flow_push false k (InPairs true)) (λ flow low. refl)
     (λ d fits. (fits, ((entry_at 123 a d.line d.later is refl, refl), refl))))
     (λ no_map.
-    moves_word true k (λ c. (Entry a c × (begins 91 c.line ≡ false)) × (begins 123 c.line ≡ false)) a flow nest
-    (λ w v c is too col first same. ((word_entry a c w v is too col first, same_begins 91 c.line a.line first ∙ no_seq), same_begins 123 c.line a.line first ∙ no_map))))
+    moves_scalar_token true k (λ c. (Entry a c × (begins 91 c.line ≡ false)) × (begins 123 c.line ≡ false)) a flow nest
+    (λ w v c is too col first same. ((scalar_token_entry a c w v is too col first, same_begins 91 c.line a.line first ∙ no_seq), same_begins 123 c.line a.line first ∙ no_map))))
   where
-    word_entry : (a c : At) (w v : Word) → word_at true a ≡ Ok w → word_at true c ≡ Ok v → c.col ≡ a.col → first_of c.line ≡ first_of a.line → Entry a c
-    word_entry a c w v is too col first = record { instead = record { col = col; some = solid_some a (word_place true a w is).solid; other = (word_place true c v too).solid }; first = first }
+    scalar_token_entry : (a c : At) (w v : ScalarToken) → scalar_token_at true a ≡ Ok w → scalar_token_at true c ≡ Ok v → c.col ≡ a.col → first_of c.line ≡ first_of a.line → Entry a c
+    scalar_token_entry a c w v is too col first = record { instead = record { col = col; some = solid_some a (scalar_token_place true a w is).solid; other = (scalar_token_place true c v too).solid }; first = first }
 
 pub moves_seq_entry : (k : List Frame) (depth : ℕ) (inner : Bool) (a : At) → in_flow false k ≡ inner → nested false k ≡ true → Moves (k ++ (InSeq inner ∷ [])) (Entry a) (seq_entry inner depth) a
 unfolding seq_entry
@@ -75,7 +75,7 @@ moves_pairs_entry k inner a inside nest =
     (λ is. moves_closes 125 MappingEnd inner k (InPairs inner) (λ c. Entry a c × (begins 125 c.line ≡ true)) a is nest inside (λ d. (entry_at 125 a d.line d.later is refl, refl)))
     (λ none. moves_flow_key j (λ c. Entry a c × (begins 125 c.line ≡ false)) a (pairs_push false k (InPairs inner)) (nested_push false k (InPairs inner) nest (ap (agree inner) inside ∙ agrees inner))
     (λ w v c is too col first.
-    (record { instead = record { col = col; some = solid_some a (word_place true a w is).solid; other = (word_place true c v too).solid }; first = first }, same_begins 125 c.line a.line first ∙ none)))
+    (record { instead = record { col = col; some = solid_some a (scalar_token_place true a w is).solid; other = (scalar_token_place true c v too).solid }; first = first }, same_begins 125 c.line a.line first ∙ none)))
 
 -- behind a bracket or a comma
 pub moves_seq_next : (k : List Frame) (depth : ℕ) (inner : Bool) (a : At) → in_flow false k ≡ inner → nested false k ≡ true → Moves (k ++ (InSeq inner ∷ [])) (λ c. c.col ≡ a.col) (λ c. seq_entry inner depth (flow_next c)) a
@@ -133,35 +133,35 @@ bracket_mark a t later e = mark_at 93 a t later e refl refl (looks_bracket (drop
 pub brace_mark : (a : At) (t : List ℕ) (later : List (List ℕ)) → begins 125 a.line ≡ true → Mark true a (place a.col (125 ∷ t) later)
 brace_mark a t later e = mark_at 125 a t later e refl refl (looks_brace (drop 1 a.line) t)
 
-moves_seq_mark : (k : List Frame) (depth : ℕ) (inner goes : Bool) (a : At) → in_flow false k ≡ inner → nested false k ≡ true → Moves (k ++ (InSeq inner ∷ [])) (Mark true a) (seq_done inner depth goes) a
+moves_seq_mark : (k : List Frame) (depth : ℕ) (inner continues : Bool) (a : At) → in_flow false k ≡ inner → nested false k ≡ true → Moves (k ++ (InSeq inner ∷ [])) (Mark true a) (seq_done inner depth continues) a
 unfolding seq_done
-moves_seq_mark k depth inner goes a inside nest =
+moves_seq_mark k depth inner continues a inside nest =
     let j = k ++ (InSeq inner ∷ []) in
     moves_if j (Mark true a) (λ c. begins 44 c.line) _ _ a
     (λ is. moves_past 44 j (λ c. c.col ≡ (past 1 a).col) (λ c. Mark true a c × (begins 44 c.line ≡ true)) (λ c. seq_entry inner depth (flow_next c)) a is (moves_seq_next k depth inner (past 1 a) inside nest)
     (λ c col. (col, (comma_mark a c.line c.later is, refl))))
     (λ none. moves_if j (λ c. Mark true a c × (begins 44 c.line ≡ false)) (λ c. begins 93 c.line) _ _ a
     (λ is. moves_closes 93 SequenceEnd inner k (InSeq inner) (λ c. (Mark true a c × (begins 44 c.line ≡ false)) × (begins 93 c.line ≡ true)) a is nest inside (λ d. ((bracket_mark a d.line d.later is, refl), refl)))
-    (λ bad. moves_err j _ (seq_fault goes) a))
+    (λ bad. moves_err j _ (seq_fault continues) a))
 
-moves_pairs_mark : (k : List Frame) (inner goes : Bool) (a : At) → in_flow false k ≡ inner → nested false k ≡ true → Moves (k ++ (InPairs inner ∷ [])) (Mark true a) (pairs_done inner goes) a
+moves_pairs_mark : (k : List Frame) (inner continues : Bool) (a : At) → in_flow false k ≡ inner → nested false k ≡ true → Moves (k ++ (InPairs inner ∷ [])) (Mark true a) (pairs_done inner continues) a
 unfolding pairs_done
-moves_pairs_mark k inner goes a inside nest =
+moves_pairs_mark k inner continues a inside nest =
     let j = k ++ (InPairs inner ∷ []) in
     moves_if j (Mark true a) (λ c. begins 44 c.line) _ _ a
     (λ is. moves_past 44 j (λ c. c.col ≡ (past 1 a).col) (λ c. Mark true a c × (begins 44 c.line ≡ true)) (λ c. pairs_entry inner (flow_next c)) a is (moves_pairs_next k inner (past 1 a) inside nest)
     (λ c col. (col, (comma_mark a c.line c.later is, refl))))
     (λ none. moves_if j (λ c. Mark true a c × (begins 44 c.line ≡ false)) (λ c. begins 125 c.line) _ _ a
     (λ is. moves_closes 125 MappingEnd inner k (InPairs inner) (λ c. (Mark true a c × (begins 44 c.line ≡ false)) × (begins 125 c.line ≡ true)) a is nest inside (λ d. ((brace_mark a d.line d.later is, refl), refl)))
-    (λ bad. moves_err j _ (flow_fault goes) a))
+    (λ bad. moves_err j _ (flow_fault continues) a))
 
-pub moves_seq_done : (k : List Frame) (depth : ℕ) (inner goes : Bool) (a : At) → in_flow false k ≡ inner → nested false k ≡ true → Moves (k ++ (InSeq inner ∷ [])) (Flowing true a) (λ c. seq_done inner depth goes (flow_next c)) a
-moves_seq_done k depth inner goes a inside nest =
-    moves_token (k ++ (InSeq inner ∷ [])) (Mark true (flow_next a)) (Flowing true a) (seq_done inner depth goes) a (moves_seq_mark k depth inner goes (flow_next a) inside nest) (λ c mark. mark.instead) (flowing_at true a)
+pub moves_seq_done : (k : List Frame) (depth : ℕ) (inner continues : Bool) (a : At) → in_flow false k ≡ inner → nested false k ≡ true → Moves (k ++ (InSeq inner ∷ [])) (Flowing true a) (λ c. seq_done inner depth continues (flow_next c)) a
+moves_seq_done k depth inner continues a inside nest =
+    moves_token (k ++ (InSeq inner ∷ [])) (Mark true (flow_next a)) (Flowing true a) (seq_done inner depth continues) a (moves_seq_mark k depth inner continues (flow_next a) inside nest) (λ c mark. mark.instead) (flowing_at true a)
 
-pub moves_pairs_done : (k : List Frame) (inner goes : Bool) (a : At) → in_flow false k ≡ inner → nested false k ≡ true → Moves (k ++ (InPairs inner ∷ [])) (Flowing true a) (λ c. pairs_done inner goes (flow_next c)) a
-moves_pairs_done k inner goes a inside nest =
-    moves_token (k ++ (InPairs inner ∷ [])) (Mark true (flow_next a)) (Flowing true a) (pairs_done inner goes) a (moves_pairs_mark k inner goes (flow_next a) inside nest) (λ c mark. mark.instead) (flowing_at true a)
+pub moves_pairs_done : (k : List Frame) (inner continues : Bool) (a : At) → in_flow false k ≡ inner → nested false k ≡ true → Moves (k ++ (InPairs inner ∷ [])) (Flowing true a) (λ c. pairs_done inner continues (flow_next c)) a
+moves_pairs_done k inner continues a inside nest =
+    moves_token (k ++ (InPairs inner ∷ [])) (Mark true (flow_next a)) (Flowing true a) (pairs_done inner continues) a (moves_pairs_mark k inner continues (flow_next a) inside nest) (λ c mark. mark.instead) (flowing_at true a)
 
 -- A comma or a brace behind white space is low.
 mark_begins : (v r : List ℕ) → all_of is_white v ≡ true → closes_value r ≡ true → begins_low (v ++ r) ≡ true
@@ -171,11 +171,11 @@ mark_begins [] (c ∷ cs) all e = from (eqb c 44) refl e
     from : (b : Bool) → eqb c 44 ≡ b → b || eqb c 125 ≡ true → ltb c 160 ≡ true
     from true is e = ap (λ (x : ℕ). ltb x 160) (eqb-true c 44 is)
     from false is e = ap (λ (x : ℕ). ltb x 160) (eqb-true c 125 e)
-mark_begins (c ∷ v) r all e = (told_white c (and_parts (is_white c) (all_of is_white v) all).0).small
+mark_begins (c ∷ v) r all e = (emitted_white c (and_parts (is_white c) (all_of is_white v) all).0).small
 
 ended_begins : (line : List ℕ) → ends line ≡ true → begins_low line ≡ true
 ended_begins [] e = refl
-ended_begins (c ∷ cs) e = (told_white c (and_parts (is_white c) (is_passed (c ∷ cs)) e).0).small
+ended_begins (c ∷ cs) e = (emitted_white c (and_parts (is_white c) (is_passed (c ∷ cs)) e).0).small
 
 closes_low : (a : At) → closes_value (flow_next a).line ≡ true → begins_low a.line ≡ true
 unfolding flow_next
@@ -234,9 +234,9 @@ same_part : (quoted : Bool) (line t : List ℕ) → is_flow_colon quoted line �
 same_part true line t e same q = absurd cc
 same_part false line t e same q = same ∙ colon_parts line e
 
-pub moves_paired : (k : List Frame) (depth : ℕ) (quoted goes : Bool) (a : At) → in_flow false k ≡ true → nested false k ≡ true → Moves k (Flowing (not quoted) a) (paired_at depth quoted goes) a
-unfolding paired_at
-moves_paired k depth quoted goes a flow nest =
+pub moves_after_key : (k : List Frame) (depth : ℕ) (quoted continues : Bool) (a : At) → in_flow false k ≡ true → nested false k ≡ true → Moves k (Flowing (not quoted) a) (after_key_at depth quoted continues) a
+unfolding after_key_at
+moves_after_key k depth quoted continues a flow nest =
     moves_if k (Flowing (not quoted) a) (λ c. is_flow_colon quoted (flow_next c).line) _ _ a
     (λ is.
     let b = flow_next a in
@@ -250,4 +250,4 @@ moves_paired k depth quoted goes a flow nest =
     (λ none. moves_if k (λ c. Flowing (not quoted) a c × (is_flow_colon quoted (flow_next c).line ≡ false)) (λ c. closes_value (flow_next c).line) _ _ a
     (λ is. moves_flow_missing k (λ c. (Flowing (not quoted) a c × (is_flow_colon quoted (flow_next c).line ≡ false)) × (closes_value (flow_next c).line ≡ true)) a flow nest (closes_low a is)
     (λ d like. ((weaker (not quoted) a d like, (like.closes is).1 quoted), (like.closes is).0)))
-    (λ bad. moves_err k _ (λ c. flow_fault goes (flow_next c)) a))
+    (λ bad. moves_err k _ (λ c. flow_fault continues (flow_next c)) a))

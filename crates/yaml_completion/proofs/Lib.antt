@@ -1,10 +1,10 @@
 pub mod Along
 pub mod Contents
 pub mod Scans
-pub mod Words
+pub mod ScalarTokens
 pub mod Blocks
 pub mod Stops
-pub mod WordEnds
+pub mod ScalarTokenEnds
 pub mod Tokens
 pub mod Frames
 pub mod Moves
@@ -18,8 +18,7 @@ pub mod Endings
 pub mod Blanks
 pub mod Texts
 pub mod OpenEnds
-pub mod Firm
+pub mod Final
 pub mod Completions
 pub mod Cuts
 pub mod Completes
-pub mod Room

@@ -5,9 +5,9 @@ use Rattle.std.specs.Char.{digit_value, is_digit}
 use lib.Utf8.{scalar}
 use Rattle.std.proofs.lemmas.Bool.{eqb-true}
 use Rattle.yaml_scan.specs.Bytes.{is_space, is_white, is_gap, is_control, is_flow_mark}
-use Rattle.yaml_scan.specs.Lines.{is_dashes, is_dots}
+use Rattle.yaml_scan.specs.Lines.{is_break, is_dashes, is_dots}
 use Rattle.yaml_scan.specs.Plain.{is_indicator, parts, ends_plain, with_byte, plain_len, begins_plain}
-use Rattle.yaml_scan.specs.Quoted.{Found, Open, Bad, with_text, single_at, Turn, text_turn, escape_turn, hex_turn, digit_turn, digits_wanted, escaped, turn_at, goes_on, closes, double_at, double_quoted_at}
+use Rattle.yaml_scan.specs.Quoted.{Found, Open, Bad, with_text, single_at, Turn, text_turn, escape_turn, hex_turn, digit_turn, digits_wanted, escaped, turn_at, continued, closes, double_at, double_quoted_at}
 use Rattle.yaml_small.specs.Places.{begins}
 use Rattle.yaml_small.proofs.Marks.{and_parts, and_false, not_so, both}
 
@@ -141,7 +141,7 @@ near_far flow (c ∷ u) r t n = near_of flow (c ∷ (u ++ r)) (c ∷ (u ++ t)) (
 
 -- a byte that ends a plain scalar, and is no part of a document's mark
 no_mark : (mark c : ℕ) (r t : List ℕ) → eqb mark c ≡ false → (u : List ℕ)
-    → starts_with nat_eq (u ++ (c ∷ t)) (mark ∷ mark ∷ mark ∷ []) && is_gap (drop 3 (u ++ (c ∷ t))) ≡ starts_with nat_eq (u ++ (c ∷ r)) (mark ∷ mark ∷ mark ∷ []) && is_gap (drop 3 (u ++ (c ∷ r)))
+    → starts_with nat_eq (u ++ (c ∷ t)) (mark ∷ mark ∷ mark ∷ []) && is_break (drop 3 (u ++ (c ∷ t))) ≡ starts_with nat_eq (u ++ (c ∷ r)) (mark ∷ mark ∷ mark ∷ []) && is_break (drop 3 (u ++ (c ∷ r)))
 no_mark mark c r t e [] = rw e refl
 no_mark mark c r t e (x ∷ []) = rw e (none (eqb mark x) _ _)
   where
@@ -150,7 +150,7 @@ no_mark mark c r t e (x ∷ []) = rw e (none (eqb mark x) _ _)
     none false p q = refl
 no_mark mark c r t e (x ∷ y ∷ []) = rw e (none (eqb mark x) (eqb mark y))
   where
-    none : (a b : Bool) → (a && (b && false)) && is_gap t ≡ (a && (b && false)) && is_gap r
+    none : (a b : Bool) → (a && (b && false)) && is_break t ≡ (a && (b && false)) && is_break r
     none true true = refl
     none true false = refl
     none false b = refl
@@ -435,7 +435,7 @@ double_from t line = double_at line t.next
 
 turned : (c : ℕ) (cs text rest : List ℕ) (t : Turn) (o : Option Turn) → Known t
     → ((u : Turn) (behind : List ℕ) → Known u → double_from u cs ≡ found_is behind rest → Closed (double_from u) anything cs behind rest)
-    → closes t.next c ≡ false → turn_at t.next c cs ≡ o → goes_on o (double_at cs) ≡ found_is text rest → Closed (double_from t) anything (c ∷ cs) text rest
+    → closes t.next c ≡ false → turn_at t.next c cs ≡ o → continued o (double_at cs) ≡ found_is text rest → Closed (double_from t) anything (c ∷ cs) text rest
 unfolding found_is
 turned c cs text rest t None k onward other is e = absurd cc
 turned c cs text rest t (Some u) k onward other is e =
@@ -447,21 +447,21 @@ turned c cs text rest t (Some u) k onward other is e =
       is = ap (λ (x : List ℕ). c ∷ x) h.is;
       found = λ s may.
           let same : turn_at t.next c (h.byte ∷ (h.front ++ s)) ≡ Some u = near t c h.byte (h.front ++ s) (h.front ++ rest) k ∙ ap (turn_at t.next c) (sym h.is) ∙ is in
-          ap (λ (b : Bool). cond b (Ok ([], h.byte ∷ (h.front ++ s))) (goes_on (turn_at t.next c (h.byte ∷ (h.front ++ s))) (double_at (h.byte ∷ (h.front ++ s))))) other
-          ∙ ap (λ (o : Option Turn). goes_on o (double_at (h.byte ∷ (h.front ++ s)))) same
+          ap (λ (b : Bool). cond b (Ok ([], h.byte ∷ (h.front ++ s))) (continued (turn_at t.next c (h.byte ∷ (h.front ++ s))) (double_at (h.byte ∷ (h.front ++ s))))) other
+          ∙ ap (λ (o : Option Turn). continued o (double_at (h.byte ∷ (h.front ++ s)))) same
           ∙ text_on u.text x.behind s text (double_from u (h.byte ∷ (h.front ++ s))) (h.found s may) x.all;
     }
 
 at_turn : (c : ℕ) (cs text rest : List ℕ) (t : Turn) (b : Bool) → Known t
     → ((u : Turn) (behind : List ℕ) → Known u → double_from u cs ≡ found_is behind rest → Closed (double_from u) anything cs behind rest)
-    → closes t.next c ≡ b → cond b (found_is [] cs) (goes_on (turn_at t.next c cs) (double_at cs)) ≡ found_is text rest → Closed (double_from t) anything (c ∷ cs) text rest
+    → closes t.next c ≡ b → cond b (found_is [] cs) (continued (turn_at t.next c cs) (double_at cs)) ≡ found_is text rest → Closed (double_from t) anything (c ∷ cs) text rest
 unfolding found_is
 at_turn c cs text rest t true k onward is e = record {
   byte = c;
   front = [];
   is = ap (λ (x : List ℕ). c ∷ x) (same_rest [] text cs rest e);
   found = λ s may.
-      ap (λ (b : Bool). cond b (found_is [] s) (goes_on (turn_at t.next c s) (double_at s))) is ∙ ap (λ (x : List ℕ). found_is x s) (same_text [] text cs rest e);
+      ap (λ (b : Bool). cond b (found_is [] s) (continued (turn_at t.next c s) (double_at s))) is ∙ ap (λ (x : List ℕ). found_is x s) (same_text [] text cs rest e);
 }
 at_turn c cs text rest t false k onward is e = turned c cs text rest t (turn_at t.next c cs) k onward is refl e
 

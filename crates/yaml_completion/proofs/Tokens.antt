@@ -9,7 +9,7 @@ use Rattle.yaml_small.proofs.Marks.{and_parts, not_so, both}
 use Rattle.yaml_completion.proofs.Along.{if_true, if_false, joined, Along, ahead, all_of, stops, parted, solid_white, white_space, solid_over, passes, not_ended, gone_over}
 use Rattle.yaml_completion.proofs.Contents.{Instead, Reads, place, next_end, next_passed, next_stands, spaced, not_end, passed_on, Below, below_line}
 use Rattle.yaml_completion.proofs.Scans.{low, white_low, first_of, Looks, looks_same, looks_far}
-use Rattle.yaml_completion.proofs.Words.{white_free}
+use Rattle.yaml_completion.proofs.ScalarTokens.{white_free}
 
 -- the first token of lines
 abbrev pub token_of : List (List ℕ) → At

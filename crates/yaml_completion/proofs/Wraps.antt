@@ -1,22 +1,22 @@
 -- Steps that first go to the next content, over white space or to the next token.
-use Rattle.std.proofs.Common.{◌≡◌, ℕ, ◌+◌, List, [], ◌∷◌, ◌++◌, drop, Bool, true, false, cond, ◌&&◌, eqb, Result, refl, sym, ap, ◌∙◌, subst}
+use Rattle.std.proofs.Common.{◌≡◌, ℕ, ◌+◌, List, [], ◌∷◌, ◌++◌, drop, Bool, true, false, not, cond, ◌&&◌, eqb, Result, refl, sym, ap, ◌∙◌, subst}
 use Rattle.yaml_scan.specs.Bytes.{is_space, is_white, is_gap, spaces, whites}
-use Rattle.yaml_scan.specs.Lines.{ends}
+use Rattle.yaml_scan.specs.Lines.{ends, is_break}
 use Rattle.yaml_small.specs.declared.state.Frame.{Frame}
 use Rattle.yaml_small.specs.Places.{At, over, next_at, flow_next, begins, is_end, at_dots, is_dash}
 use Rattle.yaml_small.specs.Scalars.{Fault}
-use Rattle.yaml_small.specs.Step.{Go}
+use Rattle.yaml_small.specs.Step.{Transition}
 use Rattle.std.proofs.lemmas.Bool.{eqb-true}
 use Rattle.yaml_scan.specs.Lines.{is_dashes}
-use Rattle.yaml_small.proofs.Marks.{and_parts}
+use Rattle.yaml_small.proofs.Marks.{and_parts, both}
 use Rattle.yaml_completion.proofs.Along.{ahead, further, all_of, stops, counted, is_solid, solid_white, white_space, gone_over}
 use Rattle.yaml_completion.proofs.Contents.{Instead, Ready, place, next_below, Spaced, spaced_at}
-use Rattle.yaml_completion.proofs.Words.{WordPlace, head_line}
+use Rattle.yaml_completion.proofs.ScalarTokens.{ScalarTokenPlace, head_line}
 use Rattle.yaml_completion.proofs.Blocks.{Alike}
 use Rattle.yaml_completion.proofs.Tokens.{Token, token_at}
 use Rattle.yaml_completion.proofs.Moves.{Moves, Gap}
 
-pub moves_next : (k : List Frame) (P Q : At → Type 0) (r : At → Result Go Fault) (a : At) → Moves k P r (next_at a.later) → ((c : At) → P c → Ready (next_at a.later) c) → ((c : At) → c.line ≡ a.line → c.col ≡ a.col → Q c)
+pub moves_next : (k : List Frame) (P Q : At → Type 0) (r : At → Result Transition Fault) (a : At) → Moves k P r (next_at a.later) → ((c : At) → P c → Ready (next_at a.later) c) → ((c : At) → c.line ≡ a.line → c.col ≡ a.col → Q c)
     → Moves k Q (λ c. r (next_at c.later)) a
 moves_next k P Q r a m ready like = record {
   move = λ g e want.
@@ -29,10 +29,10 @@ moves_next k P Q r a m ready like = record {
         arrives = n.arrives;
         is = ap r b.to ∙ n.is;
       };
-  fine = m.fine;
+  consistent = m.consistent;
 }
 
-pub moves_over : (k : List Frame) (P Q : At → Type 0) (r : At → Result Go Fault) (a : At) → Moves k P r (over a) → ((c : At) → P c → Instead (over a) c) → ((s : Spaced a) (c : At) → P c → Q (place a.col (s.front ++ c.line) c.later))
+pub moves_over : (k : List Frame) (P Q : At → Type 0) (r : At → Result Transition Fault) (a : At) → Moves k P r (over a) → ((c : At) → P c → Instead (over a) c) → ((s : Spaced a) (c : At) → P c → Q (place a.col (s.front ++ c.line) c.later))
     → Moves k Q (λ c. r (over c)) a
 moves_over k P Q r a m instead like = record {
   move = λ g e want.
@@ -47,10 +47,10 @@ moves_over k P Q r a m instead like = record {
         arrives = n.arrives;
         is = ap r (gone_over a.col s.front n.at.line n.at.later s.all (solid_white n.at.line i.other) ∙ ap (λ (x : ℕ). place x n.at.line n.at.later) (sym (i.col ∙ s.col))) ∙ n.is;
       };
-  fine = m.fine;
+  consistent = m.consistent;
 }
 
-pub moves_token : (k : List Frame) (P Q : At → Type 0) (r : At → Result Go Fault) (a : At) → Moves k P r (flow_next a) → ((c : At) → P c → Instead (flow_next a) c) → ((c : At) (t : Token a c) → P c → Q t.at)
+pub moves_token : (k : List Frame) (P Q : At → Type 0) (r : At → Result Transition Fault) (a : At) → Moves k P r (flow_next a) → ((c : At) → P c → Instead (flow_next a) c) → ((c : At) (t : Token a c) → P c → Q t.at)
     → Moves k Q (λ c. r (flow_next c)) a
 moves_token k P Q r a m instead like = record {
   move = λ g e want.
@@ -63,7 +63,7 @@ moves_token k P Q r a m instead like = record {
         arrives = n.arrives;
         is = ap r t.to ∙ n.is;
       };
-  fine = m.fine;
+  consistent = m.consistent;
 }
 
 -- a gap in front of other content
@@ -76,10 +76,16 @@ white_gap [] (c ∷ cs) t all stop more gap =
     off e = absurd cc
 white_gap (c ∷ v) r t all stop more gap = gap
 
+white_break : (v r t : List ℕ) → all_of is_white v ≡ true → stops is_white r ≡ true → ends (v ++ r) ≡ false → is_break (v ++ r) ≡ true → is_break (v ++ t) ≡ true
+white_break [] [] t all stop more gap = absurd cc
+white_break [] (c ∷ cs) t all stop more gap = absurd (both (not (is_white c)) stop (ap not gap))
+white_break (c ∷ v) r t all stop more gap = gap
+
 pub gap_over : (a : At) (s : Spaced a) (c : At) → ends a.line ≡ false → Gap a (place a.col (s.front ++ c.line) c.later)
 gap_over a s c more = record {
   col = refl;
   gap = λ gap. white_gap s.front (over a).line c.line s.all s.stop (sym (ap ends s.line) ∙ more) (sym (ap is_gap s.line) ∙ gap);
+  mark = λ gap. white_break s.front (over a).line c.line s.all s.stop (sym (ap ends s.line) ∙ more) (sym (ap is_break s.line) ∙ gap);
 }
 
 white_spaces : (v r t : List ℕ) → all_of is_white v ≡ true → stops is_white r ≡ true → stops is_white t ≡ true → spaces (v ++ t) ≡ spaces (v ++ r)
@@ -138,8 +144,8 @@ solid_line (c ∷ cs) a is e = ap (λ (l : List ℕ). is_end (place a.col l a.la
 pub solid_some : (a : At) → is_solid a.line ≡ true → is_end a ≡ false
 solid_some a e = solid_line a.line a refl e
 
-pub alike_words : (a c : At) → WordPlace a → WordPlace c → c.col ≡ a.col → Alike a c
-alike_words a c p q col = record {
+pub alike_scalar_tokens : (a c : At) → ScalarTokenPlace a → ScalarTokenPlace c → c.col ≡ a.col → Alike a c
+alike_scalar_tokens a c p q col = record {
   instead = record { col = col; some = solid_some a p.solid; other = q.solid };
   dash = q.dash ∙ sym p.dash;
   dashes = q.dashes ∙ sym p.dashes;

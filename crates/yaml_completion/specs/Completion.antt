@@ -1,8 +1,8 @@
--- What was told so far of a text can be completed.
+-- What was emitted so far of a text can be completed.
 use Rattle.std.specs.Prelude.{◌≡◌, ℕ, List, ◌∷◌, ◌++◌, Option}
 use Rattle.yaml_scan.specs.Lines.{lines_of}
 use Rattle.yaml_small.specs.declared.event.Event.{Event}
-use Rattle.yaml_small.specs.Trees.{Tree, stream_told, ends_again}
+use Rattle.yaml_small.specs.Trees.{Tree, stream_emitted, ends_again}
 use Rattle.yaml_small.specs.Places.{At}
 use Rattle.yaml_small.specs.Grammar.{Carried}
 
@@ -18,4 +18,4 @@ pub record Completed (text : List ℕ) (events : List Event) (a : At) : Type 0 w
   pub carried : Carried (front ++ other) tree
   pub more : List Event
   pub count : ℕ
-  pub told : stream_told tree (ends_again count) ≡ events ++ more
+  pub emitted : stream_emitted tree (ends_again count) ≡ events ++ more

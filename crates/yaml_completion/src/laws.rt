@@ -1,17 +1,12 @@
-//! Laws of what is told so far: each is a function that does nothing, and is proved of all texts.
+//! The law of what is emitted so far: a function that does nothing, and is proved of all texts.
 
-ghost use Rattle.std.specs.Prelude.{◌≡◌, ◌≤◌, ℕ, List, length};
+ghost use Rattle.std.specs.Prelude.{◌≡◌, ℕ, List};
 ghost use Rattle.yaml_small.specs.declared.event.Event.{Event};
 ghost use Rattle.yaml_small.specs.Stream.{State, start, Runs};
 ghost use Rattle.yaml_completion.specs.Completion.{Completed};
 
-/// Whatever the next step is, what was told so far can be completed: some carried document begins with the text in
-/// front of the place, and tells the same events first.
+/// Whatever the next step is, what was emitted so far can be completed: some carried document begins with the text in
+/// front of the place, and emits the same events first.
 pub fn each_event_can_be_completed()
     ensures { (text : List ℕ) (events : List Event) (s : State) → Runs (start text) events s → Completed text events s.at }
-{}
-
-/// At no time are more than 64 lists and maps open.
-pub fn depth_is_bounded()
-    ensures { (text : List ℕ) (events : List Event) (s : State) → Runs (start text) events s → length s.frames ≤ 64 }
 {}

@@ -1,11 +1,11 @@
--- Choices are read as what is told, and come back.
+-- Choices are read as what is emitted, and come back.
 use Rattle.std.proofs.Common.{◌≡◌, ℕ, List, Some, option_map, Ok, refl, ap, bytes_eq, codes}
 use Rattle.yaml_text.specs.Written as spec
 use Rattle.yaml_text.specs.Written.{ReadsBack, tree_of}
 use Rattle.yaml_read.specs.Source.{UnknownField}
 use Rattle.yaml_read.specs.Scalar.{unsigned, unsigned_at, signed, signed_at, any_at, unit_at}
 use Rattle.yaml_read.specs.Nodes.{plain_node, any_node, unit_node}
-use Rattle.yaml_read.specs.Told.{Reads}
+use Rattle.yaml_read.specs.Emitted.{Reads}
 use Rattle.yaml_read.specs.Laws.{plain_reads, any_reads, unit_reads}
 use Rattle.yaml_read.specs.PartLaws.{enum_reads, pair_reads, mapped_reads, choice_reads as or_reads, refused_reads}
 use Rattle.serde_yaml2.specs.ReturnLaws.{below_u64, unsigned_reads_back, unsigned_comes_back, signed_reads_back, signed_comes_back, pair_comes_back}
@@ -38,3 +38,6 @@ choice_comes_back (count n) h = ap (option_map count) (unsigned_comes_back 18446
 choice_comes_back (tuple x y) h =
     ap (option_map as_tuple) (pair_comes_back (plain_node (signed least most)) (any_node Ok) (spec.number x) (spec.text y) x y (signed_comes_back least most x refl refl h.0) refl)
 choice_comes_back (both x y) h = ap (option_map as_both) (sample_comes_back x y h)
+
+pub choice_alike : (c d : Kind) → c ≡ d → written_choice c ≡ written_choice d
+choice_alike c d e = ap written_choice e

@@ -1,5 +1,5 @@
 -- Nothing, a number, or a number and a text: what they are read from, and what is written for them.
-use Rattle.std.specs.Prelude.{ℕ, ◌≤◌, List, cond, Option, Result, Ok, ℤ, pos, bytes_eq, codes}
+use Rattle.std.specs.Prelude.{ℕ, ◌≤◌, List, if◌then◌else◌, Option, Result, Ok, ℤ, pos, bytes_eq, codes}
 use Rattle.std.specs.Str.{IsUtf8}
 use Rattle.yaml_small.specs.Trees.{Tree}
 use Rattle.yaml_text.specs.Written as spec
@@ -36,17 +36,19 @@ tuple_at = pair_at (signed_at least most) any_at
 -- a variant by its name
 abbrev pub takes : Kind → List ℕ → Option Tree → Option Kind
 takes _ key =
-    cond (bytes_eq key (codes "Nothing")) (mapped_node as_nothing unit_node)
-    (cond (bytes_eq key (codes "Number")) (mapped_node count (plain_node (unsigned 18446744073709551615)))
-    (cond (bytes_eq key (codes "VariantC")) (mapped_node as_tuple tuple_node)
-    (cond (bytes_eq key (codes "Both")) (mapped_node as_both sample_node) refused_node)))
+    if bytes_eq key (codes "Nothing") then mapped_node as_nothing unit_node
+    else if bytes_eq key (codes "Number") then mapped_node count (plain_node (unsigned 18446744073709551615))
+    else if bytes_eq key (codes "VariantC") then mapped_node as_tuple tuple_node
+    else if bytes_eq key (codes "Both") then mapped_node as_both sample_node
+    else refused_node
 
 abbrev pub fills : Kind → List ℕ → Source → Result (Kind × Source) Refusal
 fills _ key =
-    cond (bytes_eq key (codes "Nothing")) (mapped_at as_nothing unit_at)
-    (cond (bytes_eq key (codes "Number")) (mapped_at count (unsigned_at 18446744073709551615))
-    (cond (bytes_eq key (codes "VariantC")) (mapped_at as_tuple tuple_at)
-    (cond (bytes_eq key (codes "Both")) (mapped_at as_both sample_at) (refused_at (UnknownField key)))))
+    if bytes_eq key (codes "Nothing") then mapped_at as_nothing unit_at
+    else if bytes_eq key (codes "Number") then mapped_at count (unsigned_at 18446744073709551615)
+    else if bytes_eq key (codes "VariantC") then mapped_at as_tuple tuple_at
+    else if bytes_eq key (codes "Both") then mapped_at as_both sample_at
+    else refused_at (UnknownField key)
 
 abbrev pub choice_node : Option Tree → Option Kind
 choice_node = enum_node takes nothing

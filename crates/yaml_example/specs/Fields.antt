@@ -1,5 +1,5 @@
 -- A number and a text: what they are read from, and what is written for them.
-use Rattle.std.specs.Prelude.{ℕ, List, cond, Option, Some, None, Result, Ok, Err, ℤ, pos, negsuc, bytes_eq, codes}
+use Rattle.std.specs.Prelude.{ℕ, List, if◌then◌else◌, Option, Some, None, Result, Ok, Err, ℤ, pos, negsuc, bytes_eq, codes}
 use Rattle.std.specs.Str.{IsUtf8}
 use Rattle.yaml_small.specs.Trees.{Tree}
 use Rattle.yaml_text.specs.Written as spec
@@ -39,13 +39,15 @@ most = pos 9223372036854775807
 
 abbrev pub takes : Parts → List ℕ → Option Tree → Option Parts
 takes p key =
-    cond (bytes_eq key (codes "x")) (mapped_node (with_x p) (plain_node (signed least most)))
-    (cond (bytes_eq key (codes "y")) (mapped_node (with_y p) (any_node Ok)) refused_node)
+    if bytes_eq key (codes "x") then mapped_node (with_x p) (plain_node (signed least most))
+    else if bytes_eq key (codes "y") then mapped_node (with_y p) (any_node Ok)
+    else refused_node
 
 abbrev pub fills : Parts → List ℕ → Source → Result (Parts × Source) Refusal
 fills p key =
-    cond (bytes_eq key (codes "x")) (mapped_at (with_x p) (signed_at least most))
-    (cond (bytes_eq key (codes "y")) (mapped_at (with_y p) any_at) (refused_at (UnknownField key)))
+    if bytes_eq key (codes "x") then mapped_at (with_x p) (signed_at least most)
+    else if bytes_eq key (codes "y") then mapped_at (with_y p) any_at
+    else refused_at (UnknownField key)
 
 -- neither field may be missing
 abbrev pub with_both : ℤ → Option (List ℕ) → Result Seen Refusal

@@ -4,8 +4,6 @@
 
 mod choice;
 mod sample;
-#[cfg(test)]
-mod tests;
 
 pub use choice::Choice;
 pub use sample::Sample;

@@ -1,6 +1,6 @@
 //! A struct, which is a map of its fields.
 
-ghost use Rattle.yaml_read.specs.Answers.{Gives};
+ghost use Rattle.yaml_read.specs.Answers.{ReadGives};
 ghost use Rattle.yaml_example.specs.Fields as fields;
 ghost use Rattle.yaml_example.specs.FieldLaws as laws;
 
@@ -61,7 +61,7 @@ impl MapFill for SampleFill {
 
 /// The sample of its fields, of which none may be missing.
 fn sample_of(alloc: Global, x: Option<i64>, y: Option<Text>) -> Result<Sample, DeError>
-    ensures { Gives (λ s. fields.seen_sample s.x s.y) result (fields.sample_of (record { x = x; y = y })) }
+    ensures { ReadGives (λ s. fields.seen_sample s.x s.y) result (fields.sample_of (record { x = x; y = y })) }
 {
     let Some(x) = x else {
         return Err(DeError::MissingField(Text::copy_of(alloc, "x")?));
@@ -95,9 +95,11 @@ impl ReadYaml for Sample {
 
 /// The fields of a sample, lent.
 #[derive(Drop)]
-pub(crate) struct SampleFields<'a> {
-    pub(crate) x: i64,
-    pub(crate) y: &'a Text,
+pub struct SampleFields<'a> {
+    /// The number.
+    pub x: i64,
+    /// The text.
+    pub y: &'a Text,
 }
 
 impl WriteYaml for SampleFields<'_> {
@@ -130,6 +132,8 @@ impl RoundTrip for Sample {
     ghost Returns = { λ s. fields.SampleReturns s.x s.y };
 
     ghost reads_back = { λ s h. laws.sample_reads_back s.x s.y h };
+
+    ghost written_alike = { λ s r e. laws.sample_alike s.x s.y r.x r.y e };
 
     ghost comes_back = { λ s h. laws.sample_comes_back s.x s.y h };
 }

@@ -5,7 +5,7 @@ use Rattle.warg_values.specs.Reading.{◌>>=◌}
 use Rattle.yaml_small.specs.declared.event.Event.{Event}
 use Rattle.yaml_small.specs.Data.{Data}
 use Rattle.yaml_read.specs.declared.bracket.Bracket.TheVariants as brackets
-use Rattle.yaml_read.specs.Source.{Source, Refusal, WrongEvent, Endless, front}
+use Rattle.yaml_read.specs.Source.{Source, Refusal, WrongEvent, TooManyEvents, front}
 use Rattle.yaml_read.specs.Scalar.{any_at}
 use Rattle.yaml_read.specs.Collections.{is_stream_end, end_at, item_at, items_at, entry_at, entries_at, mapped_at, pushed, seq_at, map_at}
 use Rattle.yaml_read.proofs.Loops.{items_step, entries_step}
@@ -87,7 +87,7 @@ passed_entry_step read most at s lt =
     (bind_twice (any_at end.1) (λ key. item_at read key.1) (λ y. entries_at (value_passed read) (most - (at + 1)) y.0 y.1)))
 
 -- a value and what is nested in it, one level more
-pub data_none : (levels : ℕ) (s : Source) → levels ≡ 0 → data_at levels s ≡ Err Endless
+pub data_none : (levels : ℕ) (s : Source) → levels ≡ 0 → data_at levels s ≡ Err TooManyEvents
 unfolding data_at
 data_none levels s is = rw is refl
 
@@ -98,7 +98,7 @@ data_at_more levels inner s is = rw is refl
 pub data_more : (levels : ℕ) (s : Source) → 0 < levels → data_at levels s ≡ (front s >>= λ event. by_kind scalar_at (nested_in (data_at (levels - 1))) (nested_under (data_at (levels - 1))) event s)
 data_more levels s lt = data_at_more levels (levels - 1) s (omega arith)
 
-pub ignored_none : (levels : ℕ) (s : Source) → levels ≡ 0 → ignored_at levels s ≡ Err Endless
+pub ignored_none : (levels : ℕ) (s : Source) → levels ≡ 0 → ignored_at levels s ≡ Err TooManyEvents
 unfolding ignored_at
 ignored_none levels s is = rw is refl
 

@@ -2,7 +2,7 @@
 use Rattle.std.proofs.Common.{◌≡◌, ℕ, suc, ◌+◌, ◌-◌, ◌<◌, ◌≤◌, List, cond, Result, Ok, Err, refl, arith}
 use Rattle.warg_values.specs.Reading.{◌>>=◌}
 use Rattle.yaml_read.specs.declared.bracket.Bracket.TheVariants as brackets
-use Rattle.yaml_read.specs.Source.{Source, Refusal, Endless}
+use Rattle.yaml_read.specs.Source.{Source, Refusal, TooManyEvents}
 use Rattle.yaml_read.specs.Collections.{end_at, item_at, items_at, entry_at, entries_at}
 
 pub items_step : {X : Type 0} (fills : X → ℕ → Source → Result (X × Source) Refusal) (most at : ℕ) (x : X) (s : Source) → at < most
@@ -12,7 +12,7 @@ items_step {X} fills most at x s lt =
     let is : most - at ≡ suc (most - (at + 1)) = omega arith in
     rw is refl
 
-pub items_over : {X : Type 0} (fills : X → ℕ → Source → Result (X × Source) Refusal) (most at : ℕ) (x : X) (s : Source) → most ≤ at → items_at fills (most - at) at x s ≡ Err Endless
+pub items_over : {X : Type 0} (fills : X → ℕ → Source → Result (X × Source) Refusal) (most at : ℕ) (x : X) (s : Source) → most ≤ at → items_at fills (most - at) at x s ≡ Err TooManyEvents
 unfolding items_at
 items_over fills most at x s le = let is : most - at ≡ 0 = omega arith in rw is refl
 
@@ -26,7 +26,7 @@ entries_step {X} fills most at x s lt =
     let is : most - at ≡ suc (most - (at + 1)) = omega arith in
     rw is refl
 
-pub entries_over : {X : Type 0} (fills : X → List ℕ → Source → Result (X × Source) Refusal) (most at : ℕ) (x : X) (s : Source) → most ≤ at → entries_at fills (most - at) x s ≡ Err Endless
+pub entries_over : {X : Type 0} (fills : X → List ℕ → Source → Result (X × Source) Refusal) (most at : ℕ) (x : X) (s : Source) → most ≤ at → entries_at fills (most - at) x s ≡ Err TooManyEvents
 unfolding entries_at
 entries_over fills most at x s le = let is : most - at ≡ 0 = omega arith in rw is refl
 

@@ -4,7 +4,7 @@ use Rattle.warg_values.specs.Reading.{◌>>=◌}
 use Rattle.warg_values.specs.ReadingLaws.{bind_ok, ok_is}
 use Rattle.yaml_small.specs.declared.event.Event.{Event}
 use Rattle.yaml_small.specs.declared.event.Event.TheVariants as events
-use Rattle.yaml_small.specs.Trees.{Tree, Leaf, Seq, Map, told, stream_told, ends_again}
+use Rattle.yaml_small.specs.Trees.{Tree, Leaf, Seq, Map, emitted, stream_emitted, ends_again}
 use Rattle.yaml_small.specs.Scalars.{Fault}
 use Rattle.yaml_small.specs.Grammar.{Carried}
 use Rattle.yaml_small.specs.Step.{step_at}
@@ -12,16 +12,16 @@ use Rattle.yaml_small.specs.Stream.{State, next, start, Runs}
 use Rattle.yaml_small.specs.declared.error.ScanError.TheVariants as scans
 use Rattle.yaml_small.proofs.FoundText.{found}
 use Rattle.yaml_small.proofs.Carries.{is_carried}
-use Rattle.yaml_small.proofs.ToldText.{carried_told}
+use Rattle.yaml_small.proofs.EmittedText.{carried_emitted}
 use Rattle.yaml_small.proofs.Live.{stream_end}
 use Rattle.yaml_read.specs.declared.error.DeError.{DeError}
 use Rattle.yaml_read.specs.declared.error.DeError.TheVariants as errors
-use Rattle.yaml_read.specs.Answers.{Gives, Fails}
-use Rattle.yaml_read.specs.Source.{Source, Refusal, Endless, pull, front, event_alone}
+use Rattle.yaml_read.specs.Answers.{ReadGives, ReadFails}
+use Rattle.yaml_read.specs.Source.{Source, Refusal, TooManyEvents, pull, front, event_alone}
 use Rattle.yaml_read.specs.Collections.{is_stream_end}
-use Rattle.yaml_read.specs.Told.{Tells, Gets, Reads}
-use Rattle.yaml_read.specs.Taking.{pull_is, front_is}
-use Rattle.yaml_read.specs.Joins.{told_join, told_cut}
+use Rattle.yaml_read.specs.Emitted.{Emits, Gets, Reads}
+use Rattle.yaml_read.specs.TakingLaws.{pull_is, front_is}
+use Rattle.yaml_read.specs.JoinLaws.{emitted_join, emitted_cut}
 use Rattle.yaml_read.specs.Whole.{source_at, is_document_start, is_document_end, behind_start, opened_at, ended_stream, stream_end_at, ended_document, closed_at, whole_at, Holds}
 use Rattle.yaml_read.proofs.Tails.{tails}
 
@@ -70,9 +70,9 @@ closes s x m h = let a = bind_ok (front s) _ _ h in by_test a.0 a.1 (is_document
     by_test e f false is h = inr (stream_closed s x m h)
 
 -- the first event of a text
-start_tells : (text : List ℕ) → (z : State) × (next (start text) ≡ Ok (events.StreamStart, z))
+start_emits : (text : List ℕ) → (z : State) × (next (start text) ≡ Ok (events.StreamStart, z))
 unfolding next step_at
-start_tells text = (_, refl)
+start_emits text = (_, refl)
 
 -- the starts that were taken
 opens : (text : List ℕ) (s : Source) → opened_at text ≡ Ok s
@@ -81,7 +81,7 @@ unfolding opened_at
 opens text s h =
     let a = bind_ok (pull (source_at text)) _ _ h in
     let b = bind_ok (front a.0.1) _ _ a.2 in
-    let t = start_tells text in
+    let t = start_emits text in
     let here : next (start text) ≡ Ok (events.StreamStart, a.0.1.state) =
     pull_is (source_at text) a.0.0 a.0.1 a.1 ∙ ap (λ (v : Event × State). Ok (v.0, a.0.1.state)) (ok_is {F = Fault} (a.0.0, a.0.1.state) (events.StreamStart, t.0) (sym (pull_is (source_at text) a.0.0 a.0.1 a.1) ∙ t.1)) in
     by_test a.0.1 here b.0 b.1 (is_document_start b.0) refl b.2
@@ -95,10 +95,10 @@ opens text s h =
 
 -- The events from a text's start to its end are those of its document.
 abbrev IsDocument : List ℕ → List Event → Type 0
-IsDocument text es = (o : Option Tree) × Carried text o × (n : ℕ) × (es ≡ stream_told o (ends_again n))
+IsDocument text es = (o : Option Tree) × Carried text o × (n : ℕ) × (es ≡ stream_emitted o (ends_again n))
 
-tells_all : (text : List ℕ) (es : List Event) (k z : State) → Runs (start text) es z → next k ≡ Ok (events.StreamEnd, z) → IsDocument text es
-tells_all text es k z run last = let f = found text es (z, run, stream_end k z last) in (f.tree, f.carried, f.count, f.is)
+emits_all : (text : List ℕ) (es : List Event) (k z : State) → Runs (start text) es z → next k ≡ Ok (events.StreamEnd, z) → IsDocument text es
+emits_all text es k z run last = let f = found text es (z, run, stream_end k z last) in (f.tree, f.carried, f.count, f.is)
 
 -- Behind the start of a document a node stands, and behind a node the document's end.
 abbrev start_document : List Event → List Event
@@ -110,17 +110,17 @@ start_stream es = events.StreamStart ∷ es
 inside_one : (es fs : List Event) → start_document es ≡ start_document fs → es ≡ fs
 inside_one es fs h = cc
 
-no_end : (t : Tree) (o : Option Tree) (es : List Event) → start_document (told t (events.StreamEnd ∷ [])) ≡ stream_told o es → ⊥
+no_end : (t : Tree) (o : Option Tree) (es : List Event) → start_document (emitted t (events.StreamEnd ∷ [])) ≡ stream_emitted o es → ⊥
 no_end t None es h = cc
 no_end t (Some u) es h = let e = tails t u (events.StreamEnd ∷ []) (events.DocumentEnd ∷ events.StreamEnd ∷ es) (inside_one _ _ h) in cc
 
-no_node : (o : Option Tree) (es : List Event) → start_document (events.StreamEnd ∷ []) ≡ stream_told o es → ⊥
+no_node : (o : Option Tree) (es : List Event) → start_document (events.StreamEnd ∷ []) ≡ stream_emitted o es → ⊥
 no_node None es h = cc
 no_node (Some (Leaf s)) es h = cc
 no_node (Some (Seq ts)) es h = cc
 no_node (Some (Map ps)) es h = cc
 
-no_start : (t : Tree) (o : Option Tree) (es fs : List Event) → start_stream (told t fs) ≡ stream_told o es → ⊥
+no_start : (t : Tree) (o : Option Tree) (es fs : List Event) → start_stream (emitted t fs) ≡ stream_emitted o es → ⊥
 no_start (Leaf s) None es fs h = cc
 no_start (Seq ts) None es fs h = cc
 no_start (Map ps) None es fs h = cc
@@ -138,19 +138,19 @@ whole_found {X} of_node read law text x h =
     let f = law.sound a.0 b.0.0 b.0.1 b.1 in
     let same = ok_is {F = Refusal} b.0.0 x c.2 in
     let is : of_node f.node ≡ Some x = f.read ∙ ap Some same in
-    by_start a.0.state b.0.1.state c.0.1.state f.node f.told is (closes b.0.1 c.0.0 c.0.1 c.1) (opens text a.0 a.1)
+    by_start a.0.state b.0.1.state c.0.1.state f.node f.emitted is (closes b.0.1 c.0.0 c.0.1 c.1) (opens text a.0 a.1)
   where
-    bare : (s y z : State) (t : Tree) → Runs s (told t []) y → Runs (start text) (events.StreamStart ∷ []) s → Closes y z → ⊥
+    bare : (s y z : State) (t : Tree) → Runs s (emitted t []) y → Runs (start text) (events.StreamStart ∷ []) s → Closes y z → ⊥
     bare s y z t run begun (inl (k, first, last)) =
-        let d = tells_all text (start_stream (told t (events.DocumentEnd ∷ events.StreamEnd ∷ []))) k z
-        (begun.0, begun.1, subst (λ (q : State). Runs q (told t (events.DocumentEnd ∷ events.StreamEnd ∷ [])) z) (sym begun.2) (told_join s t y (events.DocumentEnd ∷ events.StreamEnd ∷ []) z run (k, first, (z, last, refl)))) last in
+        let d = emits_all text (start_stream (emitted t (events.DocumentEnd ∷ events.StreamEnd ∷ []))) k z
+        (begun.0, begun.1, subst (λ (q : State). Runs q (emitted t (events.DocumentEnd ∷ events.StreamEnd ∷ [])) z) (sym begun.2) (emitted_join s t y (events.DocumentEnd ∷ events.StreamEnd ∷ []) z run (k, first, (z, last, refl)))) last in
         no_start t d.0 (ends_again d.2) _ d.3
     bare s y z t run begun (inr last) =
-        let d = tells_all text (start_stream (told t (events.StreamEnd ∷ []))) y z
-        (begun.0, begun.1, subst (λ (q : State). Runs q (told t (events.StreamEnd ∷ [])) z) (sym begun.2) (told_join s t y (events.StreamEnd ∷ []) z run (z, last, refl))) last in
+        let d = emits_all text (start_stream (emitted t (events.StreamEnd ∷ []))) y z
+        (begun.0, begun.1, subst (λ (q : State). Runs q (emitted t (events.StreamEnd ∷ [])) z) (sym begun.2) (emitted_join s t y (events.StreamEnd ∷ []) z run (z, last, refl))) last in
         no_start t d.0 (ends_again d.2) _ d.3
 
-    within : (s y z : State) (t : Tree) → Runs s (told t []) y → Runs (start text) (events.StreamStart ∷ events.DocumentStart ∷ []) s → of_node (Some t) ≡ Some x → Closes y z → Holds of_node text x
+    within : (s y z : State) (t : Tree) → Runs s (emitted t []) y → Runs (start text) (events.StreamStart ∷ events.DocumentStart ∷ []) s → of_node (Some t) ≡ Some x → Closes y z → Holds of_node text x
     within s y z t run begun is (inl (k, first, last)) =
         let inner = begun.2 in (
           Some t,
@@ -160,24 +160,24 @@ whole_found {X} of_node read law text x h =
             (
               inner.0,
               inner.1,
-              subst (λ (q : State). Runs q (told t (events.DocumentEnd ∷ events.StreamEnd ∷ [])) z) (sym inner.2) (told_join s t y (events.DocumentEnd ∷ events.StreamEnd ∷ []) z run (k, first, (z, last, refl))),
+              subst (λ (q : State). Runs q (emitted t (events.DocumentEnd ∷ events.StreamEnd ∷ [])) z) (sym inner.2) (emitted_join s t y (events.DocumentEnd ∷ events.StreamEnd ∷ []) z run (k, first, (z, last, refl))),
             ),
           ),
           is,
         )
     within s y z t run begun is (inr last) =
         let inner = begun.2 in
-        let d = tells_all text (start_document (told t (events.StreamEnd ∷ []))) y z
-        (begun.0, begun.1, (inner.0, inner.1, subst (λ (q : State). Runs q (told t (events.StreamEnd ∷ [])) z) (sym inner.2) (told_join s t y (events.StreamEnd ∷ []) z run (z, last, refl)))) last in
+        let d = emits_all text (start_document (emitted t (events.StreamEnd ∷ []))) y z
+        (begun.0, begun.1, (inner.0, inner.1, subst (λ (q : State). Runs q (emitted t (events.StreamEnd ∷ [])) z) (sym inner.2) (emitted_join s t y (events.StreamEnd ∷ []) z run (z, last, refl)))) last in
         absurd (no_end t d.0 (ends_again d.2) d.3)
 
-    by_start : (s y z : State) (node : Option Tree) → Tells s node y → of_node node ≡ Some x → Closes y z
+    by_start : (s y z : State) (node : Option Tree) → Emits s node y → of_node node ≡ Some x → Closes y z
         → Runs (start text) (events.StreamStart ∷ events.DocumentStart ∷ []) s ⊎ Runs (start text) (events.StreamStart ∷ []) s → Holds of_node text x
     by_start s y z (Some t) run is close (inl begun) = within s y z t run begun is close
     by_start s y z (Some t) run is close (inr begun) = absurd (bare s y z t run begun close)
     by_start s y z None last is close (inl begun) =
         let inner = begun.2 in
-        let d = tells_all text (start_document (events.StreamEnd ∷ [])) s y (begun.0, begun.1, (inner.0, inner.1, (y, ap next inner.2 ∙ last, refl))) last in
+        let d = emits_all text (start_document (events.StreamEnd ∷ [])) s y (begun.0, begun.1, (inner.0, inner.1, (y, ap next inner.2 ∙ last, refl))) last in
         absurd (no_node d.0 (ends_again d.2) d.3)
     by_start s y z None last is close (inr begun) =
         (None, is_carried text None y (begun.0, begun.1, (y, ap next begun.2 ∙ last, refl)), is)
@@ -185,44 +185,44 @@ whole_found {X} of_node read law text x h =
 -- the value, or no further counting
 abbrev pub Answers : {X : Type 0} → X → Result X Refusal → Type 0
 Answers x (Ok y) = y ≡ x
-Answers x (Err refusal) = refusal ≡ Endless
+Answers x (Err refusal) = refusal ≡ TooManyEvents
 
-pull_or : {A : Type 0} (Q : Result A Refusal → Type 0) (s : Source) (e : Event) (z : State) (f : Event × Source → Result A Refusal) → next s.state ≡ Ok (e, z) → Q (Err Endless)
+pull_or : {A : Type 0} (Q : Result A Refusal → Type 0) (s : Source) (e : Event) (z : State) (f : Event × Source → Result A Refusal) → next s.state ≡ Ok (e, z) → Q (Err TooManyEvents)
     → ((m : Source) → m.state ≡ z → Q (f (e, m))) → Q (pull s >>= f)
 unfolding pull
 pull_or Q s e z f h none go = rw h (counted (eqb s.left 0))
   where
-    counted : (b : Bool) → Q (cond b (Err Endless) (Ok (e, record { state = z; left = s.left - 1 })) >>= f)
+    counted : (b : Bool) → Q (cond b (Err TooManyEvents) (Ok (e, record { state = z; left = s.left - 1 })) >>= f)
     counted true = none
     counted false = go (record { state = z; left = s.left - 1 }) refl
 
-front_or : {A : Type 0} (Q : Result A Refusal → Type 0) (s : Source) (e : Event) (z : State) (f : Event → Result A Refusal) → next s.state ≡ Ok (e, z) → Q (Err Endless) → Q (f e) → Q (front s >>= f)
+front_or : {A : Type 0} (Q : Result A Refusal → Type 0) (s : Source) (e : Event) (z : State) (f : Event → Result A Refusal) → next s.state ≡ Ok (e, z) → Q (Err TooManyEvents) → Q (f e) → Q (front s >>= f)
 unfolding pull front
 front_or Q s e z f h none go = rw h (counted (eqb s.left 0))
   where
-    counted : (b : Bool) → Q (event_alone (cond b (Err Endless) (Ok (e, record { state = z; left = s.left - 1 }))) >>= f)
+    counted : (b : Bool) → Q (event_alone (cond b (Err TooManyEvents) (Ok (e, record { state = z; left = s.left - 1 }))) >>= f)
     counted true = none
     counted false = go
 
-read_or : {A X : Type 0} (Q : Result A Refusal → Type 0) (left : ℕ) (x : X) (z : State) (r : Result (X × Source) Refusal) (f : X × Source → Result A Refusal) → Gets left x z r → Q (Err Endless)
+read_or : {A X : Type 0} (Q : Result A Refusal → Type 0) (left : ℕ) (x : X) (z : State) (r : Result (X × Source) Refusal) (f : X × Source → Result A Refusal) → Gets left x z r → Q (Err TooManyEvents)
     → ((m : Source) → m.state ≡ z → Q (f (x, m))) → Q (r >>= f)
 read_or {A} {X} Q left x z (Ok p) f h none go = subst (λ (v : X). Q (f (v, p.1))) (sym h.0) (go p.1 h.1)
 read_or {A} Q left x z (Err refusal) f h none go = subst (λ (v : Refusal). Q (Err v)) (sym h) none
 
-stream_end_or : {A : Type 0} (Q : Result A Refusal → Type 0) (s : Source) (z : State) (f : Unit {0} × Source → Result A Refusal) → next s.state ≡ Ok (events.StreamEnd, z) → Q (Err Endless)
+stream_end_or : {A : Type 0} (Q : Result A Refusal → Type 0) (s : Source) (z : State) (f : Unit {0} × Source → Result A Refusal) → next s.state ≡ Ok (events.StreamEnd, z) → Q (Err TooManyEvents)
     → ((m : Source) → Q (f (tt, m))) → Q (stream_end_at s >>= f)
 unfolding stream_end_at
 stream_end_or Q s z f h none go =
     front_or (λ r. Q (r >>= f)) s events.StreamEnd z _ h none (pull_or (λ r. Q (r >>= f)) s events.StreamEnd z _ h none (λ m at. go m))
 
-closed_or : {A : Type 0} (Q : Result A Refusal → Type 0) (s : Source) (z : State) (f : Unit {0} × Source → Result A Refusal) → Closes s.state z → Q (Err Endless) → ((m : Source) → Q (f (tt, m))) → Q (closed_at s >>= f)
+closed_or : {A : Type 0} (Q : Result A Refusal → Type 0) (s : Source) (z : State) (f : Unit {0} × Source → Result A Refusal) → Closes s.state z → Q (Err TooManyEvents) → ((m : Source) → Q (f (tt, m))) → Q (closed_at s >>= f)
 unfolding closed_at
 closed_or Q s z f (inl (k, first, last)) none go =
     front_or (λ r. Q (r >>= f)) s events.DocumentEnd k _ first none
     (pull_or (λ r. Q (r >>= f)) s events.DocumentEnd k _ first none (λ m at. stream_end_or Q m z f (ap next at ∙ last) none go))
 closed_or Q s z f (inr last) none go = front_or (λ r. Q (r >>= f)) s events.StreamEnd z _ last none (stream_end_or Q s z f last none go)
 
-opened_or : {A : Type 0} (Q : Result A Refusal → Type 0) (text : List ℕ) (y z : State) (e : Event) (f : Source → Result A Refusal) → next (start text) ≡ Ok (events.StreamStart, y) → next y ≡ Ok (e, z) → Q (Err Endless)
+opened_or : {A : Type 0} (Q : Result A Refusal → Type 0) (text : List ℕ) (y z : State) (e : Event) (f : Source → Result A Refusal) → next (start text) ≡ Ok (events.StreamStart, y) → next y ≡ Ok (e, z) → Q (Err TooManyEvents)
     → ((m : Source) → m.state ≡ cond (is_document_start e) z y → Q (f m)) → Q (opened_at text >>= f)
 unfolding opened_at
 opened_or {A} Q text y z e f here then none go =
@@ -237,7 +237,7 @@ opened_or {A} Q text y z e f here then none go =
 pub whole_answers : {X : Type 0} (of_node : Option Tree → Option X) (read : Source → Result (X × Source) Refusal) → Reads of_node read → (text : List ℕ) (x : X) → Holds of_node text x → Answers x (whole_at read text)
 unfolding whole_at
 whole_answers {X} of_node read law text x (None, carried, is) =
-    let t = carried_told text None 1 carried in
+    let t = carried_emitted text None 1 carried in
     let run = t.1 in
     let first = run.2 in
     let second = first.2 in
@@ -245,41 +245,41 @@ whole_answers {X} of_node read law text x (None, carried, is) =
     (λ s at. read_or (Answers x) s.left x first.0 (read s) _ (law.complete s None first.0 x (ap next at ∙ first.1) is) refl
     (λ m there. closed_or (Answers x) m second.0 _ (inr (ap next there ∙ second.1)) refl (λ k. refl)))
 whole_answers {X} of_node read law text x (Some t, carried, is) =
-    let told_all = carried_told text (Some t) 0 carried in
-    let run = told_all.1 in
+    let emitted_all = carried_emitted text (Some t) 0 carried in
+    let run = emitted_all.1 in
     let first = run.2 in
-    let c = told_cut first.0 t (events.DocumentEnd ∷ events.StreamEnd ∷ []) told_all.0 first.2 in
+    let c = emitted_cut first.0 t (events.DocumentEnd ∷ events.StreamEnd ∷ []) emitted_all.0 first.2 in
     let end = c.2 in
     let last = end.2 in
     opened_or (Answers x) text run.0 first.0 events.DocumentStart _ run.1 first.1 refl
-    (λ s at. read_or (Answers x) s.left x c.0 (read s) _ (law.complete s (Some t) c.0 x (subst (λ (q : State). Runs q (told t []) c.0) (sym at) c.1) is) refl
+    (λ s at. read_or (Answers x) s.left x c.0 (read s) _ (law.complete s (Some t) c.0 x (subst (λ (q : State). Runs q (emitted t []) c.0) (sym at) c.1) is) refl
     (λ m there. closed_or (Answers x) m last.0 _ (inl (end.0, ap next there ∙ end.1, last.1)) refl (λ k. refl)))
 
 abbrev read_ok : {X : Type 0} → X → Result X Refusal
 read_ok x = Ok x
 
 -- so the call gives it, or wants memory
-pub gives_answer : {V X : Type 0} (view : V → X) (result : Result V DeError) (r : Result X Refusal) (x : X) → Gives view result r → Answers x r → Gives view result (Ok x)
+pub gives_answer : {V X : Type 0} (view : V → X) (result : Result V DeError) (r : Result X Refusal) (x : X) → ReadGives view result r → Answers x r → ReadGives view result (Ok x)
 gives_answer {V} {X} view (Ok v) r x h a = let same : view v ≡ x = subst (λ (q : Result X Refusal). Answers x q) h a in ap read_ok (sym same)
-gives_answer {V} {X} view (Err e) (Ok y) x h a = subst (λ (q : X). Fails e (Ok q)) a h
-gives_answer {V} {X} view (Err e) (Err refusal) x h a = endless e (subst (λ (q : Refusal). Fails {Y = X} e (Err q)) a h)
+gives_answer {V} {X} view (Err e) (Ok y) x h a = subst (λ (q : X). ReadFails e (Ok q)) a h
+gives_answer {V} {X} view (Err e) (Err refusal) x h a = too_many e (subst (λ (q : Refusal). ReadFails {Y = X} e (Err q)) a h)
   where
-    endless : (e : DeError) → Fails {Y = X} e (Err Endless) → Fails e (Ok x)
-    endless errors.Memory h = tt
-    endless (errors.UnexpectedScalar expected text marker) h = absurd cc
-    endless (errors.UnexpectedEvent expected event marker) h = absurd cc
-    endless (errors.Scan scans.Memory) h = absurd h
-    endless (errors.Scan (scans.Form marker)) h = absurd cc
-    endless (errors.Scan (scans.NotCarried marker)) h = absurd cc
-    endless (errors.Scan (scans.TooDeep marker)) h = absurd cc
-    endless (errors.ParseNumber text) h = absurd cc
-    endless errors.Unsupported h = absurd cc
-    endless (errors.RealForm marker) h = absurd cc
-    endless (errors.NotEnded marker) h = absurd cc
-    endless (errors.UnknownField name) h = absurd cc
-    endless (errors.MissingField name) h = absurd cc
+    too_many : (e : DeError) → ReadFails {Y = X} e (Err TooManyEvents) → ReadFails e (Ok x)
+    too_many errors.Memory h = tt
+    too_many (errors.UnexpectedScalar expected text marker) h = absurd cc
+    too_many (errors.UnexpectedEvent expected event marker) h = absurd cc
+    too_many (errors.Scan scans.Memory) h = absurd h
+    too_many (errors.Scan (scans.Form marker)) h = absurd cc
+    too_many (errors.Scan (scans.NotCarried marker)) h = absurd cc
+    too_many (errors.Scan (scans.TooDeep marker)) h = absurd cc
+    too_many (errors.ParseNumber text) h = absurd cc
+    too_many errors.Unsupported h = absurd cc
+    too_many (errors.RealForm marker) h = absurd cc
+    too_many (errors.NotEnded marker) h = absurd cc
+    too_many (errors.UnknownField name) h = absurd cc
+    too_many (errors.MissingField name) h = absurd cc
 
 pub gives_found : {V X : Type 0} (view : V → X) (result : Result V DeError) (of_node : Option Tree → Option X) (read : Source → Result (X × Source) Refusal) → Reads of_node read → (text : List ℕ)
-    → Gives view result (whole_at read text) → IfOk result (λ v. Holds of_node text (view v))
+    → ReadGives view result (whole_at read text) → IfOk result (λ v. Holds of_node text (view v))
 gives_found view (Ok v) of_node read law text h = whole_found of_node read law text (view v) h
 gives_found view (Err e) of_node read law text h = tt

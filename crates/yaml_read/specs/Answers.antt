@@ -7,7 +7,7 @@ use Rattle.yaml_small.specs.Answers.{state_of, is_form}
 use Rattle.yaml_read.specs.declared.error.DeError.{DeError}
 use Rattle.yaml_read.specs.declared.error.DeError.TheVariants as errors
 use Rattle.yaml_read.specs.declared.deserializer.YamlDeserializer.{YamlDeserializer}
-use Rattle.yaml_read.specs.Source.{Source, Refusal, WrongScalar, WrongEvent, NoEvent, WrongNumber, RealForm, Unsupported, NotEnded, UnknownField, MissingField, Endless}
+use Rattle.yaml_read.specs.Source.{Source, Refusal, WrongScalar, WrongEvent, NoEvent, WrongNumber, RealForm, Unsupported, NotEnded, UnknownField, MissingField, TooManyEvents}
 
 -- what a deserializer reads from
 abbrev pub source_of : YamlDeserializer → Source
@@ -24,7 +24,7 @@ lacks_form (Err Unsupported) = false
 lacks_form (Err NotEnded) = false
 lacks_form (Err (UnknownField name)) = false
 lacks_form (Err (MissingField name)) = false
-lacks_form (Err Endless) = false
+lacks_form (Err TooManyEvents) = false
 
 abbrev pub FailsToScan : {Y : Type 0} → ScanError → Result Y Refusal → Type 0
 FailsToScan scans.Memory read = ⊥
@@ -33,22 +33,22 @@ FailsToScan (scans.NotCarried marker) read = read ≡ Err (NoEvent faults.NotCar
 FailsToScan (scans.TooDeep marker) read = read ≡ Err (NoEvent faults.TooDeep)
 
 -- An error is the refusal, wherever its marker stands and whatever was expected, or want of memory.
-abbrev pub Fails : {Y : Type 0} → DeError → Result Y Refusal → Type 0
-Fails errors.Memory read = Unit {0}
-Fails (errors.UnexpectedScalar expected text marker) read = read ≡ Err (WrongScalar text)
-Fails (errors.UnexpectedEvent expected event marker) read = read ≡ Err (WrongEvent event)
-Fails (errors.Scan error) read = FailsToScan error read
-Fails (errors.ParseNumber text) read = read ≡ Err (WrongNumber text)
-Fails errors.Unsupported read = read ≡ Err Unsupported
-Fails (errors.RealForm marker) read = read ≡ Err RealForm
-Fails (errors.NotEnded marker) read = read ≡ Err NotEnded
-Fails (errors.UnknownField name) read = read ≡ Err (UnknownField name)
-Fails (errors.MissingField name) read = read ≡ Err (MissingField name)
+abbrev pub ReadFails : {Y : Type 0} → DeError → Result Y Refusal → Type 0
+ReadFails errors.Memory read = Unit {0}
+ReadFails (errors.UnexpectedScalar expected text marker) read = read ≡ Err (WrongScalar text)
+ReadFails (errors.UnexpectedEvent expected event marker) read = read ≡ Err (WrongEvent event)
+ReadFails (errors.Scan error) read = FailsToScan error read
+ReadFails (errors.ParseNumber text) read = read ≡ Err (WrongNumber text)
+ReadFails errors.Unsupported read = read ≡ Err Unsupported
+ReadFails (errors.RealForm marker) read = read ≡ Err RealForm
+ReadFails (errors.NotEnded marker) read = read ≡ Err NotEnded
+ReadFails (errors.UnknownField name) read = read ≡ Err (UnknownField name)
+ReadFails (errors.MissingField name) read = read ≡ Err (MissingField name)
 
 -- What a call gave, seen by view, is what was to be read; and its error is the refusal.
-abbrev pub Gives : {X Y : Type 0} → (X → Y) → Result X DeError → Result Y Refusal → Type 0
-Gives view (Ok x) read = read ≡ Ok (view x)
-Gives view (Err e) read = Fails e read
+abbrev pub ReadGives : {X Y : Type 0} → (X → Y) → Result X DeError → Result Y Refusal → Type 0
+ReadGives view (Ok x) read = read ≡ Ok (view x)
+ReadGives view (Err e) read = ReadFails e read
 
 -- An error is this refusal, or want of memory.
 abbrev pub IsRefusal : DeError → Refusal → Type 0

@@ -9,7 +9,7 @@ use Rattle.yaml_small.specs.declared.schema.Resolved.TheVariants as kinds
 use Rattle.yaml_small.specs.Schema.{resolved}
 use Rattle.yaml_small.specs.Data.{Data, integer, text, boolean, array, hash, null, items_of, members_of}
 use Rattle.yaml_small.specs.Trees.{Tree, Leaf, Seq, Map, Trees, none, more, Pairs, no_pairs, pair}
-use Rattle.yaml_read.specs.Source.{Source, Refusal, WrongEvent, RealForm, Endless, front}
+use Rattle.yaml_read.specs.Source.{Source, Refusal, WrongEvent, RealForm, TooManyEvents, front}
 use Rattle.yaml_read.specs.Scalar.{any_at}
 use Rattle.yaml_read.specs.Collections.{seq_at, map_at, mapped_at, checked_at, pushed}
 use Rattle.yaml_read.specs.Nodes.{value_of}
@@ -80,9 +80,9 @@ nested_in read = mapped_at listed (seq_at (item_takes read) [])
 abbrev pub nested_under : (Source → Result (Data × Source) Refusal) → Source → Result (Data × Source) Refusal
 nested_under read = mapped_at mapped (map_at (entry_takes read) [])
 
--- A value, so many levels deep at most. The parser tells lists and maps of 64 levels, and scalars within.
+-- A value, so many levels deep at most. The parser emits lists and maps of 64 levels, and scalars within.
 unfoldable pub data_at : ℕ → Source → Result (Data × Source) Refusal
-data_at zero s = Err Endless
+data_at zero s = Err TooManyEvents
 data_at (suc levels) s = front s >>= λ event. by_kind scalar_at (nested_in (data_at levels)) (nested_under (data_at levels)) event s
 
 abbrev pub nothing_of : {X : Type 0} → X → Unit {0}
@@ -99,6 +99,6 @@ value_passed read _ key = read
 
 -- the same for a value that is passed over
 unfoldable pub ignored_at : ℕ → Source → Result (Unit {0} × Source) Refusal
-ignored_at zero s = Err Endless
+ignored_at zero s = Err TooManyEvents
 ignored_at (suc levels) s =
     front s >>= λ event. by_kind passed_scalar (seq_at (item_passed (ignored_at levels)) tt) (map_at (value_passed (ignored_at levels)) tt) event s

@@ -1,4 +1,4 @@
--- Reads of values of any kind, against the nodes that are told.
+-- Reads of values of any kind, against the nodes that are emitted.
 use Rattle.std.proofs.Common.{◌≡◌, ℕ, zero, suc, ◌+◌, List, [], Option, Some, None, option_map, option_and_then, Result, Ok, Err, refl, sym, ap, ◌∙◌, bytes_eq}
 use Rattle.indexmap.specs.IndexMap.{insert_entry}
 use Rattle.warg_values.specs.Reading.{◌>>=◌}
@@ -9,15 +9,15 @@ use Rattle.yaml_small.specs.declared.event.Style.{Style}
 use Rattle.yaml_small.specs.Data.{Data}
 use Rattle.yaml_small.specs.Trees.{Tree, Leaf, Seq, Map, Trees, none, more, Pairs, no_pairs, pair, scalar_event}
 use Rattle.yaml_small.specs.Stream.{State, next}
-use Rattle.yaml_read.specs.Source.{Source, Refusal, Endless, front}
+use Rattle.yaml_read.specs.Source.{Source, Refusal, TooManyEvents, front}
 use Rattle.yaml_read.specs.Scalar.{any_at}
 use Rattle.yaml_read.specs.Collections.{pushed, refused_at, seq_at, map_at}
 use Rattle.yaml_read.specs.Nodes.{any_node, mapped_node, checked_node, seq_as, seq_node, map_as, map_node}
 use Rattle.yaml_read.specs.Any.{scalar_data, listed, mapped, data_of, items_from, entries_from, data_node, ignored_node, by_kind, scalar_at, item_takes, entry_takes, nested_in, nested_under, data_at, nothing_of, passed_scalar, item_passed, value_passed, ignored_at}
-use Rattle.yaml_read.specs.Told.{Tells, Found, Gets, Reads}
-use Rattle.yaml_read.specs.Taking.{pull_is, front_is, fronts}
+use Rattle.yaml_read.specs.Emitted.{Emits, Found, Gets, Reads}
+use Rattle.yaml_read.specs.TakingLaws.{pull_is, front_is, fronts}
 use Rattle.yaml_read.specs.Laws.{any_reads}
-use Rattle.yaml_read.specs.CollectionLaws.{told_once, some_apart, seq_reads, map_reads}
+use Rattle.yaml_read.specs.CollectionLaws.{emitted_once, some_apart, seq_reads, map_reads}
 use Rattle.yaml_read.specs.PartLaws.{mapped_reads, checked_reads}
 
 -- a node by its kind
@@ -32,28 +32,28 @@ abbrev kind_at : {X : Type 0} → (Source → Result (X × Source) Refusal) → 
 kind_at scalar list entries s = front s >>= λ event. by_kind scalar list entries event s
 
 -- what was read by its kind is that node
-scalar_told : {X : Type 0} (scalar list entries : Option Tree → Option X) (s : State) (content : List ℕ) (style : Style) (w : State) → next s ≡ Ok (events.Scalar content style, w)
-    → (node : Option Tree) (z : State) (x : X) → Tells s node z → scalar node ≡ Some x → kind_node scalar list entries node ≡ Some x
-scalar_told scalar list entries s content style w here None z x telling is = told_once s (events.Scalar content style) events.StreamEnd w z here telling (λ same _. absurd cc)
-scalar_told scalar list entries s content style w here (Some (Leaf sc)) z x telling is = is
-scalar_told scalar list entries s content style w here (Some (Seq ts)) z x telling is =
-    told_once s (events.Scalar content style) events.SequenceStart w telling.0 here telling.1 (λ same _. absurd cc)
-scalar_told scalar list entries s content style w here (Some (Map ps)) z x telling is =
-    told_once s (events.Scalar content style) events.MappingStart w telling.0 here telling.1 (λ same _. absurd cc)
+scalar_emitted : {X : Type 0} (scalar list entries : Option Tree → Option X) (s : State) (content : List ℕ) (style : Style) (w : State) → next s ≡ Ok (events.Scalar content style, w)
+    → (node : Option Tree) (z : State) (x : X) → Emits s node z → scalar node ≡ Some x → kind_node scalar list entries node ≡ Some x
+scalar_emitted scalar list entries s content style w here None z x telling is = emitted_once s (events.Scalar content style) events.StreamEnd w z here telling (λ same _. absurd cc)
+scalar_emitted scalar list entries s content style w here (Some (Leaf sc)) z x telling is = is
+scalar_emitted scalar list entries s content style w here (Some (Seq ts)) z x telling is =
+    emitted_once s (events.Scalar content style) events.SequenceStart w telling.0 here telling.1 (λ same _. absurd cc)
+scalar_emitted scalar list entries s content style w here (Some (Map ps)) z x telling is =
+    emitted_once s (events.Scalar content style) events.MappingStart w telling.0 here telling.1 (λ same _. absurd cc)
 
-list_told : {X : Type 0} (scalar list entries : Option Tree → Option X) (s w : State) → next s ≡ Ok (events.SequenceStart, w)
-    → (node : Option Tree) (z : State) (x : X) → Tells s node z → list node ≡ Some x → kind_node scalar list entries node ≡ Some x
-list_told scalar list entries s w here None z x telling is = told_once s events.SequenceStart events.StreamEnd w z here telling (λ same _. absurd cc)
-list_told scalar list entries s w here (Some (Leaf sc)) z x telling is = told_once s events.SequenceStart (scalar_event sc) w telling.0 here telling.1 (λ same _. absurd cc)
-list_told scalar list entries s w here (Some (Seq ts)) z x telling is = is
-list_told scalar list entries s w here (Some (Map ps)) z x telling is = told_once s events.SequenceStart events.MappingStart w telling.0 here telling.1 (λ same _. absurd cc)
+list_emitted : {X : Type 0} (scalar list entries : Option Tree → Option X) (s w : State) → next s ≡ Ok (events.SequenceStart, w)
+    → (node : Option Tree) (z : State) (x : X) → Emits s node z → list node ≡ Some x → kind_node scalar list entries node ≡ Some x
+list_emitted scalar list entries s w here None z x telling is = emitted_once s events.SequenceStart events.StreamEnd w z here telling (λ same _. absurd cc)
+list_emitted scalar list entries s w here (Some (Leaf sc)) z x telling is = emitted_once s events.SequenceStart (scalar_event sc) w telling.0 here telling.1 (λ same _. absurd cc)
+list_emitted scalar list entries s w here (Some (Seq ts)) z x telling is = is
+list_emitted scalar list entries s w here (Some (Map ps)) z x telling is = emitted_once s events.SequenceStart events.MappingStart w telling.0 here telling.1 (λ same _. absurd cc)
 
-entries_told : {X : Type 0} (scalar list entries : Option Tree → Option X) (s w : State) → next s ≡ Ok (events.MappingStart, w)
-    → (node : Option Tree) (z : State) (x : X) → Tells s node z → entries node ≡ Some x → kind_node scalar list entries node ≡ Some x
-entries_told scalar list entries s w here None z x telling is = told_once s events.MappingStart events.StreamEnd w z here telling (λ same _. absurd cc)
-entries_told scalar list entries s w here (Some (Leaf sc)) z x telling is = told_once s events.MappingStart (scalar_event sc) w telling.0 here telling.1 (λ same _. absurd cc)
-entries_told scalar list entries s w here (Some (Seq ts)) z x telling is = told_once s events.MappingStart events.SequenceStart w telling.0 here telling.1 (λ same _. absurd cc)
-entries_told scalar list entries s w here (Some (Map ps)) z x telling is = is
+entries_emitted : {X : Type 0} (scalar list entries : Option Tree → Option X) (s w : State) → next s ≡ Ok (events.MappingStart, w)
+    → (node : Option Tree) (z : State) (x : X) → Emits s node z → entries node ≡ Some x → kind_node scalar list entries node ≡ Some x
+entries_emitted scalar list entries s w here None z x telling is = emitted_once s events.MappingStart events.StreamEnd w z here telling (λ same _. absurd cc)
+entries_emitted scalar list entries s w here (Some (Leaf sc)) z x telling is = emitted_once s events.MappingStart (scalar_event sc) w telling.0 here telling.1 (λ same _. absurd cc)
+entries_emitted scalar list entries s w here (Some (Seq ts)) z x telling is = emitted_once s events.MappingStart events.SequenceStart w telling.0 here telling.1 (λ same _. absurd cc)
+entries_emitted scalar list entries s w here (Some (Map ps)) z x telling is = is
 
 kind_found : {X : Type 0} (scalar list entries : Option Tree → Option X) (read each all : Source → Result (X × Source) Refusal) → Reads scalar read → Reads list each → Reads entries all
     → (s : Source) (x : X) (m : Source) → kind_at read each all s ≡ Ok (x, m) → Found (kind_node scalar list entries) s x m
@@ -65,15 +65,15 @@ kind_found {X} scalar list entries read each all law rule norm s x m h =
     by_event : (e : Event) (w : State) → next s.state ≡ Ok (e, w) → by_kind read each all e s ≡ Ok (x, m) → Found (kind_node scalar list entries) s x m
     by_event (events.Scalar content style) w here h =
         let f = law.sound s x m h in
-        record { node = f.node; told = f.told; read = scalar_told scalar list entries s.state content style w here f.node m.state x f.told f.read }
+        record { node = f.node; emitted = f.emitted; read = scalar_emitted scalar list entries s.state content style w here f.node m.state x f.emitted f.read }
     by_event events.SequenceStart w here h =
-        let f = rule.sound s x m h in record { node = f.node; told = f.told; read = list_told scalar list entries s.state w here f.node m.state x f.told f.read }
+        let f = rule.sound s x m h in record { node = f.node; emitted = f.emitted; read = list_emitted scalar list entries s.state w here f.node m.state x f.emitted f.read }
     by_event events.MappingStart w here h =
-        let f = norm.sound s x m h in record { node = f.node; told = f.told; read = entries_told scalar list entries s.state w here f.node m.state x f.told f.read }
+        let f = norm.sound s x m h in record { node = f.node; emitted = f.emitted; read = entries_emitted scalar list entries s.state w here f.node m.state x f.emitted f.read }
     by_event e w here h = absurd cc
 
 kind_gets : {X : Type 0} (scalar list entries : Option Tree → Option X) (read each all : Source → Result (X × Source) Refusal) → Reads scalar read → Reads list each → Reads entries all
-    → (s : Source) (node : Option Tree) (z : State) (x : X) → Tells s.state node z → kind_node scalar list entries node ≡ Some x → Gets s.left x z (kind_at read each all s)
+    → (s : Source) (node : Option Tree) (z : State) (x : X) → Emits s.state node z → kind_node scalar list entries node ≡ Some x → Gets s.left x z (kind_at read each all s)
 kind_gets scalar list entries read each all law rule norm s None z x run is = absurd (some_apart x is)
 kind_gets scalar list entries read each all law rule norm s (Some (Leaf sc)) z x run is = fronts s.left s (scalar_event sc) run.0 x z _ run.1 (law.complete s (Some (Leaf sc)) z x run is)
 kind_gets scalar list entries read each all law rule norm s (Some (Seq ts)) z x run is = fronts s.left s events.SequenceStart run.0 x z _ run.1 (rule.complete s (Some (Seq ts)) z x run is)
@@ -85,16 +85,16 @@ kind_reads scalar list entries read each all law rule norm =
     record { sound = kind_found scalar list entries read each all law rule norm; complete = kind_gets scalar list entries read each all law rule norm }
 
 -- a read that counts no further
-err_apart : {A : Type 0} (x : A) → Err Endless ≡ Ok x → ⊥
+err_apart : {A : Type 0} (x : A) → Err TooManyEvents ≡ Ok x → ⊥
 err_apart x h = cc
 
-endless_reads : {X : Type 0} (of_node : Option Tree → Option X) → Reads of_node (refused_at Endless)
-endless_reads of_node = record { sound = λ s x m h. absurd (err_apart (x, m) h); complete = λ s node z x run is. refl }
+too_many_reads : {X : Type 0} (of_node : Option Tree → Option X) → Reads of_node (refused_at TooManyEvents)
+too_many_reads of_node = record { sound = λ s x m h. absurd (err_apart (x, m) h); complete = λ s node z x run is. refl }
 
 -- two names for the same nodes
 reads_as : {X : Type 0} (of_node other : Option Tree → Option X) (read : Source → Result (X × Source) Refusal) → ((node : Option Tree) → of_node node ≡ other node) → Reads of_node read → Reads other read
 reads_as of_node other read same law = record {
-  sound = λ s x m h. let f = law.sound s x m h in record { node = f.node; told = f.told; read = sym (same f.node) ∙ f.read };
+  sound = λ s x m h. let f = law.sound s x m h in record { node = f.node; emitted = f.emitted; read = sym (same f.node) ∙ f.read };
   complete = λ s node z x run is. law.complete s node z x run (same node ∙ is);
 }
 
@@ -151,7 +151,7 @@ by_kinds (Some (Map ps)) = ap (option_map mapped) (entries_are ps [])
 -- the read of a value takes what the node of it is
 pub data_reads : (levels : ℕ) → Reads data_node (data_at levels)
 unfolding data_at
-data_reads zero = endless_reads data_node
+data_reads zero = too_many_reads data_node
 data_reads (suc levels) =
     reads_as (kind_node scalar_of list_of entries_of) data_node _ by_kinds
     (kind_reads scalar_of list_of entries_of scalar_at (nested_in (data_at levels)) (nested_under (data_at levels)) scalar_reads
@@ -186,7 +186,7 @@ passed_reads = mapped_reads nothing_of (any_node Ok) any_at any_reads
 -- what is passed over is one value
 pub ignored_reads : (levels : ℕ) → Reads ignored_node (ignored_at levels)
 unfolding ignored_at item_passed value_passed
-ignored_reads zero = endless_reads ignored_node
+ignored_reads zero = too_many_reads ignored_node
 ignored_reads (suc levels) =
     reads_as (kind_node passed_scalar_of passed_list passed_map) ignored_node _ passed_kinds
     (kind_reads passed_scalar_of passed_list passed_map passed_scalar (seq_at (item_passed (ignored_at levels)) tt) (map_at (value_passed (ignored_at levels)) tt) passed_reads

@@ -1,26 +1,26 @@
--- Reads of lists, maps and what may be missing, against the nodes that are told.
+-- Reads of lists, maps and what may be missing, against the nodes that are emitted.
 use Rattle.std.proofs.Common.{◌≡◌, ℕ, zero, suc, ◌+◌, ◌<◌, ◌≤◌, nat_lt, List, [], ◌∷◌, Bool, true, false, cond, Option, Some, None, option_and_then, Result, Ok, Err, refl, sym, ap, ◌∙◌, subst, arith}
 use Rattle.std.proofs.lemmas.Bool.{lt-ltb}
 use Rattle.warg_values.specs.Reading.{◌>>=◌}
 use Rattle.warg_values.specs.ReadingLaws.{bind_ok, ok_is, guard_ok, wanted_ok}
 use Rattle.yaml_small.specs.declared.event.Event.{Event}
 use Rattle.yaml_small.specs.declared.event.Event.TheVariants as events
-use Rattle.yaml_small.specs.Trees.{Scalar, Tree, Leaf, Seq, Map, Trees, none, more, Pairs, no_pairs, pair, scalar_event, told, each_told, pairs_told}
+use Rattle.yaml_small.specs.Trees.{Scalar, Tree, Leaf, Seq, Map, Trees, none, more, Pairs, no_pairs, pair, scalar_event, emitted, each_emitted, pairs_emitted}
 use Rattle.yaml_small.specs.Stream.{State, next, Runs}
 use Rattle.yaml_read.specs.declared.bracket.Bracket.{Bracket}
 use Rattle.yaml_read.specs.declared.bracket.Bracket.TheVariants as brackets
 use Rattle.yaml_read.specs.Source.{Source, Refusal, WrongEvent, pull, front}
 use Rattle.yaml_read.specs.Scalar.{any_at}
 use Rattle.yaml_read.specs.Collections.{is_bracket, wanted, bracket_at, ended, end_at, is_stream_end, item_at, items_at, seq_at, entry_at, entries_at, map_at}
-use Rattle.yaml_read.specs.Told.{Tells, Found, Gets, Reads}
+use Rattle.yaml_read.specs.Emitted.{Emits, Found, Gets, Reads}
 use Rattle.yaml_read.specs.Nodes.{any_node, seq_as, seq_node, map_as, map_node}
-use Rattle.yaml_read.specs.Taking.{pull_is, front_is, pulls, fronts, gets_then, gets_more}
+use Rattle.yaml_read.specs.TakingLaws.{pull_is, front_is, pulls, fronts, gets_then, gets_more}
 use Rattle.yaml_read.specs.Laws.{taken_is, taken_gets, some_is, any_reads, one_event}
-use Rattle.yaml_read.specs.Joins.{told_join, told_cut, begins_of}
+use Rattle.yaml_read.specs.JoinLaws.{emitted_join, emitted_cut, begins_of}
 
--- what was told once is told
-pub told_once : {P : Type 0} (s : State) (e d : Event) (m z : State) → next s ≡ Ok (e, m) → next s ≡ Ok (d, z) → (e ≡ d → m ≡ z → P) → P
-told_once {P} s e d m z a b go =
+-- what was emitted once is emitted
+pub emitted_once : {P : Type 0} (s : State) (e d : Event) (m z : State) → next s ≡ Ok (e, m) → next s ≡ Ok (d, z) → (e ≡ d → m ≡ z → P) → P
+emitted_once {P} s e d m z a b go =
     let same = ok_is (e, m) (d, z) (sym a ∙ b) in go (ap (λ (p : Event × State). p.0) same) (ap (λ (p : Event × State). p.1) same)
 
 pub true_false : true ≡ false → ⊥
@@ -98,7 +98,7 @@ end_stays left b s e z x w f here is go = rw (bind_twice (front s) (λ event. en
 
 -- a value within a list or map is that of a tree
 pub item_found : {X : Type 0} (of_node : Option Tree → Option X) (read : Source → Result (X × Source) Refusal) → Reads of_node read → (s : Source) (x : X) (m : Source) → item_at read s ≡ Ok (x, m)
-    → (t : Tree) × Runs s.state (told t []) m.state × (of_node (Some t) ≡ Some x)
+    → (t : Tree) × Runs s.state (emitted t []) m.state × (of_node (Some t) ≡ Some x)
 unfolding item_at
 item_found {X} of_node read law s x m h =
     let a = bind_ok (front s) _ _ h in
@@ -108,21 +108,21 @@ item_found {X} of_node read law s x m h =
     let f = law.sound s b.0.0 b.0.1 b.1 in
     let at = front_is s a.0 a.1 in
     let same = ok_is {F = Refusal} b.0 (x, m) p.1 in
-    by_node f.node b.0 f.told f.read a.0 at.0.state (pull_is s a.0 at.0 at.1) g.0 same
+    by_node f.node b.0 f.emitted f.read a.0 at.0.state (pull_is s a.0 at.0 at.1) g.0 same
   where
-    by_node : (node : Option Tree) (y : X × Source) → Tells s.state node y.1.state → of_node node ≡ Some y.0 → (e : Event) (w : State) → next s.state ≡ Ok (e, w) → is_stream_end e ≡ false → y ≡ (x, m)
-        → (t : Tree) × Runs s.state (told t []) m.state × (of_node (Some t) ≡ Some x)
-    by_node None y telling is e w here goes same = told_once s.state e events.StreamEnd w y.1.state here telling (λ as_end _. absurd (true_false (ap is_stream_end (sym as_end) ∙ goes)))
-    by_node (Some t) y telling is e w here goes same =
-        (t, subst (λ (v : X × Source). Runs s.state (told t []) v.1.state) same telling, is ∙ ap (λ (v : X × Source). Some v.0) same)
+    by_node : (node : Option Tree) (y : X × Source) → Emits s.state node y.1.state → of_node node ≡ Some y.0 → (e : Event) (w : State) → next s.state ≡ Ok (e, w) → is_stream_end e ≡ false → y ≡ (x, m)
+        → (t : Tree) × Runs s.state (emitted t []) m.state × (of_node (Some t) ≡ Some x)
+    by_node None y telling is e w here continues same = emitted_once s.state e events.StreamEnd w y.1.state here telling (λ as_end _. absurd (true_false (ap is_stream_end (sym as_end) ∙ continues)))
+    by_node (Some t) y telling is e w here continues same =
+        (t, subst (λ (v : X × Source). Runs s.state (emitted t []) v.1.state) same telling, is ∙ ap (λ (v : X × Source). Some v.0) same)
 
 pub item_gets : {X : Type 0} (of_node : Option Tree → Option X) (read : Source → Result (X × Source) Refusal) → Reads of_node read → (s : Source) (t : Tree) (z : State) (x : X)
-    → Runs s.state (told t []) z → of_node (Some t) ≡ Some x → Gets s.left x z (item_at read s)
+    → Runs s.state (emitted t []) z → of_node (Some t) ≡ Some x → Gets s.left x z (item_at read s)
 unfolding item_at
 item_gets of_node read law s t z x run is =
     let b = begins_of s.state t [] z run in
     fronts s.left s b.event b.behind x z _ b.here
-    (rw b.goes (gets_then s.left s.left x z x z (read s) _ (law.complete s (Some t) z x run is) (λ m at less. rw (lt-ltb m.left s.left less) (refl, at, less))))
+    (rw b.continues (gets_then s.left s.left x z x z (read s) _ (law.complete s (Some t) z x run is) (λ m at less. rw (lt-ltb m.left s.left less) (refl, at, less))))
 
 pub some_apart : {A : Type 0} (x : A) → None ≡ Some x → ⊥
 some_apart x h = cc
@@ -134,15 +134,15 @@ then_some (Some x) f y h go = go x refl h
 
 -- the items of a list up to its end
 items_found : {X : Type 0} (takes : X → ℕ → Option Tree → Option X) (fills : X → ℕ → Source → Result (X × Source) Refusal) → ((x : X) (at : ℕ) → Reads (takes x at) (fills x at))
-    → (n at : ℕ) (x : X) (s : Source) (y : X) (m : Source) → items_at fills n at x s ≡ Ok (y, m) → (ts : Trees) × Runs s.state (each_told ts (events.SequenceEnd ∷ [])) m.state × (seq_as takes at x ts ≡ Some y)
+    → (n at : ℕ) (x : X) (s : Source) (y : X) (m : Source) → items_at fills n at x s ≡ Ok (y, m) → (ts : Trees) × Runs s.state (each_emitted ts (events.SequenceEnd ∷ [])) m.state × (seq_as takes at x ts ≡ Some y)
 unfolding items_at
 items_found takes fills law zero at x s y m h = absurd cc
 items_found {X} takes fills law (suc n) at x s y m h =
     let a = bind_ok (end_at brackets.ListEnd s) _ _ h in by_end (λ v w. items_found takes fills law n (at + 1) v w y m) a.0.0 a.0.1 a.1 a.2
   where
-    by_end : ((v : X) (w : Source) → items_at fills n (at + 1) v w ≡ Ok (y, m) → (ts : Trees) × Runs w.state (each_told ts (events.SequenceEnd ∷ [])) m.state × (seq_as takes (at + 1) v ts ≡ Some y))
+    by_end : ((v : X) (w : Source) → items_at fills n (at + 1) v w ≡ Ok (y, m) → (ts : Trees) × Runs w.state (each_emitted ts (events.SequenceEnd ∷ [])) m.state × (seq_as takes (at + 1) v ts ≡ Some y))
         → (b : Bool) (w : Source) → end_at brackets.ListEnd s ≡ Ok (b, w) → cond b (Ok (x, w)) (item_at (fills x at) w >>= λ y. items_at fills n (at + 1) y.0 y.1) ≡ Ok (y, m)
-        → (ts : Trees) × Runs s.state (each_told ts (events.SequenceEnd ∷ [])) m.state × (seq_as takes at x ts ≡ Some y)
+        → (ts : Trees) × Runs s.state (each_emitted ts (events.SequenceEnd ∷ [])) m.state × (seq_as takes at x ts ≡ Some y)
     by_end others true w e h =
         let t = end_taken brackets.ListEnd s w e in
         let same = ok_is {F = Refusal} (x, w) (y, m) h in
@@ -152,25 +152,25 @@ items_found {X} takes fills law (suc n) at x s y m h =
         let f = item_found (takes x at) (fills x at) (law x at) w i.0.0 i.0.1 i.1 in
         let r = others i.0.0 i.0.1 i.2 in (
           more f.0 r.0,
-          subst (λ (v : Source). Runs v.state (told f.0 (each_told r.0 (events.SequenceEnd ∷ []))) m.state) (sym (end_missing brackets.ListEnd s w e)) (told_join w.state f.0 i.0.1.state (each_told r.0 (events.SequenceEnd ∷ [])) m.state f.1 r.1),
+          subst (λ (v : Source). Runs v.state (emitted f.0 (each_emitted r.0 (events.SequenceEnd ∷ []))) m.state) (sym (end_missing brackets.ListEnd s w e)) (emitted_join w.state f.0 i.0.1.state (each_emitted r.0 (events.SequenceEnd ∷ [])) m.state f.1 r.1),
           ap (option_and_then (λ v. seq_as takes (at + 1) v r.0)) f.2 ∙ r.2,
         )
 
 items_gets : {X : Type 0} (takes : X → ℕ → Option Tree → Option X) (fills : X → ℕ → Source → Result (X × Source) Refusal) → ((x : X) (at : ℕ) → Reads (takes x at) (fills x at))
-    → (ts : Trees) (n at : ℕ) (x : X) (s : Source) (z : State) (y : X) → Runs s.state (each_told ts (events.SequenceEnd ∷ [])) z → seq_as takes at x ts ≡ Some y → Gets s.left y z (items_at fills n at x s)
+    → (ts : Trees) (n at : ℕ) (x : X) (s : Source) (z : State) (y : X) → Runs s.state (each_emitted ts (events.SequenceEnd ∷ [])) z → seq_as takes at x ts ≡ Some y → Gets s.left y z (items_at fills n at x s)
 unfolding items_at
 items_gets takes fills law ts zero at x s z y run is = refl
 items_gets {X} takes fills law none (suc n) at x s z y run is =
     gets_then s.left s.left true z y z (end_at brackets.ListEnd s) _ (end_gets brackets.ListEnd s events.SequenceEnd z (one_event s.state events.SequenceEnd z run) refl)
     (λ m at less. (some_is x y is, at, less))
 items_gets {X} takes fills law (more t ts) (suc n) at x s z y run is =
-    let b = begins_of s.state t (each_told ts (events.SequenceEnd ∷ [])) z run in
-    let c = told_cut s.state t (each_told ts (events.SequenceEnd ∷ [])) z run in
+    let b = begins_of s.state t (each_emitted ts (events.SequenceEnd ∷ [])) z run in
+    let c = emitted_cut s.state t (each_emitted ts (events.SequenceEnd ∷ [])) z run in
     then_some (takes x at (Some t)) (λ v. seq_as takes (at + 1) v ts) y is (λ v first rest.
     end_stays s.left brackets.ListEnd s b.event b.behind y z _ b.here b.list
     (gets_then s.left s.left v c.0 y z (item_at (fills x at) s) _ (item_gets (takes x at) (fills x at) (law x at) s t c.0 v c.1 first)
     (λ m there less. gets_more m.left s.left y z _ (below m less)
-    (items_gets takes fills law ts n (at + 1) v m z y (subst (λ (q : State). Runs q (each_told ts (events.SequenceEnd ∷ [])) z) (sym there) c.2) rest))))
+    (items_gets takes fills law ts n (at + 1) v m z y (subst (λ (q : State). Runs q (each_emitted ts (events.SequenceEnd ∷ [])) z) (sym there) c.2) rest))))
   where
     below : (m : Source) → m.left < s.left → m.left ≤ s.left
     below m less = omega arith
@@ -184,12 +184,12 @@ seq_found takes fills law x s y m h =
     let f = items_found takes fills law a.0.1.left 0 x a.0.1 y m a.2 in
     record {
       node = Some (Seq f.0);
-      told = (a.0.1.state, start.1 ∙ ap (λ (v : Event). Ok (v, a.0.1.state)) (list_start start.0 start.2), f.1);
+      emitted = (a.0.1.state, start.1 ∙ ap (λ (v : Event). Ok (v, a.0.1.state)) (list_start start.0 start.2), f.1);
       read = f.2;
     }
 
 seq_gets : {X : Type 0} (takes : X → ℕ → Option Tree → Option X) (fills : X → ℕ → Source → Result (X × Source) Refusal) → ((x : X) (at : ℕ) → Reads (takes x at) (fills x at))
-    → (x : X) (s : Source) (node : Option Tree) (z : State) (y : X) → Tells s.state node z → seq_node takes x node ≡ Some y → Gets s.left y z (seq_at fills x s)
+    → (x : X) (s : Source) (node : Option Tree) (z : State) (y : X) → Emits s.state node z → seq_node takes x node ≡ Some y → Gets s.left y z (seq_at fills x s)
 unfolding seq_at
 seq_gets takes fills law x s None z y run is = absurd (some_apart y is)
 seq_gets takes fills law x s (Some (Leaf sc)) z y run is = absurd (some_apart y is)
@@ -197,7 +197,7 @@ seq_gets takes fills law x s (Some (Map ps)) z y run is = absurd (some_apart y i
 seq_gets takes fills law x s (Some (Seq ts)) z y run is =
     gets_then s.left s.left tt run.0 y z (bracket_at brackets.ListStart s) _ (bracket_gets brackets.ListStart s events.SequenceStart run.0 run.1 refl)
     (λ m there less. gets_more m.left s.left y z _ (below m less)
-    (items_gets takes fills law ts m.left 0 x m z y (subst (λ (q : State). Runs q (each_told ts (events.SequenceEnd ∷ [])) z) (sym there) run.2) is))
+    (items_gets takes fills law ts m.left 0 x m z y (subst (λ (q : State). Runs q (each_emitted ts (events.SequenceEnd ∷ [])) z) (sym there) run.2) is))
   where
     below : (m : Source) → m.left < s.left → m.left ≤ s.left
     below m less = omega arith
@@ -209,16 +209,16 @@ seq_reads takes fills law x = record { sound = seq_found takes fills law x; comp
 
 -- an entry of a map, and its entries up to its end
 pub entry_found : {X : Type 0} (takes : X → List ℕ → Option Tree → Option X) (fills : X → List ℕ → Source → Result (X × Source) Refusal) → ((x : X) (key : List ℕ) → Reads (takes x key) (fills x key))
-    → (x : X) (s : Source) (y : X) (m : Source) → entry_at fills x s ≡ Ok (y, m) → (key : Scalar) × ((t : Tree) × (Runs s.state (scalar_event key ∷ told t []) m.state × (takes x key.text (Some t) ≡ Some y)))
+    → (x : X) (s : Source) (y : X) (m : Source) → entry_at fills x s ≡ Ok (y, m) → (key : Scalar) × ((t : Tree) × (Runs s.state (scalar_event key ∷ emitted t []) m.state × (takes x key.text (Some t) ≡ Some y)))
 unfolding entry_at
 entry_found {X} takes fills law x s y m h =
     let a = bind_ok (any_at s) _ _ h in
     let k = any_reads.sound s a.0.0 a.0.1 a.1 in
     let f = item_found (takes x a.0.0) (fills x a.0.0) (law x a.0.0) a.0.1 y m a.2 in
-    by_node a.0.0 a.0.1 k.node k.told k.read f.0 f.1 f.2
+    by_node a.0.0 a.0.1 k.node k.emitted k.read f.0 f.1 f.2
   where
-    by_node : (text : List ℕ) (w : Source) (node : Option Tree) → Tells s.state node w.state → any_node Ok node ≡ Some text → (t : Tree) → Runs w.state (told t []) m.state → takes x text (Some t) ≡ Some y
-        → (key : Scalar) × ((t : Tree) × (Runs s.state (scalar_event key ∷ told t []) m.state × (takes x key.text (Some t) ≡ Some y)))
+    by_node : (text : List ℕ) (w : Source) (node : Option Tree) → Emits s.state node w.state → any_node Ok node ≡ Some text → (t : Tree) → Runs w.state (emitted t []) m.state → takes x text (Some t) ≡ Some y
+        → (key : Scalar) × ((t : Tree) × (Runs s.state (scalar_event key ∷ emitted t []) m.state × (takes x key.text (Some t) ≡ Some y)))
     by_node text w None telling is t run value = absurd (some_apart text is)
     by_node text w (Some (Seq ts)) telling is t run value = absurd (some_apart text is)
     by_node text w (Some (Map ps)) telling is t run value = absurd (some_apart text is)
@@ -226,26 +226,26 @@ entry_found {X} takes fills law x s y m h =
         (sc, (t, ((w.state, one_event s.state (scalar_event sc) w.state telling, run), ap (λ (v : List ℕ). takes x v (Some t)) (some_is sc.text text is) ∙ value)))
 
 pub entry_gets : {X : Type 0} (takes : X → List ℕ → Option Tree → Option X) (fills : X → List ℕ → Source → Result (X × Source) Refusal) → ((x : X) (key : List ℕ) → Reads (takes x key) (fills x key))
-    → (x : X) (s : Source) (key : Scalar) (t : Tree) (z : State) (y : X) → Runs s.state (scalar_event key ∷ told t []) z → takes x key.text (Some t) ≡ Some y → Gets s.left y z (entry_at fills x s)
+    → (x : X) (s : Source) (key : Scalar) (t : Tree) (z : State) (y : X) → Runs s.state (scalar_event key ∷ emitted t []) z → takes x key.text (Some t) ≡ Some y → Gets s.left y z (entry_at fills x s)
 unfolding entry_at
 entry_gets takes fills law x s key t z y run is =
     gets_then s.left s.left key.text run.0 y z (any_at s) _ (any_reads.complete s (Some (Leaf key)) run.0 key.text (run.0, run.1, refl) refl)
     (λ m there less. gets_more m.left s.left y z _ (below m less)
-    (item_gets (takes x key.text) (fills x key.text) (law x key.text) m t z y (subst (λ (q : State). Runs q (told t []) z) (sym there) run.2) is))
+    (item_gets (takes x key.text) (fills x key.text) (law x key.text) m t z y (subst (λ (q : State). Runs q (emitted t []) z) (sym there) run.2) is))
   where
     below : (m : Source) → m.left < s.left → m.left ≤ s.left
     below m less = omega arith
 
 entries_found : {X : Type 0} (takes : X → List ℕ → Option Tree → Option X) (fills : X → List ℕ → Source → Result (X × Source) Refusal) → ((x : X) (key : List ℕ) → Reads (takes x key) (fills x key))
-    → (n : ℕ) (x : X) (s : Source) (y : X) (m : Source) → entries_at fills n x s ≡ Ok (y, m) → (ps : Pairs) × Runs s.state (pairs_told ps (events.MappingEnd ∷ [])) m.state × (map_as takes x ps ≡ Some y)
+    → (n : ℕ) (x : X) (s : Source) (y : X) (m : Source) → entries_at fills n x s ≡ Ok (y, m) → (ps : Pairs) × Runs s.state (pairs_emitted ps (events.MappingEnd ∷ [])) m.state × (map_as takes x ps ≡ Some y)
 unfolding entries_at
 entries_found takes fills law zero x s y m h = absurd cc
 entries_found {X} takes fills law (suc n) x s y m h =
     let a = bind_ok (end_at brackets.MapEnd s) _ _ h in by_end (λ v w. entries_found takes fills law n v w y m) a.0.0 a.0.1 a.1 a.2
   where
-    by_end : ((v : X) (w : Source) → entries_at fills n v w ≡ Ok (y, m) → (ps : Pairs) × Runs w.state (pairs_told ps (events.MappingEnd ∷ [])) m.state × (map_as takes v ps ≡ Some y))
+    by_end : ((v : X) (w : Source) → entries_at fills n v w ≡ Ok (y, m) → (ps : Pairs) × Runs w.state (pairs_emitted ps (events.MappingEnd ∷ [])) m.state × (map_as takes v ps ≡ Some y))
         → (b : Bool) (w : Source) → end_at brackets.MapEnd s ≡ Ok (b, w) → cond b (Ok (x, w)) (entry_at fills x w >>= λ y. entries_at fills n y.0 y.1) ≡ Ok (y, m)
-        → (ps : Pairs) × Runs s.state (pairs_told ps (events.MappingEnd ∷ [])) m.state × (map_as takes x ps ≡ Some y)
+        → (ps : Pairs) × Runs s.state (pairs_emitted ps (events.MappingEnd ∷ [])) m.state × (map_as takes x ps ≡ Some y)
     by_end others true w e h =
         let t = end_taken brackets.MapEnd s w e in
         let same = ok_is {F = Refusal} (x, w) (y, m) h in
@@ -256,25 +256,25 @@ entries_found {X} takes fills law (suc n) x s y m h =
         let run = f.1.1.0 in
         let r = others i.0.0 i.0.1 i.2 in (
           pair f.0 f.1.0 r.0,
-          subst (λ (v : Source). Runs v.state (scalar_event f.0 ∷ told f.1.0 (pairs_told r.0 (events.MappingEnd ∷ []))) m.state) (sym (end_missing brackets.MapEnd s w e))
-              (run.0, run.1, told_join run.0 f.1.0 i.0.1.state (pairs_told r.0 (events.MappingEnd ∷ [])) m.state run.2 r.1),
+          subst (λ (v : Source). Runs v.state (scalar_event f.0 ∷ emitted f.1.0 (pairs_emitted r.0 (events.MappingEnd ∷ []))) m.state) (sym (end_missing brackets.MapEnd s w e))
+              (run.0, run.1, emitted_join run.0 f.1.0 i.0.1.state (pairs_emitted r.0 (events.MappingEnd ∷ [])) m.state run.2 r.1),
           ap (option_and_then (λ v. map_as takes v r.0)) f.1.1.1 ∙ r.2,
         )
 
 entries_gets : {X : Type 0} (takes : X → List ℕ → Option Tree → Option X) (fills : X → List ℕ → Source → Result (X × Source) Refusal) → ((x : X) (key : List ℕ) → Reads (takes x key) (fills x key))
-    → (ps : Pairs) (n : ℕ) (x : X) (s : Source) (z : State) (y : X) → Runs s.state (pairs_told ps (events.MappingEnd ∷ [])) z → map_as takes x ps ≡ Some y → Gets s.left y z (entries_at fills n x s)
+    → (ps : Pairs) (n : ℕ) (x : X) (s : Source) (z : State) (y : X) → Runs s.state (pairs_emitted ps (events.MappingEnd ∷ [])) z → map_as takes x ps ≡ Some y → Gets s.left y z (entries_at fills n x s)
 unfolding entries_at
 entries_gets takes fills law ps zero x s z y run is = refl
 entries_gets {X} takes fills law no_pairs (suc n) x s z y run is =
     gets_then s.left s.left true z y z (end_at brackets.MapEnd s) _ (end_gets brackets.MapEnd s events.MappingEnd z (one_event s.state events.MappingEnd z run) refl)
     (λ m at less. (some_is x y is, at, less))
 entries_gets {X} takes fills law (pair key t ps) (suc n) x s z y run is =
-    let c = told_cut run.0 t (pairs_told ps (events.MappingEnd ∷ [])) z run.2 in
+    let c = emitted_cut run.0 t (pairs_emitted ps (events.MappingEnd ∷ [])) z run.2 in
     then_some (takes x key.text (Some t)) (λ v. map_as takes v ps) y is (λ v first rest.
     end_stays s.left brackets.MapEnd s (scalar_event key) run.0 y z _ run.1 refl
     (gets_then s.left s.left v c.0 y z (entry_at fills x s) _ (entry_gets takes fills law x s key t c.0 v (run.0, run.1, c.1) first)
     (λ m there less. gets_more m.left s.left y z _ (below m less)
-    (entries_gets takes fills law ps n v m z y (subst (λ (q : State). Runs q (pairs_told ps (events.MappingEnd ∷ [])) z) (sym there) c.2) rest))))
+    (entries_gets takes fills law ps n v m z y (subst (λ (q : State). Runs q (pairs_emitted ps (events.MappingEnd ∷ [])) z) (sym there) c.2) rest))))
   where
     below : (m : Source) → m.left < s.left → m.left ≤ s.left
     below m less = omega arith
@@ -288,12 +288,12 @@ map_found takes fills law x s y m h =
     let f = entries_found takes fills law a.0.1.left x a.0.1 y m a.2 in
     record {
       node = Some (Map f.0);
-      told = (a.0.1.state, start.1 ∙ ap (λ (v : Event). Ok (v, a.0.1.state)) (map_start start.0 start.2), f.1);
+      emitted = (a.0.1.state, start.1 ∙ ap (λ (v : Event). Ok (v, a.0.1.state)) (map_start start.0 start.2), f.1);
       read = f.2;
     }
 
 map_gets : {X : Type 0} (takes : X → List ℕ → Option Tree → Option X) (fills : X → List ℕ → Source → Result (X × Source) Refusal) → ((x : X) (key : List ℕ) → Reads (takes x key) (fills x key))
-    → (x : X) (s : Source) (node : Option Tree) (z : State) (y : X) → Tells s.state node z → map_node takes x node ≡ Some y → Gets s.left y z (map_at fills x s)
+    → (x : X) (s : Source) (node : Option Tree) (z : State) (y : X) → Emits s.state node z → map_node takes x node ≡ Some y → Gets s.left y z (map_at fills x s)
 unfolding map_at
 map_gets takes fills law x s None z y run is = absurd (some_apart y is)
 map_gets takes fills law x s (Some (Leaf sc)) z y run is = absurd (some_apart y is)
@@ -301,7 +301,7 @@ map_gets takes fills law x s (Some (Seq ts)) z y run is = absurd (some_apart y i
 map_gets takes fills law x s (Some (Map ps)) z y run is =
     gets_then s.left s.left tt run.0 y z (bracket_at brackets.MapStart s) _ (bracket_gets brackets.MapStart s events.MappingStart run.0 run.1 refl)
     (λ m there less. gets_more m.left s.left y z _ (below m less)
-    (entries_gets takes fills law ps m.left x m z y (subst (λ (q : State). Runs q (pairs_told ps (events.MappingEnd ∷ [])) z) (sym there) run.2) is))
+    (entries_gets takes fills law ps m.left x m z y (subst (λ (q : State). Runs q (pairs_emitted ps (events.MappingEnd ∷ [])) z) (sym there) run.2) is))
   where
     below : (m : Source) → m.left < s.left → m.left ≤ s.left
     below m less = omega arith

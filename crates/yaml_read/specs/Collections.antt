@@ -1,11 +1,11 @@
 -- What reads of lists and maps take.
-use Rattle.std.specs.Prelude.{ℕ, zero, suc, ◌+◌, nat_lt, List, [], ◌∷◌, ◌++◌, Bool, true, false, cond, Option, Some, None, Result, Ok, Err}
+use Rattle.std.specs.Prelude.{ℕ, zero, suc, ◌+◌, nat_lt, List, [], ◌∷◌, ◌++◌, Bool, true, false, if◌then◌else◌, Option, Some, None, Result, Ok, Err}
 use Rattle.warg_values.specs.Reading.{◌>>=◌}
 use Rattle.yaml_small.specs.declared.event.Event.{Event}
 use Rattle.yaml_small.specs.declared.event.Event.TheVariants as events
 use Rattle.yaml_read.specs.declared.bracket.Bracket.{Bracket}
 use Rattle.yaml_read.specs.declared.bracket.Bracket.TheVariants as brackets
-use Rattle.yaml_read.specs.Source.{Source, Refusal, WrongEvent, Endless, pull, front, taken}
+use Rattle.yaml_read.specs.Source.{Source, Refusal, WrongEvent, TooManyEvents, pull, front, taken}
 use Rattle.yaml_read.specs.Scalar.{any_at, is_null}
 
 abbrev pub is_bracket : Bracket → Event → Bool
@@ -16,14 +16,14 @@ is_bracket brackets.MapEnd events.MappingEnd = true
 is_bracket bracket event = false
 
 abbrev pub wanted : Bracket → Event → Result (Unit {0}) Refusal
-wanted bracket event = cond (is_bracket bracket event) (Ok tt) (Err (WrongEvent event))
+wanted bracket event = if is_bracket bracket event then Ok tt else Err (WrongEvent event)
 
 -- the start or end of a list or map, which is taken
 unfoldable pub bracket_at : Bracket → Source → Result (Unit {0} × Source) Refusal
 bracket_at bracket s = taken (wanted bracket) s
 
 abbrev pub ended : Bool → Source → Result (Bool × Source) Refusal
-ended true s = pull s >>= λ told. Ok (true, told.1)
+ended true s = pull s >>= λ emitted. Ok (true, emitted.1)
 ended false s = Ok (false, s)
 
 -- Whether the end of a list or map stands here: it is taken.
@@ -36,17 +36,19 @@ is_stream_end event = false
 
 -- A read within a list or map takes an event or more, and does not stand at the stream's end.
 abbrev pub progressed : {X : Type 0} → ℕ → Event → X × Source → Result (X × Source) Refusal
-progressed left event read = cond (nat_lt read.1.left left) (Ok read) (Err (WrongEvent event))
+progressed left event read = if nat_lt read.1.left left then Ok read else Err (WrongEvent event)
 
 unfoldable pub item_at : {X : Type 0} → (Source → Result (X × Source) Refusal) → Source → Result (X × Source) Refusal
 item_at read s =
-    front s >>= λ event. cond (is_stream_end event) (Err (WrongEvent event)) (read s >>= λ x. progressed s.left event x)
+    front s >>= λ event.
+    if is_stream_end event then Err (WrongEvent event) else (read s >>= λ x. progressed s.left event x)
 
 -- the items of a list up to its end, each put to what was read before
 unfoldable pub items_at : {X : Type 0} → (X → ℕ → Source → Result (X × Source) Refusal) → ℕ → ℕ → X → Source → Result (X × Source) Refusal
-items_at fills zero at x s = Err Endless
+items_at fills zero at x s = Err TooManyEvents
 items_at fills (suc n) at x s =
-    end_at brackets.ListEnd s >>= λ end. cond end.0 (Ok (x, end.1)) (item_at (fills x at) end.1 >>= λ y. items_at fills n (at + 1) y.0 y.1)
+    end_at brackets.ListEnd s >>= λ end.
+    if end.0 then Ok (x, end.1) else (item_at (fills x at) end.1 >>= λ y. items_at fills n (at + 1) y.0 y.1)
 
 unfoldable pub seq_at : {X : Type 0} → (X → ℕ → Source → Result (X × Source) Refusal) → X → Source → Result (X × Source) Refusal
 seq_at fills x s = bracket_at brackets.ListStart s >>= λ start. items_at fills start.1.left 0 x start.1
@@ -56,9 +58,10 @@ unfoldable pub entry_at : {X : Type 0} → (X → List ℕ → Source → Result
 entry_at fills x s = any_at s >>= λ key. item_at (fills x key.0) key.1
 
 unfoldable pub entries_at : {X : Type 0} → (X → List ℕ → Source → Result (X × Source) Refusal) → ℕ → X → Source → Result (X × Source) Refusal
-entries_at fills zero x s = Err Endless
+entries_at fills zero x s = Err TooManyEvents
 entries_at fills (suc n) x s =
-    end_at brackets.MapEnd s >>= λ end. cond end.0 (Ok (x, end.1)) (entry_at fills x end.1 >>= λ y. entries_at fills n y.0 y.1)
+    end_at brackets.MapEnd s >>= λ end.
+    if end.0 then Ok (x, end.1) else (entry_at fills x end.1 >>= λ y. entries_at fills n y.0 y.1)
 
 unfoldable pub map_at : {X : Type 0} → (X → List ℕ → Source → Result (X × Source) Refusal) → X → Source → Result (X × Source) Refusal
 map_at fills x s = bracket_at brackets.MapStart s >>= λ start. entries_at fills start.1.left x start.1
@@ -74,7 +77,7 @@ is_nothing (events.Scalar text style) = is_null text
 is_nothing event = false
 
 abbrev pub opted : {X : Type 0} → Bool → (Source → Result (X × Source) Refusal) → Source → Result (Option X × Source) Refusal
-opted true read s = pull s >>= λ told. Ok (None, told.1)
+opted true read s = pull s >>= λ emitted. Ok (None, emitted.1)
 opted false read s = read s >>= λ x. Ok (Some x.0, x.1)
 
 unfoldable pub option_at : {X : Type 0} → (Source → Result (X × Source) Refusal) → Source → Result (Option X × Source) Refusal

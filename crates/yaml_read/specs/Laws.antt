@@ -1,4 +1,4 @@
--- Reads of scalars, against the nodes that are told.
+-- Reads of scalars, against the nodes that are emitted.
 use Rattle.std.proofs.Common.{◌≡◌, ℕ, List, [], ◌∷◌, Bool, true, false, cond, Option, Some, None, Result, Ok, Err, refl, ap, ◌∙◌, subst}
 use Rattle.warg_values.specs.ReadingLaws.{bind_ok, ok_is}
 use Rattle.yaml_small.specs.declared.event.Event.{Event}
@@ -10,9 +10,9 @@ use Rattle.yaml_small.specs.Scalars.{is_plain}
 use Rattle.yaml_small.specs.Stream.{State, next, Runs}
 use Rattle.yaml_read.specs.Source.{Source, Refusal, WrongScalar, pull, taken}
 use Rattle.yaml_read.specs.Scalar.{plain_text, any_text, plain_at, any_at, plain_as, is_null, unit, unit_at}
-use Rattle.yaml_read.specs.Told.{Tells, Found, Gets, Reads}
+use Rattle.yaml_read.specs.Emitted.{Emits, Found, Gets, Reads}
 use Rattle.yaml_read.specs.Nodes.{value_of, any_node, plain_node, unit_node}
-use Rattle.yaml_read.specs.Taking.{pull_is, pulls, gets_then}
+use Rattle.yaml_read.specs.TakingLaws.{pull_is, pulls, gets_then}
 
 -- only a plain scalar has a plain text
 is_plain_event : {P : Type 0} (e : Event) (text : List ℕ) → plain_text e ≡ Ok text → (e ≡ events.Scalar text styles.Plain → P) → P
@@ -73,7 +73,7 @@ plain_sound {X} f s x m h =
     let e = taken_is plain_text s a.0.0 a.0.1 a.1 in
     is_plain_event e.0 a.0.0 e.2 (λ is. record {
       node = Some (Leaf (record { text = a.0.0; style = styles.Plain }));
-      told = (m.state, (subst (λ (z : Source). next s.state ≡ Ok (e.0, z.state)) (ap (λ (p : X × Source). p.1) same) e.1 ∙ ap (λ (v : Event). Ok (v, m.state)) is), refl);
+      emitted = (m.state, (subst (λ (z : Source). next s.state ≡ Ok (e.0, z.state)) (ap (λ (p : X × Source). p.1) same) e.1 ∙ ap (λ (v : Event). Ok (v, m.state)) is), refl);
       read = ap value_of b.1 ∙ ap (λ (p : X × Source). Some p.0) same;
     })
 
@@ -90,13 +90,13 @@ plain_styled f s text z x styles.Folded here is = absurd cc
 
 -- the run of one event
 pub one_event : (s : State) (e : Event) (z : State) → Runs s (e ∷ []) z → next s ≡ Ok (e, z)
-one_event s e z told = told.1 ∙ ap (λ (m : State). Ok (e, m)) told.2
+one_event s e z emitted = emitted.1 ∙ ap (λ (m : State). Ok (e, m)) emitted.2
 
-plain_complete : {X : Type 0} (f : List ℕ → Result X Refusal) (s : Source) (node : Option Tree) (z : State) (x : X) → Tells s.state node z → plain_node f node ≡ Some x → Gets s.left x z (plain_as f s)
-plain_complete f s None z x told h = absurd cc
-plain_complete f s (Some (Seq ts)) z x told h = absurd cc
-plain_complete f s (Some (Map ps)) z x told h = absurd cc
-plain_complete f s (Some (Leaf sc)) z x told h = plain_styled f s sc.text z x sc.style (one_event s.state (events.Scalar sc.text sc.style) z told) h
+plain_complete : {X : Type 0} (f : List ℕ → Result X Refusal) (s : Source) (node : Option Tree) (z : State) (x : X) → Emits s.state node z → plain_node f node ≡ Some x → Gets s.left x z (plain_as f s)
+plain_complete f s None z x emitted h = absurd cc
+plain_complete f s (Some (Seq ts)) z x emitted h = absurd cc
+plain_complete f s (Some (Map ps)) z x emitted h = absurd cc
+plain_complete f s (Some (Leaf sc)) z x emitted h = plain_styled f s sc.text z x sc.style (one_event s.state (events.Scalar sc.text sc.style) z emitted) h
 
 pub plain_reads : {X : Type 0} (f : List ℕ → Result X Refusal) → Reads (plain_node f) (plain_as f)
 plain_reads f = record { sound = plain_sound f; complete = plain_complete f }
@@ -107,17 +107,17 @@ any_found s x m h =
     let e = taken_is any_text s x m h in
     is_any_event e.0 x e.2 (λ style is. record {
       node = Some (Leaf (record { text = x; style = style }));
-      told = (m.state, e.1 ∙ ap (λ (v : Event). Ok (v, m.state)) is, refl);
+      emitted = (m.state, e.1 ∙ ap (λ (v : Event). Ok (v, m.state)) is, refl);
       read = refl;
     })
 
-any_gets : (s : Source) (node : Option Tree) (z : State) (x : List ℕ) → Tells s.state node z → any_node Ok node ≡ Some x → Gets s.left x z (any_at s)
+any_gets : (s : Source) (node : Option Tree) (z : State) (x : List ℕ) → Emits s.state node z → any_node Ok node ≡ Some x → Gets s.left x z (any_at s)
 unfolding any_at
-any_gets s None z x told h = absurd cc
-any_gets s (Some (Seq ts)) z x told h = absurd cc
-any_gets s (Some (Map ps)) z x told h = absurd cc
-any_gets s (Some (Leaf sc)) z x told h =
-    taken_gets any_text s (events.Scalar sc.text sc.style) z x (one_event s.state (events.Scalar sc.text sc.style) z told) (ap Ok (some_is sc.text x h))
+any_gets s None z x emitted h = absurd cc
+any_gets s (Some (Seq ts)) z x emitted h = absurd cc
+any_gets s (Some (Map ps)) z x emitted h = absurd cc
+any_gets s (Some (Leaf sc)) z x emitted h =
+    taken_gets any_text s (events.Scalar sc.text sc.style) z x (one_event s.state (events.Scalar sc.text sc.style) z emitted) (ap Ok (some_is sc.text x h))
 
 -- a scalar of any style is its text
 pub any_reads : Reads (any_node Ok) any_at
@@ -138,20 +138,20 @@ unit_found s x m h =
     is_unit_event e.0 x e.2
     (λ text style is null. record {
       node = Some (Leaf (record { text = text; style = style }));
-      told = (m.state, e.1 ∙ ap (λ (v : Event). Ok (v, m.state)) is, refl);
+      emitted = (m.state, e.1 ∙ ap (λ (v : Event). Ok (v, m.state)) is, refl);
       read = ap (λ (b : Bool). cond b (Some tt) None) null;
     })
-    (λ is. record { node = None; told = e.1 ∙ ap (λ (v : Event). Ok (v, m.state)) is; read = refl })
+    (λ is. record { node = None; emitted = e.1 ∙ ap (λ (v : Event). Ok (v, m.state)) is; read = refl })
 
-unit_gets : (s : Source) (node : Option Tree) (z : State) (x : Unit {0}) → Tells s.state node z → unit_node node ≡ Some x → Gets s.left x z (unit_at s)
-unit_gets s None z x told h = taken_gets unit s events.StreamEnd z x told refl
-unit_gets s (Some (Seq ts)) z x told h = absurd cc
-unit_gets s (Some (Map ps)) z x told h = absurd cc
-unit_gets s (Some (Leaf sc)) z x told h = tested (is_null sc.text) refl h
+unit_gets : (s : Source) (node : Option Tree) (z : State) (x : Unit {0}) → Emits s.state node z → unit_node node ≡ Some x → Gets s.left x z (unit_at s)
+unit_gets s None z x emitted h = taken_gets unit s events.StreamEnd z x emitted refl
+unit_gets s (Some (Seq ts)) z x emitted h = absurd cc
+unit_gets s (Some (Map ps)) z x emitted h = absurd cc
+unit_gets s (Some (Leaf sc)) z x emitted h = tested (is_null sc.text) refl h
   where
     tested : (b : Bool) → is_null sc.text ≡ b → cond b (Some tt) None ≡ Some x → Gets s.left x z (unit_at s)
     tested true is h =
-        taken_gets unit s (events.Scalar sc.text sc.style) z x (one_event s.state (events.Scalar sc.text sc.style) z told) (ap (λ (b : Bool). cond b (Ok tt) (Err (WrongScalar sc.text))) is)
+        taken_gets unit s (events.Scalar sc.text sc.style) z x (one_event s.state (events.Scalar sc.text sc.style) z emitted) (ap (λ (b : Bool). cond b (Ok tt) (Err (WrongScalar sc.text))) is)
     tested false is h = absurd cc
 
 pub unit_reads : Reads unit_node unit_at

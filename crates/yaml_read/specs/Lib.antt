@@ -3,13 +3,13 @@ pub mod Answers
 pub mod Scalar
 pub mod Conversions
 pub mod Collections
-pub mod Told
+pub mod Emitted
 pub mod Nodes
 pub mod Laws
-pub mod Joins
+pub mod JoinLaws
 pub mod CollectionLaws
 pub mod PartLaws
-pub mod Taking
+pub mod TakingLaws
 pub mod Entries
 pub mod Whole
 pub mod Any

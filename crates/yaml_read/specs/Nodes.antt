@@ -1,5 +1,5 @@
 -- Which nodes are read, and as which value. A node is a tree, or none: the end of an empty document.
-use Rattle.std.specs.Prelude.{ℕ, ◌+◌, List, cond, Option, Some, None, option_map, option_and_then, Result, Ok, Err}
+use Rattle.std.specs.Prelude.{ℕ, ◌+◌, List, if◌then◌else◌, Option, Some, None, option_map, option_and_then, Result, Ok, Err}
 use Rattle.yaml_small.specs.Trees.{Tree, Leaf, Seq, Map, Trees, none, more, Pairs, no_pairs, pair}
 use Rattle.yaml_small.specs.Scalars.{is_plain}
 use Rattle.yaml_read.specs.Source.{Refusal}
@@ -18,21 +18,21 @@ any_node f (Some (Map ps)) = None
 
 abbrev pub plain_node : {X : Type 0} → (List ℕ → Result X Refusal) → Option Tree → Option X
 plain_node f None = None
-plain_node f (Some (Leaf s)) = cond (is_plain s.style) (value_of (f s.text)) None
+plain_node f (Some (Leaf s)) = if is_plain s.style then value_of (f s.text) else None
 plain_node f (Some (Seq ts)) = None
 plain_node f (Some (Map ps)) = None
 
 -- `null` or `~`, or an empty document
 abbrev pub unit_node : Option Tree → Option (Unit {0})
 unit_node None = Some tt
-unit_node (Some (Leaf s)) = cond (is_null s.text) (Some tt) None
+unit_node (Some (Leaf s)) = if is_null s.text then Some tt else None
 unit_node (Some (Seq ts)) = None
 unit_node (Some (Map ps)) = None
 
 -- `null` or `~` is no value, anything else is what the type reads
 abbrev pub option_node : {X : Type 0} → (Option Tree → Option X) → Option Tree → Option (Option X)
 option_node of_node None = option_map Some (of_node None)
-option_node of_node (Some (Leaf s)) = cond (is_null s.text) (Some None) (option_map Some (of_node (Some (Leaf s))))
+option_node of_node (Some (Leaf s)) = if is_null s.text then Some None else option_map Some (of_node (Some (Leaf s)))
 option_node of_node (Some (Seq ts)) = option_map Some (of_node (Some (Seq ts)))
 option_node of_node (Some (Map ps)) = option_map Some (of_node (Some (Map ps)))
 

@@ -1,5 +1,5 @@
 -- What single reads take a scalar for.
-use Rattle.std.specs.Prelude.{ℕ, List, length, slice_index, ◌==◌, Bool, true, false, ◌&&◌, ◌||◌, nat_le, cond, Option, Some, None, Result, Ok, Err, ℤ, int_le, bytes_eq, codes}
+use Rattle.std.specs.Prelude.{ℕ, List, length, slice_index, ◌==◌, Bool, true, false, ◌&&◌, ◌||◌, nat_le, if◌then◌else◌, Option, Some, None, Result, Ok, Err, ℤ, int_le, bytes_eq, codes}
 use Rattle.std.specs.Str.Parse.{digits_value, without_leading_plus, without_leading_sign, signed_digits_value}
 use Rattle.yaml_small.specs.declared.event.Event.{Event}
 use Rattle.yaml_small.specs.declared.event.Event.TheVariants as events
@@ -18,7 +18,10 @@ plain_text (events.Scalar text styles.Plain) = Ok text
 plain_text event = Err (WrongEvent event)
 
 abbrev pub truth : List ℕ → Result Bool Refusal
-truth text = cond (bytes_eq text (codes "true")) (Ok true) (cond (bytes_eq text (codes "false")) (Ok false) (Err (WrongScalar text)))
+truth text =
+    if bytes_eq text (codes "true") then Ok true
+    else if bytes_eq text (codes "false") then Ok false
+    else Err (WrongScalar text)
 
 -- `null` or `~`
 abbrev pub is_null : List ℕ → Bool
@@ -26,7 +29,7 @@ is_null text = bytes_eq text (codes "null") || bytes_eq text (codes "~")
 
 -- one byte, which is a character of ASCII
 abbrev pub character : List ℕ → Result ℕ Refusal
-character text = cond (length text == 1) (Ok (slice_index text 0)) (Err (WrongScalar text))
+character text = if length text == 1 then Ok (slice_index text 0) else Err (WrongScalar text)
 
 abbrev pub number_or : {N : Type 0} → List ℕ → Option N → Result N Refusal
 number_or text None = Err (WrongNumber text)
@@ -35,8 +38,9 @@ number_or text (Some n) = Ok n
 -- decimal digits, one or more, behind an optional plus, of a number within the limit
 unfoldable pub unsigned_number : ℕ → List ℕ → Option ℕ
 unsigned_number most text =
-    cond (is_numeral 10 (without_leading_plus text) && nat_le (digits_value 10 (without_leading_plus text)) most)
-    (Some (digits_value 10 (without_leading_plus text))) None
+    if is_numeral 10 (without_leading_plus text) && nat_le (digits_value 10 (without_leading_plus text)) most then
+    Some (digits_value 10 (without_leading_plus text))
+    else None
 
 -- the same with a minus too, of a number between the limits
 abbrev pub within : ℤ → ℤ → ℤ → Bool
@@ -44,8 +48,9 @@ within least most n = int_le least n && int_le n most
 
 unfoldable pub signed_number : ℤ → ℤ → List ℕ → Option ℤ
 signed_number least most text =
-    cond (is_numeral 10 (without_leading_sign text) && within least most (signed_digits_value 10 text))
-    (Some (signed_digits_value 10 text)) None
+    if is_numeral 10 (without_leading_sign text) && within least most (signed_digits_value 10 text) then
+    Some (signed_digits_value 10 text)
+    else None
 
 abbrev pub unsigned : ℕ → List ℕ → Result ℕ Refusal
 unsigned most text = number_or text (unsigned_number most text)
@@ -55,7 +60,7 @@ signed least most text = number_or text (signed_number least most text)
 
 -- what an event is taken for: nothing at `null` or `~` in any style, and at the end of an empty document
 abbrev pub unit_text : List ℕ → Result (Unit {0}) Refusal
-unit_text text = cond (is_null text) (Ok tt) (Err (WrongScalar text))
+unit_text text = if is_null text then Ok tt else Err (WrongScalar text)
 
 abbrev pub unit : Event → Result (Unit {0}) Refusal
 unit (events.Scalar text style) = unit_text text
@@ -70,7 +75,7 @@ unfoldable pub plain_at : Source → Result (List ℕ × Source) Refusal
 plain_at s = taken plain_text s
 
 abbrev pub plain_as : {X : Type 0} → (List ℕ → Result X Refusal) → Source → Result (X × Source) Refusal
-plain_as f s = plain_at s >>= λ told. f told.0 >>= λ x. Ok (x, told.1)
+plain_as f s = plain_at s >>= λ emitted. f emitted.0 >>= λ x. Ok (x, emitted.1)
 
 abbrev pub bool_at : Source → Result (Bool × Source) Refusal
 bool_at s = plain_as truth s

@@ -1,5 +1,5 @@
 -- What typed reads take from: a parser's state, and how many events may still be taken.
-use Rattle.std.specs.Prelude.{ℕ, ◌-◌, ◌==◌, List, cond, Result, Ok, Err}
+use Rattle.std.specs.Prelude.{ℕ, ◌-◌, ◌==◌, List, if◌then◌else◌, Result, Ok, Err}
 use Rattle.warg_values.specs.Reading.{◌>>=◌}
 use Rattle.yaml_small.specs.declared.event.Event.{Event}
 use Rattle.yaml_small.specs.Scalars.{Fault}
@@ -27,18 +27,18 @@ pub data Refusal : Type 0 where
   UnknownField : List ℕ → Refusal
   MissingField : List ℕ → Refusal
   -- more events than are counted
-  Endless : Refusal
+  TooManyEvents : Refusal
 
 abbrev pub pulled : ℕ → Result (Event × State) Fault → Result (Event × Source) Refusal
-pulled left (Ok told) = Ok (told.0, record { state = told.1; left = left - 1 })
+pulled left (Ok emitted) = Ok (emitted.0, record { state = emitted.1; left = left - 1 })
 pulled left (Err fault) = Err (NoEvent fault)
 
 -- the next event, and what is behind it
 unfoldable pub pull : Source → Result (Event × Source) Refusal
-pull s = cond (s.left == 0) (Err Endless) (pulled s.left (next s.state))
+pull s = if s.left == 0 then Err TooManyEvents else pulled s.left (next s.state)
 
 abbrev pub event_alone : Result (Event × Source) Refusal → Result Event Refusal
-event_alone (Ok told) = Ok told.0
+event_alone (Ok emitted) = Ok emitted.0
 event_alone (Err refusal) = Err refusal
 
 -- the next event, which stays
@@ -47,4 +47,4 @@ front s = event_alone (pull s)
 
 -- what an event is taken for
 unfoldable pub taken : {X : Type 0} → (Event → Result X Refusal) → Source → Result (X × Source) Refusal
-taken f s = pull s >>= λ told. f told.0 >>= λ x. Ok (x, told.1)
+taken f s = pull s >>= λ emitted. f emitted.0 >>= λ x. Ok (x, emitted.1)

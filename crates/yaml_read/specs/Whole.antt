@@ -22,7 +22,7 @@ is_document_end events.DocumentEnd = true
 is_document_end event = false
 
 abbrev pub behind_start : Bool → Source → Result Source Refusal
-behind_start true s = pull s >>= λ told. Ok told.1
+behind_start true s = pull s >>= λ emitted. Ok emitted.1
 behind_start false s = Ok s
 
 -- behind the starts of the stream and of the document
@@ -31,14 +31,14 @@ opened_at text = pull (source_at text) >>= λ begun. front begun.1 >>= λ event.
 
 -- the ends of the document and of the stream
 abbrev pub ended_stream : Bool → Source → Result (Unit {0} × Source) Refusal
-ended_stream true s = pull s >>= λ told. Ok (tt, told.1)
+ended_stream true s = pull s >>= λ emitted. Ok (tt, emitted.1)
 ended_stream false s = Err NotEnded
 
 unfoldable pub stream_end_at : Source → Result (Unit {0} × Source) Refusal
 stream_end_at s = front s >>= λ event. ended_stream (is_stream_end event) s
 
 abbrev pub ended_document : Bool → Source → Result (Unit {0} × Source) Refusal
-ended_document true s = pull s >>= λ told. stream_end_at told.1
+ended_document true s = pull s >>= λ emitted. stream_end_at emitted.1
 ended_document false s = stream_end_at s
 
 unfoldable pub closed_at : Source → Result (Unit {0} × Source) Refusal

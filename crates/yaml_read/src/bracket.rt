@@ -7,7 +7,7 @@ use yaml_small::Event;
 
 /// The start or the end of a list or map.
 #[derive(Clone, Copy, Debug)]
-pub(crate) enum Bracket {
+pub enum Bracket {
     ListStart,
     ListEnd,
     MapStart,
@@ -16,7 +16,7 @@ pub(crate) enum Bracket {
 
 impl Bracket {
     /// Whether an event is this one.
-    pub(crate) fn is(self, event: &Event) -> bool
+    pub fn is(self, event: &Event) -> bool
         ensures { result ≡ spec.is_bracket self event.now }
     {
         match (self, event) {
@@ -29,7 +29,7 @@ impl Bracket {
     }
 
     /// What a reader calls it.
-    pub(crate) fn name(self) -> &'static str {
+    pub fn name(self) -> &'static str {
         match self {
             Bracket::ListStart => "a list",
             Bracket::ListEnd => "the end of the list",

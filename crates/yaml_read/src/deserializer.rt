@@ -6,7 +6,7 @@ ghost use Rattle.yaml_read.specs.Source as spec;
 ghost use Rattle.yaml_read.specs.Scalar as scalar;
 ghost use Rattle.yaml_read.specs.Collections as collections;
 ghost use Rattle.yaml_read.specs.Whole as whole;
-ghost use Rattle.yaml_read.specs.Answers.{source_of, Gives, IsRefusal};
+ghost use Rattle.yaml_read.specs.Answers.{source_of, ReadGives, IsRefusal};
 
 use crate::error::DeError;
 use std::alloc::Global;
@@ -28,7 +28,7 @@ impl<'de> YamlDeserializer<'de> {
     /// `Scan` where no document of a carried form begins; no other refusal but `Memory`.
     #[tactic(auto, unfolding(crate::specs::Whole::opened_at))]
     pub fn from_str(alloc: Global, text: &'de str) -> Result<Self, DeError>
-        ensures { Gives source_of result (whole.opened_at text.now) }
+        ensures { ReadGives source_of result (whole.opened_at text.now) }
     {
         let mut de = YamlDeserializer {
             parser: Parser::new(alloc, text),
@@ -47,7 +47,7 @@ impl<'de> YamlDeserializer<'de> {
     /// Another event is `NotEnded`, and `Scan` says that no document of a carried form goes on.
     #[tactic(auto, unfolding(crate::specs::Whole::closed_at))]
     pub fn finish(&mut self, alloc: Global) -> Result<(), DeError>
-        ensures { Gives (λ read. (read, source_of self.new)) result (whole.closed_at (source_of self.old)) }
+        ensures { ReadGives (λ read. (read, source_of self.new)) result (whole.closed_at (source_of self.old)) }
     {
         let (event, _) = self.front(alloc)?;
         if is_document_end(&event) {
@@ -59,7 +59,7 @@ impl<'de> YamlDeserializer<'de> {
     /// Takes the end of the stream.
     #[tactic(auto, unfolding(crate::specs::Whole::stream_end_at))]
     fn stream_end(&mut self, alloc: Global) -> Result<(), DeError>
-        ensures { Gives (λ read. (read, source_of self.new)) result (whole.stream_end_at (source_of self.old)) }
+        ensures { ReadGives (λ read. (read, source_of self.new)) result (whole.stream_end_at (source_of self.old)) }
     {
         let (event, mark) = self.front(alloc)?;
         if !is_stream_end(&event) {
@@ -72,26 +72,26 @@ impl<'de> YamlDeserializer<'de> {
     /// Takes the next event.
     #[tactic(auto, unfolding(crate::specs::Source::pull))]
     pub(crate) fn pull(&mut self, alloc: Global) -> Result<(Event, Marker), DeError>
-        ensures { Gives (λ told. (told.0, source_of self.new)) result (spec.pull (source_of self.old)) }
+        ensures { ReadGives (λ emitted. (emitted.0, source_of self.new)) result (spec.pull (source_of self.old)) }
     {
         if self.left == 0 {
             return Err(DeError::Memory);
         }
-        let told = self.parser.next_token(alloc)?;
+        let emitted = self.parser.next_token(alloc)?;
         self.left -= 1;
-        Ok(told)
+        Ok(emitted)
     }
 
     /// The next event, which stays.
     #[tactic(auto, unfolding(crate::specs::Source::pull, crate::specs::Source::front))]
     pub(crate) fn front(&self, alloc: Global) -> Result<(Event, Marker), DeError>
-        ensures { Gives (λ told. told.0) result (spec.front (source_of self.now)) }
+        ensures { ReadGives (λ emitted. emitted.0) result (spec.front (source_of self.now)) }
     {
         if self.left == 0 {
             return Err(DeError::Memory);
         }
-        let told = self.parser.peek(alloc)?;
-        Ok(told)
+        let emitted = self.parser.peek(alloc)?;
+        Ok(emitted)
     }
 
     /// How many events may still be taken.
@@ -104,7 +104,7 @@ impl<'de> YamlDeserializer<'de> {
     /// The text of a plain scalar.
     #[tactic(auto, unfolding(crate::specs::Scalar::plain_at, crate::specs::Source::taken))]
     fn plain(&mut self, alloc: Global, expected: &str) -> Result<(Text, Marker), DeError>
-        ensures { Gives (λ read. (read.0, source_of self.new)) result (scalar.plain_at (source_of self.old)) }
+        ensures { ReadGives (λ read. (read.0, source_of self.new)) result (scalar.plain_at (source_of self.old)) }
     {
         let (event, mark) = self.pull(alloc)?;
         match event {
@@ -117,7 +117,7 @@ impl<'de> YamlDeserializer<'de> {
     ///
     /// Another text is `UnexpectedScalar`, another event or style `UnexpectedEvent`.
     pub fn read_bool(&mut self, alloc: Global) -> Result<bool, DeError>
-        ensures { Gives (λ read. (read, source_of self.new)) result (scalar.bool_at (source_of self.old)) }
+        ensures { ReadGives (λ read. (read, source_of self.new)) result (scalar.bool_at (source_of self.old)) }
     {
         let (text, mark) = self.plain(alloc, "a plain scalar")?;
         match text.as_str() {
@@ -131,7 +131,7 @@ impl<'de> YamlDeserializer<'de> {
     ///
     /// Another text is `UnexpectedScalar`, another event or style `UnexpectedEvent`.
     pub fn read_char(&mut self, alloc: Global) -> Result<char, DeError>
-        ensures { Gives (λ read. (read, source_of self.new)) result (scalar.char_at (source_of self.old)) }
+        ensures { ReadGives (λ read. (read, source_of self.new)) result (scalar.char_at (source_of self.old)) }
     {
         let (text, mark) = self.plain(alloc, "a plain scalar")?;
         let bytes = text.as_str().as_bytes();
@@ -144,7 +144,7 @@ impl<'de> YamlDeserializer<'de> {
 
     /// A plain scalar that is a number up to a limit: digits behind an optional plus.
     fn unsigned(&mut self, alloc: Global, most: u64) -> Result<u64, DeError>
-        ensures read { Gives (λ read. (read, source_of self.new)) result (scalar.unsigned_at most (source_of self.old)) }
+        ensures read { ReadGives (λ read. (read, source_of self.new)) result (scalar.unsigned_at most (source_of self.old)) }
         ensures within { IfOk result (λ read. read ≤ most) }
     {
         let (text, _) = self.plain(alloc, "a plain number")?;
@@ -156,7 +156,7 @@ impl<'de> YamlDeserializer<'de> {
 
     /// A plain scalar that is a number within limits: digits behind an optional sign.
     fn signed(&mut self, alloc: Global, least: i64, most: i64) -> Result<i64, DeError>
-        ensures read { Gives (λ read. (read, source_of self.new)) result (scalar.signed_at least most (source_of self.old)) }
+        ensures read { ReadGives (λ read. (read, source_of self.new)) result (scalar.signed_at least most (source_of self.old)) }
         ensures above { IfOk result (λ read. least ≤ℤ read) }
         ensures within { IfOk result (λ read. read ≤ℤ most) }
     {
@@ -171,7 +171,7 @@ impl<'de> YamlDeserializer<'de> {
     ///
     /// Another text is `ParseNumber`, another event or style `UnexpectedEvent`.
     pub fn read_u8(&mut self, alloc: Global) -> Result<u8, DeError>
-        ensures { Gives (λ read. (read, source_of self.new)) result (scalar.unsigned_at 255 (source_of self.old)) }
+        ensures { ReadGives (λ read. (read, source_of self.new)) result (scalar.unsigned_at 255 (source_of self.old)) }
     {
         Ok(self.unsigned(alloc, u64::from(u8::MAX))? as u8)
     }
@@ -180,7 +180,7 @@ impl<'de> YamlDeserializer<'de> {
     ///
     /// Another text is `ParseNumber`, another event or style `UnexpectedEvent`.
     pub fn read_u16(&mut self, alloc: Global) -> Result<u16, DeError>
-        ensures { Gives (λ read. (read, source_of self.new)) result (scalar.unsigned_at 65535 (source_of self.old)) }
+        ensures { ReadGives (λ read. (read, source_of self.new)) result (scalar.unsigned_at 65535 (source_of self.old)) }
     {
         Ok(self.unsigned(alloc, u64::from(u16::MAX))? as u16)
     }
@@ -189,7 +189,7 @@ impl<'de> YamlDeserializer<'de> {
     ///
     /// Another text is `ParseNumber`, another event or style `UnexpectedEvent`.
     pub fn read_u32(&mut self, alloc: Global) -> Result<u32, DeError>
-        ensures { Gives (λ read. (read, source_of self.new)) result (scalar.unsigned_at 4294967295 (source_of self.old)) }
+        ensures { ReadGives (λ read. (read, source_of self.new)) result (scalar.unsigned_at 4294967295 (source_of self.old)) }
     {
         Ok(self.unsigned(alloc, u64::from(u32::MAX))? as u32)
     }
@@ -198,7 +198,8 @@ impl<'de> YamlDeserializer<'de> {
     ///
     /// Another text is `ParseNumber`, another event or style `UnexpectedEvent`.
     pub fn read_u64(&mut self, alloc: Global) -> Result<u64, DeError>
-        ensures { Gives (λ read. (read, source_of self.new)) result (scalar.unsigned_at 18446744073709551615 (source_of self.old)) }
+        ensures { ReadGives (λ read. (read, source_of self.new)) result
+            (scalar.unsigned_at 18446744073709551615 (source_of self.old)) }
     {
         self.unsigned(alloc, u64::MAX)
     }
@@ -207,7 +208,8 @@ impl<'de> YamlDeserializer<'de> {
     ///
     /// Another text is `ParseNumber`, another event or style `UnexpectedEvent`.
     pub fn read_i8(&mut self, alloc: Global) -> Result<i8, DeError>
-        ensures { Gives (λ read. (read, source_of self.new)) result (scalar.signed_at (negsuc 127) (pos 127) (source_of self.old)) }
+        ensures { ReadGives (λ read. (read, source_of self.new)) result
+            (scalar.signed_at (negsuc 127) (pos 127) (source_of self.old)) }
     {
         Ok(self.signed(alloc, i64::from(i8::MIN), i64::from(i8::MAX))? as i8)
     }
@@ -216,7 +218,8 @@ impl<'de> YamlDeserializer<'de> {
     ///
     /// Another text is `ParseNumber`, another event or style `UnexpectedEvent`.
     pub fn read_i16(&mut self, alloc: Global) -> Result<i16, DeError>
-        ensures { Gives (λ read. (read, source_of self.new)) result (scalar.signed_at (negsuc 32767) (pos 32767) (source_of self.old)) }
+        ensures { ReadGives (λ read. (read, source_of self.new)) result
+            (scalar.signed_at (negsuc 32767) (pos 32767) (source_of self.old)) }
     {
         Ok(self.signed(alloc, i64::from(i16::MIN), i64::from(i16::MAX))? as i16)
     }
@@ -225,7 +228,8 @@ impl<'de> YamlDeserializer<'de> {
     ///
     /// Another text is `ParseNumber`, another event or style `UnexpectedEvent`.
     pub fn read_i32(&mut self, alloc: Global) -> Result<i32, DeError>
-        ensures { Gives (λ read. (read, source_of self.new)) result (scalar.signed_at (negsuc 2147483647) (pos 2147483647) (source_of self.old)) }
+        ensures { ReadGives (λ read. (read, source_of self.new)) result
+            (scalar.signed_at (negsuc 2147483647) (pos 2147483647) (source_of self.old)) }
     {
         Ok(self.signed(alloc, i64::from(i32::MIN), i64::from(i32::MAX))? as i32)
     }
@@ -234,7 +238,8 @@ impl<'de> YamlDeserializer<'de> {
     ///
     /// Another text is `ParseNumber`, another event or style `UnexpectedEvent`.
     pub fn read_i64(&mut self, alloc: Global) -> Result<i64, DeError>
-        ensures { Gives (λ read. (read, source_of self.new)) result (scalar.signed_at (negsuc 9223372036854775807) (pos 9223372036854775807) (source_of self.old)) }
+        ensures { ReadGives (λ read. (read, source_of self.new)) result
+            (scalar.signed_at (negsuc 9223372036854775807) (pos 9223372036854775807) (source_of self.old)) }
     {
         self.signed(alloc, i64::MIN, i64::MAX)
     }
@@ -244,7 +249,7 @@ impl<'de> YamlDeserializer<'de> {
     /// Another event is `UnexpectedEvent`.
     #[tactic(auto, unfolding(crate::specs::Scalar::any_at, crate::specs::Source::taken))]
     pub fn read_scalar(&mut self, alloc: Global) -> Result<(Text, Marker), DeError>
-        ensures { Gives (λ read. (read.0, source_of self.new)) result (scalar.any_at (source_of self.old)) }
+        ensures { ReadGives (λ read. (read.0, source_of self.new)) result (scalar.any_at (source_of self.old)) }
     {
         let (event, mark) = self.pull(alloc)?;
         match event {
@@ -257,7 +262,7 @@ impl<'de> YamlDeserializer<'de> {
     ///
     /// Another event is `UnexpectedEvent`.
     pub fn read_text(&mut self, alloc: Global) -> Result<Text, DeError>
-        ensures { Gives (λ read. (read, source_of self.new)) result (scalar.any_at (source_of self.old)) }
+        ensures { ReadGives (λ read. (read, source_of self.new)) result (scalar.any_at (source_of self.old)) }
     {
         let (text, _) = self.read_scalar(alloc)?;
         Ok(text)
@@ -266,7 +271,7 @@ impl<'de> YamlDeserializer<'de> {
     /// Nothing: `null` or `~` in any style, or the end of an empty document.
     #[tactic(auto, unfolding(crate::specs::Source::taken))]
     pub fn read_unit(&mut self, alloc: Global) -> Result<(), DeError>
-        ensures { Gives (λ read. (read, source_of self.new)) result (scalar.unit_at (source_of self.old)) }
+        ensures { ReadGives (λ read. (read, source_of self.new)) result (scalar.unit_at (source_of self.old)) }
     {
         let (event, mark) = self.pull(alloc)?;
         match event {
@@ -323,7 +328,7 @@ fn is_document_end(event: &Event) -> bool
 }
 
 /// Whether an event is the stream's end.
-pub(crate) fn is_stream_end(event: &Event) -> bool
+pub fn is_stream_end(event: &Event) -> bool
     ensures { result ≡ collections.is_stream_end event.now }
 {
     match event {
@@ -356,14 +361,14 @@ fn signed_number(text: &str, least: i64, most: i64) -> Option<i64>
 }
 
 /// Whether a text is `null` or `~`.
-pub(crate) fn is_null(text: &str) -> bool
+pub fn is_null(text: &str) -> bool
     ensures { result ≡ scalar.is_null text.now }
 {
     text == "null" || text == "~"
 }
 
 /// The error at an event that a read does not take.
-pub(crate) fn wrong_event(alloc: Global, expected: &str, event: Event, mark: Marker) -> DeError
+pub fn wrong_event(alloc: Global, expected: &str, event: Event, mark: Marker) -> DeError
     ensures { IsRefusal result (spec.WrongEvent event) }
 {
     match Text::copy_of(alloc, expected) {
@@ -373,7 +378,7 @@ pub(crate) fn wrong_event(alloc: Global, expected: &str, event: Event, mark: Mar
 }
 
 /// The error at a scalar whose text a read does not take.
-pub(crate) fn wrong_scalar(alloc: Global, expected: &str, text: Text, mark: Marker) -> DeError
+pub fn wrong_scalar(alloc: Global, expected: &str, text: Text, mark: Marker) -> DeError
     ensures { IsRefusal result (spec.WrongScalar text) }
 {
     match Text::copy_of(alloc, expected) {

@@ -13,25 +13,25 @@ use yaml_small::{Event, Marker, ScanError};
 #[derive(Debug, Drop, PartialEq, Eq, Error)]
 pub enum DeError {
     /// A scalar's text is not what the read takes: what was expected, the text, and its place.
-    #[error("expected {0}, and `{1}` stands here: {2:?}")]
+    #[error("expected {0}, and `{1}` stands at {2}; correct it")]
     UnexpectedScalar(Text, Text, Marker),
     /// An event is not what the read takes: what was expected, the event, and its place.
-    #[error("expected {0}, and {1:?} stands here: {2:?}")]
+    #[error("expected {0}, and {1} stands at {2}; correct it")]
     UnexpectedEvent(Text, Event, Marker),
     /// No document of a carried form goes on.
     #[error("{0}")]
     Scan(ScanError),
     /// A plain scalar is no number in the type's range: its text.
-    #[error("`{0}` is no number that fits here")]
+    #[error("`{0}` is no number that fits here; correct it")]
     ParseNumber(Text),
     /// Texts and bytes are never lent: read a text that is owned.
-    #[error("this kind of value cannot be read; read an owned text")]
+    #[error("this kind of value is not supported; read an owned text")]
     Unsupported,
     /// A real number has no value here: its place.
-    #[error("a real number stands here, which is not supported; put it in quotes: {0:?}")]
+    #[error("the real number at {0} is not supported; write an integer")]
     RealForm(Marker),
     /// More stands behind the value: where.
-    #[error("the text goes on behind the value; remove what stands here: {0:?}")]
+    #[error("the text continues behind the value at {0}; remove what stands there")]
     NotEnded(Marker),
     /// A map has a field that the type does not have: its name.
     #[error("there is no field `{0}`; correct its name or remove it")]

@@ -9,8 +9,6 @@ mod error;
 mod impls;
 mod list;
 mod read;
-#[cfg(test)]
-mod tests;
 mod text;
 mod wrapper;
 

@@ -3,8 +3,8 @@
 ghost use Rattle.std.specs.Prelude.{ℕ, List, Option, Result};
 ghost use Rattle.yaml_small.specs.Trees.{Tree};
 ghost use Rattle.yaml_read.specs.Source.{Source, Refusal};
-ghost use Rattle.yaml_read.specs.Told.{Reads};
-ghost use Rattle.yaml_read.specs.Answers.{source_of, Gives};
+ghost use Rattle.yaml_read.specs.Emitted.{Reads};
+ghost use Rattle.yaml_read.specs.Answers.{source_of, ReadGives};
 
 use crate::deserializer::YamlDeserializer;
 use crate::error::DeError;
@@ -27,9 +27,9 @@ pub trait ReadYaml: Sized + Drop {
 
     /// Reads a value.
     fn read_yaml(alloc: Global, de: &mut YamlDeserializer<'_>) -> Result<Self, DeError>
-        ensures { Gives (λ read. (seen read, source_of de.new)) result (read_at (source_of de.old)) };
+        ensures { ReadGives (λ read. (seen read, source_of de.new)) result (read_at (source_of de.old)) };
 
-    /// What is read from a place is what the node that is told there stands for.
+    /// What is read from a place is what the node that is emitted there stands for.
     ghost reads: { Reads of_node read_at };
 }
 
@@ -49,9 +49,9 @@ pub trait SeqFill: Drop {
 
     /// Reads an item. `at` counts the items before it.
     fn item(&mut self, alloc: Global, at: u64, de: &mut YamlDeserializer<'_>) -> Result<(), DeError>
-        ensures { Gives (λ _. (seen self.new, source_of de.new)) result (fills (seen self.old) at (source_of de.old)) };
+        ensures { ReadGives (λ _. (seen self.new, source_of de.new)) result (fills (seen self.old) at (source_of de.old)) };
 
-    /// What is read from a place is what the node that is told there stands for.
+    /// What is read from a place is what the node that is emitted there stands for.
     ghost reads: { (fill : Seen) (at : ℕ) → Reads (takes fill at) (fills fill at) };
 }
 
@@ -76,8 +76,8 @@ pub trait MapFill: Drop {
         key: Text,
         de: &mut YamlDeserializer<'_>,
     ) -> Result<(), DeError>
-        ensures { Gives (λ _. (seen self.new, source_of de.new)) result (fills (seen self.old) key (source_of de.old)) };
+        ensures { ReadGives (λ _. (seen self.new, source_of de.new)) result (fills (seen self.old) key (source_of de.old)) };
 
-    /// What is read from a place is what the node that is told there stands for.
+    /// What is read from a place is what the node that is emitted there stands for.
     ghost reads: { (fill : Seen) (key : List ℕ) → Reads (takes fill key) (fills fill key) };
 }

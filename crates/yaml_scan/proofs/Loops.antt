@@ -29,8 +29,8 @@ pub plain_len-step : (flow white : Bool) (xs : List ℕ) (i len : ℕ) → i < l
     → whole_len len i (plain_len flow white (drop i xs)) ≡ whole_len (cond (is_white (get_or xs i 0)) len (i + 1)) (i + 1) (plain_len flow (is_white (get_or xs i 0)) (drop (i + 1) xs))
 plain_len-step flow white xs i len lt more =
     let cell = drop-cons xs i 0 lt in
-    let goes : ends_plain flow white (get_or xs i 0 ∷ drop (suc i) xs) ≡ false = sym (ap (ends_plain flow white) cell) ∙ more in
-    rw (add-one i, cell, goes) (whole_len-step (get_or xs i 0) len i (plain_len flow (is_white (get_or xs i 0)) (drop (suc i) xs)))
+    let continues : ends_plain flow white (get_or xs i 0 ∷ drop (suc i) xs) ≡ false = sym (ap (ends_plain flow white) cell) ∙ more in
+    rw (add-one i, cell, continues) (whole_len-step (get_or xs i 0) len i (plain_len flow (is_white (get_or xs i 0)) (drop (suc i) xs)))
 
 pub plain_len-end : (flow white : Bool) (xs : List ℕ) (i : ℕ) → length xs ≤ i → plain_len flow white (drop i xs) ≡ 0
 plain_len-end flow white xs i le = rw drop_all refl

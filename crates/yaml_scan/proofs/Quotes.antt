@@ -2,7 +2,7 @@
 use Rattle.std.proofs.Common.{◌≡◌, ℕ, ◌≤◌, List, [], ◌∷◌, ◌++◌, length, drop, get_or, false, eqb, Option, Some, None, Ok, Err, refl, sym, ap, ◌∙◌, append_assoc, arith}
 use Rattle.yaml_scan.specs.Bytes.{is_control}
 use Rattle.yaml_scan.specs.declared.quoted.Inside.{Inside}
-use Rattle.yaml_scan.specs.Quoted.{Found, with_text, single_at, double_at, closes, goes_on, turn_at, Turn, next_of, text_of}
+use Rattle.yaml_scan.specs.Quoted.{Found, with_text, single_at, double_at, closes, continued, turn_at, Turn, next_of, text_of}
 
 pub with_text-append : (a b : List ℕ) (f : Found) → with_text (a ++ b) f ≡ with_text a (with_text b f)
 with_text-append a b (Ok f) = rw append_assoc refl
@@ -29,7 +29,7 @@ single_at-byte text (c ∷ d ∷ cs) le other clean =
     let no : eqb c 39 ≡ false = other in
     rw (no, clean) (with_text-append text (c ∷ []) (single_at (d ∷ cs)))
 
-went_on : (text : List ℕ) (turn : Option Turn) (after : Inside) (f : Inside → Found) → Some after ≡ next_of turn → with_text (text ++ text_of turn) (f after) ≡ with_text text (goes_on turn f)
+went_on : (text : List ℕ) (turn : Option Turn) (after : Inside) (f : Inside → Found) → Some after ≡ next_of turn → with_text (text ++ text_of turn) (f after) ≡ with_text text (continued turn f)
 went_on text None after f e = absurd cc
 went_on text (Some t) after f e =
     let same : after ≡ t.next = cc in
@@ -43,6 +43,6 @@ double_at-byte text text' [] behind inside after e le other next longer = absurd
 double_at-byte text text' (c ∷ cs) behind inside after e le other next longer =
     let no : closes inside c ≡ false = other in
     let same : behind ≡ cs = e in
-    let goes : Some after ≡ next_of (turn_at inside c cs) = next ∙ ap (λ (xs : List ℕ). next_of (turn_at inside c xs)) same in
+    let continues : Some after ≡ next_of (turn_at inside c cs) = next ∙ ap (λ (xs : List ℕ). next_of (turn_at inside c xs)) same in
     let text_is : text' ≡ text ++ text_of (turn_at inside c cs) = longer ∙ ap (λ (xs : List ℕ). text ++ text_of (turn_at inside c xs)) same in
-    rw (no, same, text_is) (went_on text (turn_at inside c cs) after (double_at cs) goes)
+    rw (no, same, text_is) (went_on text (turn_at inside c cs) after (double_at cs) continues)

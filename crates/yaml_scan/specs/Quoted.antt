@@ -1,9 +1,9 @@
 -- Quoted scalars of one line (YAML 1.2.2, sections 7.3.1, 7.3.2 and 5.7).
-use Rattle.std.specs.Prelude.{ℕ, ◌+◌, ◌*◌, ◌-◌, List, [], ◌∷◌, ◌++◌, Bool, false, nat_lt, ◌==◌, cond, Option, Some, None, Result, Ok, Err}
+use Rattle.std.specs.Prelude.{ℕ, ◌+◌, ◌*◌, ◌-◌, List, [], ◌∷◌, ◌++◌, Bool, false, nat_lt, ◌==◌, if◌then◌else◌, Option, Some, None, Result, Ok, Err}
 use Rattle.std.specs.Char.{encode_utf8, digit_value, is_digit}
 use lib.Utf8.{scalar}
 use Rattle.warg_values.specs.Reading.{◌>>=◌}
-use Rattle.yaml_scan.specs.Bytes.{is_control}
+use Rattle.yaml_scan.specs.Bytes.{upper_u, lower_x, lower_u, double_quote, single_quote, backslash, is_control}
 use Rattle.yaml_scan.specs.declared.quoted.Inside.{Inside}
 use Rattle.yaml_scan.specs.declared.quoted.Inside.TheVariants.{Text, Backslash, Hex}
 
@@ -22,23 +22,46 @@ with_text text found = found >>= λ f. Ok (text ++ f.0, f.1)
 -- Single quotes: two quotes are one.
 abbrev pub single_at : List ℕ → Found
 single_at [] = Err Open
-single_at (c ∷ []) = cond (c == 39) (Ok ([], [])) (cond (is_control (c ∷ [])) (Err Bad) (Err Open))
+single_at (c ∷ []) =
+    if c == single_quote then Ok ([], [])
+    else if is_control (c ∷ []) then Err Bad
+    else Err Open
 single_at (c ∷ d ∷ cs) =
-    cond (c == 39) (cond (d == 39) (with_text (39 ∷ []) (single_at cs)) (Ok ([], d ∷ cs)))
-    (cond (is_control (c ∷ d ∷ cs)) (Err Bad) (with_text (c ∷ []) (single_at (d ∷ cs))))
+    if c == single_quote then
+    (if d == single_quote then with_text (single_quote ∷ []) (single_at cs) else Ok ([], d ∷ cs))
+    else if is_control (c ∷ d ∷ cs) then Err Bad
+    else with_text (c ∷ []) (single_at (d ∷ cs))
 
--- the character that a letter stands for behind a backslash
+-- The character that a byte stands for behind a backslash (productions [42] to [58]): 0, a, b, t, n, v, f, r, e, a
+-- space, a double quote, a slash, a backslash, N, _, L and P.
 abbrev pub escaped : ℕ → Option ℕ
 escaped c =
-    cond (c == 48) (Some 0) (cond (c == 97) (Some 7) (cond (c == 98) (Some 8) (cond (c == 116) (Some 9)
-    (cond (c == 110) (Some 10) (cond (c == 118) (Some 11) (cond (c == 102) (Some 12) (cond (c == 114) (Some 13)
-    (cond (c == 101) (Some 27) (cond (c == 32) (Some 32) (cond (c == 34) (Some 34) (cond (c == 47) (Some 47)
-    (cond (c == 92) (Some 92) (cond (c == 78) (Some 0x85) (cond (c == 95) (Some 0xa0) (cond (c == 76) (Some 0x2028)
-    (cond (c == 80) (Some 0x2029) None))))))))))))))))
+    if c == 0x30 then Some 0x00
+    else if c == 0x61 then Some 0x07
+    else if c == 0x62 then Some 0x08
+    else if c == 0x74 then Some 0x09
+    else if c == 0x6e then Some 0x0a
+    else if c == 0x76 then Some 0x0b
+    else if c == 0x66 then Some 0x0c
+    else if c == 0x72 then Some 0x0d
+    else if c == 0x65 then Some 0x1b
+    else if c == 0x20 then Some 0x20
+    else if c == 0x22 then Some 0x22
+    else if c == 0x2f then Some 0x2f
+    else if c == 0x5c then Some 0x5c
+    else if c == 0x4e then Some 0x85
+    else if c == 0x5f then Some 0xa0
+    else if c == 0x4c then Some 0x2028
+    else if c == 0x50 then Some 0x2029
+    else None
 
--- how many hex digits a letter wants behind a backslash
+-- How many hex digits a letter wants behind a backslash (productions [59] to [61]).
 abbrev pub digits_wanted : ℕ → Option ℕ
-digits_wanted c = cond (c == 120) (Some 2) (cond (c == 117) (Some 4) (cond (c == 85) (Some 8) None))
+digits_wanted c =
+    if c == lower_x then Some 2
+    else if c == lower_u then Some 4
+    else if c == upper_u then Some 8
+    else None
 
 -- What a byte of a double-quoted scalar gives, and where the next one stands; nothing, where it can't stand there.
 -- A backslash begins an escape, which stands for one character. Hex wanted value wants that many digits more
@@ -51,7 +74,10 @@ abbrev pub turn : List ℕ → Inside → Option Turn
 turn text next = Some (record { text = text; next = next })
 
 abbrev pub text_turn : ℕ → List ℕ → Option Turn
-text_turn c cs = cond (c == 92) (turn [] Backslash) (cond (is_control (c ∷ cs)) None (turn (c ∷ []) Text))
+text_turn c cs =
+    if c == backslash then turn [] Backslash
+    else if is_control (c ∷ cs) then None
+    else turn (c ∷ []) Text
 
 abbrev pub escape_turn : Option ℕ → Option ℕ → Option Turn
 escape_turn (Some wanted) character = turn [] (Hex wanted 0)
@@ -61,11 +87,13 @@ escape_turn None None = None
 -- The number is at most that of the last character, and with the last digit it is a character.
 abbrev pub hex_turn : ℕ → ℕ → Option Turn
 hex_turn wanted value =
-    cond (nat_lt value 0x110000)
-    (cond (wanted == 1) (cond (scalar value) (turn (encode_utf8 value) Text) None) (turn [] (Hex (wanted - 1) value))) None
+    if nat_lt value 0x110000 then
+    (if wanted == 1 then (if scalar value then turn (encode_utf8 value) Text else None)
+    else turn [] (Hex (wanted - 1) value))
+    else None
 
 abbrev pub digit_turn : ℕ → ℕ → ℕ → Option Turn
-digit_turn wanted value c = cond (is_digit c 16) (hex_turn wanted (16 * value + digit_value c)) None
+digit_turn wanted value c = if is_digit c 16 then hex_turn wanted (16 * value + digit_value c) else None
 
 abbrev pub turn_at : Inside → ℕ → List ℕ → Option Turn
 turn_at Text c cs = text_turn c cs
@@ -80,12 +108,12 @@ abbrev pub text_of : Option Turn → List ℕ
 text_of None = []
 text_of (Some t) = t.text
 
-abbrev pub goes_on : Option Turn → (Inside → Found) → Found
-goes_on None f = Err Bad
-goes_on (Some t) f = with_text t.text (f t.next)
+abbrev pub continued : Option Turn → (Inside → Found) → Found
+continued None f = Err Bad
+continued (Some t) f = with_text t.text (f t.next)
 
 abbrev pub closes : Inside → ℕ → Bool
-closes Text c = c == 34
+closes Text c = c == double_quote
 closes Backslash c = false
 closes (Hex wanted value) c = false
 
@@ -98,7 +126,7 @@ cut_off (Hex wanted value) = Bad
 -- Double quotes, behind the opening one or further in.
 abbrev pub double_at : List ℕ → Inside → Found
 double_at [] inside = Err (cut_off inside)
-double_at (c ∷ cs) inside = cond (closes inside c) (Ok ([], cs)) (goes_on (turn_at inside c cs) (double_at cs))
+double_at (c ∷ cs) inside = if closes inside c then Ok ([], cs) else continued (turn_at inside c cs) (double_at cs)
 
 -- Double quotes, behind the opening one.
 abbrev pub double_quoted_at : List ℕ → Found

@@ -3,7 +3,7 @@
 ghost use Rattle.std.specs.Prelude.{◌≡◌, ◌∷◌, ◌≤◌, ◌<◌, length, option_copied, IfSome};
 ghost use Rattle.yaml_scan.specs.Lines as spec;
 
-use crate::bytes::{is_clean, is_gap, is_white, whites};
+use crate::bytes::{is_clean, is_white, whites};
 use memchr::memchr;
 
 /// The first line of a text, and what stands behind its end, which is a line feed or a carriage return and a
@@ -31,7 +31,7 @@ fn without_return(line: &[u8]) -> &[u8]
     }
 }
 
-/// Whether the rest of a line is nothing or a comment.
+/// Whether the rest of a line is nothing, or a comment without control characters.
 fn is_over(rest: &[u8]) -> bool
     ensures { result ≡ spec.is_over rest.now }
 {
@@ -65,6 +65,16 @@ pub fn is_white_line(line: &[u8]) -> bool
     whites(line) == line.len()
 }
 
+/// Whether a line has a comment alone, whatever the comment holds.
+pub fn is_comment_line(line: &[u8]) -> bool
+    ensures { result ≡ spec.is_comment_line line.now }
+{
+    match &line[whites(line)..] {
+        [] => false,
+        [first, ..] => *first == b'#',
+    }
+}
+
 /// Whether the first line that is not of white space is there, and has more than a comment.
 pub fn text_follows(later: Option<&[u8]>) -> bool
     ensures { result ≡ spec.text_follows (spec.lines_behind (option_copied later.entry)) }
@@ -73,23 +83,33 @@ pub fn text_follows(later: Option<&[u8]>) -> bool
     while let Some(text) = rest {
         let (line, behind) = cut_line(text);
         if !is_white_line(line) {
-            return !is_passed(line);
+            return !is_comment_line(line);
         }
         rest = behind;
     }
     false
 }
 
-/// Whether a line begins with `---` as a mark: before a space or the line's end.
+/// Whether what stands before this can be a document's mark: white space follows, or the line ends.
+fn is_break(line: &[u8]) -> bool
+    ensures { result ≡ spec.is_break line.now }
+{
+    match line {
+        [] => true,
+        [first, ..] => is_white(*first),
+    }
+}
+
+/// Whether a line begins with `---` as a mark: before white space or the line's end.
 pub fn is_dashes(line: &[u8]) -> bool
     ensures { result ≡ spec.is_dashes line.now }
 {
-    line.starts_with(b"---") && is_gap(&line[3..])
+    line.starts_with(b"---") && is_break(&line[3..])
 }
 
-/// Whether a line begins with `...` as a mark: before a space or the line's end.
+/// Whether a line begins with `...` as a mark: before white space or the line's end.
 pub fn is_dots(line: &[u8]) -> bool
     ensures { result ≡ spec.is_dots line.now }
 {
-    line.starts_with(b"...") && is_gap(&line[3..])
+    line.starts_with(b"...") && is_break(&line[3..])
 }

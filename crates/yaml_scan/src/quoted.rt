@@ -10,7 +10,9 @@ use std::alloc::{AllocError, AllocFailed, Global};
 /// A quoted scalar that was found: its text, and the rest of the line behind its closing quote.
 #[derive(Debug, Drop)]
 pub struct Quoted<'a> {
+    /// The text, in bytes.
     pub text: Vec<u8>,
+    /// The rest of the line behind the closing quote.
     pub rest: &'a [u8],
 }
 
@@ -162,7 +164,9 @@ fn text_turn(text: &mut Vec<u8>, byte: u8, behind: &[u8]) -> Result<Option<Insid
 /// The same behind a backslash.
 fn escape_turn(text: &mut Vec<u8>, byte: u8) -> Result<Option<Inside>, AllocError>
     ensures next { IfOk result (λ o. o ≡ spec.next_of (spec.escape_turn (spec.digits_wanted byte) (spec.escaped byte))) }
-    ensures text { OnOk result (text.new.items ≡ text.old.items ++ spec.text_of (spec.escape_turn (spec.digits_wanted byte) (spec.escaped byte))) }
+    ensures text { OnOk result
+        (text.new.items
+        ≡ text.old.items ++ spec.text_of (spec.escape_turn (spec.digits_wanted byte) (spec.escaped byte))) }
 {
     if let Some(wanted) = digits_wanted(byte) {
         return Ok(Some(Inside::Hex(wanted, 0)));

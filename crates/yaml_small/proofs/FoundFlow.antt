@@ -2,28 +2,28 @@
 use Rattle.std.proofs.Common.{◌≡◌, ℕ, zero, suc, ◌+◌, ◌<◌, ◌≤◌, List, [], ◌∷◌, ◌++◌, length, Bool, true, false, Option, Some, None, Result, Ok, refl, sym, ap, ◌∙◌, subst, inl, inr, arith}
 use Rattle.yaml_small.specs.declared.event.Event.{Event}
 use Rattle.yaml_small.specs.declared.event.Event.TheVariants.{SequenceStart, SequenceEnd, MappingStart, MappingEnd}
-use Rattle.yaml_small.specs.declared.state.Mode.TheVariants.{Open, Paired, Done, Ended}
+use Rattle.yaml_small.specs.declared.state.Mode.TheVariants.{Open, AfterKey, Done, Ended}
 use Rattle.yaml_small.specs.declared.state.Frame.{Frame}
 use Rattle.yaml_small.specs.declared.state.Frame.TheVariants.{InSeq, InPairs}
 use Rattle.yaml_small.specs.declared.state.Change.TheVariants.{Keep, Pop}
-use Rattle.yaml_small.specs.Trees.{Tree, Leaf, Seq, Map, Trees, none, more, Pairs, no_pairs, pair, missing, scalar_event, depth, depths, pair_depths, told, each_told, pairs_told}
+use Rattle.yaml_small.specs.Trees.{Tree, Leaf, Seq, Map, Trees, none, more, Pairs, no_pairs, pair, missing, scalar_event, depth, depths, pair_depths, emitted, each_emitted, pairs_emitted}
 use Rattle.yaml_small.specs.Places.{At, past, flow_next, begins}
-use Rattle.yaml_small.specs.Scalars.{Fault, word_at, goes_on}
+use Rattle.yaml_small.specs.Scalars.{Fault, scalar_token_at, continues_below}
 use Rattle.yaml_small.specs.Grammar.{Flow, FlowItems, FlowPairs, FlowValue, is_quoted, is_flow_colon, closes_value}
-use Rattle.yaml_small.specs.Step.{Go, opened, settled, word_go, missing_go, inline_at, seq_entry, pairs_entry, seq_done, pairs_done, paired_at, flow_value, flow_key, flow_fault, seq_fault}
+use Rattle.yaml_small.specs.Step.{Transition, opened, settled, scalar_token_transition, missing_transition, inline_at, seq_entry, pairs_entry, seq_done, pairs_done, after_key_at, flow_value, flow_key, flow_fault, seq_fault}
 use Rattle.yaml_small.specs.Stream.{State, Runs}
 use Rattle.yaml_small.proofs.Runs.{From, done, landed, length_pushed, popped}
-use Rattle.yaml_small.proofs.Steps.{at_open_seq, at_open_pairs, at_done_seq, at_done_pairs, at_paired}
-use Rattle.yaml_small.proofs.Found.{choose, refused, went, landed_at, opened_at, Bound, bound, goes_in}
+use Rattle.yaml_small.proofs.Steps.{at_open_seq, at_open_pairs, at_done_seq, at_done_pairs, at_after_key}
+use Rattle.yaml_small.proofs.Found.{choose, refused, went, landed_at, opened_at, Bound, bound, continues_in}
 
 pub record FoundFlow (fl : Bool) (k : List Frame) (a : At) (es : List Event) (z : State) : Type 0 where
   pub tree : Tree
   pub end : At
-  pub goes : Bool
+  pub continues : Bool
   pub rest : List Event
   pub form : Flow fl tree a end
-  pub told_is : es ≡ told tree rest
-  pub runs : Runs (landed fl goes end k) rest z
+  pub emitted_is : es ≡ emitted tree rest
+  pub runs : Runs (landed fl continues end k) rest z
   pub less : length rest < length es
   pub shallow : depth tree + length k ≤ 64
 
@@ -37,7 +37,7 @@ pub record FoundItems (fl : Bool) (k : List Frame) (a : At) (es : List Event) (z
   pub end : At
   pub rest : List Event
   pub form : FlowItems items a end
-  pub told_is : es ≡ each_told items (SequenceEnd ∷ rest)
+  pub emitted_is : es ≡ each_emitted items (SequenceEnd ∷ rest)
   pub runs : Runs (landed fl false end k) rest z
   pub less : length rest < length es
   pub shallow : depths items + suc (length k) ≤ 64
@@ -47,7 +47,7 @@ pub record FoundPairs (fl : Bool) (k : List Frame) (a : At) (es : List Event) (z
   pub end : At
   pub rest : List Event
   pub form : FlowPairs pairs a end
-  pub told_is : es ≡ pairs_told pairs (MappingEnd ∷ rest)
+  pub emitted_is : es ≡ pairs_emitted pairs (MappingEnd ∷ rest)
   pub runs : Runs (landed fl false end k) rest z
   pub less : length rest < length es
   pub shallow : pair_depths pairs + suc (length k) ≤ 64
@@ -55,11 +55,11 @@ pub record FoundPairs (fl : Bool) (k : List Frame) (a : At) (es : List Event) (z
 record FoundValue (q : Bool) (k' : List Frame) (a : At) (es : List Event) (z : State) : Type 0 where
   tree : Tree
   end : At
-  goes : Bool
+  continues : Bool
   rest : List Event
   form : FlowValue (Flow true tree) q tree a end
-  told_is : es ≡ told tree rest
-  runs : Runs (done goes end k') rest z
+  emitted_is : es ≡ emitted tree rest
+  runs : Runs (done continues end k') rest z
   less : length rest < length es
   shallow : depth tree + length k' ≤ 64
 
@@ -87,7 +87,7 @@ seq_further fl k d g a es z h comma end =
 -- the closing bracket
 record Closing (fl : Bool) (k : List Frame) (e : Event) (a : At) (es : List Event) (z : State) : Type 0 where
   tail : List Event
-  told_is : es ≡ e ∷ tail
+  emitted_is : es ≡ e ∷ tail
   runs : Runs (landed fl false (past 1 a) k) tail z
   less : length tail < length es
 
@@ -96,9 +96,9 @@ closing fl k f e a es z h =
     let l = landed_at (k ++ (f ∷ [])) fl false e Pop (past 1 a) es z h in
     record {
       tail = l.tail;
-      told_is = l.told_is;
+      emitted_is = l.emitted_is;
       runs = subst (λ (x : List Frame). Runs (landed fl false (past 1 a) x) l.tail z) (popped k f) l.runs;
-      less = omega (arith, ap length l.told_is);
+      less = omega (arith, ap length l.emitted_is);
     }
 
 items_found : (n : ℕ) → FlowLaw n → (m : ℕ) → m ≤ n → (fl : Bool) (k : List Frame) (a : At) (es : List Event) (z : State) → length es ≤ m → z.mode ≡ Ended → length k < 64
@@ -109,12 +109,12 @@ items_found n law (suc m) le fl k a es z short fin room h =
     let k' = k ++ (InSeq fl ∷ []) in
     entry_found fl k' (suc (length k)) a es z h
     (λ end h. let c = closing fl k (InSeq fl) SequenceEnd a es z h in
-    record { items = none; end = past 1 a; rest = c.tail; form = (end, refl); told_is = c.told_is; runs = c.runs; less = c.less; shallow = omega arith })
+    record { items = none; end = past 1 a; rest = c.tail; form = (end, refl); emitted_is = c.emitted_is; runs = c.runs; less = c.less; shallow = omega arith })
     (λ open_item h.
     let f = inner n law k (InSeq fl) a es z (omega arith) fin room h in
-    let further = subst (λ (r : Result Go Fault). From k' r f.rest z) (at_done_seq (suc (length k)) f.goes fl f.end)
-    (goes_in (Done f.goes) k (InSeq fl) f.end f.rest z (λ e. absurd cc) fin f.runs) in
-    seq_further fl k' (suc (length k)) f.goes (flow_next f.end) f.rest z further
+    let further = subst (λ (r : Result Transition Fault). From k' r f.rest z) (at_done_seq (suc (length k)) f.continues fl f.end)
+    (continues_in (Done f.continues) k (InSeq fl) f.end f.rest z (λ e. absurd cc) fin f.runs) in
+    seq_further fl k' (suc (length k)) f.continues (flow_next f.end) f.rest z further
     (λ comma h.
     let i = items_found n law m (omega arith) fl k (flow_next (past 1 (flow_next f.end))) f.rest z (omega (arith, f.less)) fin room h in
     record {
@@ -122,7 +122,7 @@ items_found n law (suc m) le fl k a es z short fin room h =
       end = i.end;
       rest = i.rest;
       form = (f.end, open_item, f.form, inl (comma, i.form));
-      told_is = f.told_is ∙ ap (told f.tree) i.told_is;
+      emitted_is = f.emitted_is ∙ ap (emitted f.tree) i.emitted_is;
       runs = i.runs;
       less = omega (arith, f.less, i.less);
       shallow = omega (arith, f.shallow, i.shallow, length_pushed k (InSeq fl));
@@ -134,17 +134,17 @@ items_found n law (suc m) le fl k a es z short fin room h =
       end = past 1 (flow_next f.end);
       rest = c.tail;
       form = (f.end, open_item, f.form, inr (comma, end, refl, refl));
-      told_is = f.told_is ∙ ap (told f.tree) c.told_is;
+      emitted_is = f.emitted_is ∙ ap (emitted f.tree) c.emitted_is;
       runs = c.runs;
       less = omega (arith, f.less, c.less);
       shallow = omega (arith, f.shallow, length_pushed k (InSeq fl));
     }))
 
 pairs_entry_found : {P : Type 0} (fl : Bool) (k : List Frame) (a : At) (es : List Event) (z : State) → From k (pairs_entry fl a) es z
-    → (begins 125 a.line ≡ true → From k (Ok (settled fl false MappingEnd Pop (past 1 a))) es z → P) → (begins 125 a.line ≡ false → Bound (word_at true a) flow_key k es z → P) → P
+    → (begins 125 a.line ≡ true → From k (Ok (settled fl false MappingEnd Pop (past 1 a))) es z → P) → (begins 125 a.line ≡ false → Bound (scalar_token_at true a) flow_key k es z → P) → P
 unfolding pairs_entry
 pairs_entry_found fl k a es z h here there =
-    choose k (begins 125 a.line) _ _ es z h here (λ key h. there key (bound (word_at true a) flow_key k es z h))
+    choose k (begins 125 a.line) _ _ es z h here (λ key h. there key (bound (scalar_token_at true a) flow_key k es z h))
 
 pairs_further : {P : Type 0} (fl : Bool) (k : List Frame) (g : Bool) (a : At) (es : List Event) (z : State) → From k (pairs_done fl g a) es z
     → (begins 44 a.line ≡ true → From k (pairs_entry fl (flow_next (past 1 a))) es z → P)
@@ -154,14 +154,14 @@ pairs_further fl k g a es z h comma end =
     choose k (begins 44 a.line) _ _ es z h comma
     (λ no_comma h. choose k (begins 125 a.line) _ _ es z h (λ close h. end no_comma close h) (λ _ h. refused k (flow_fault g a) es z h))
 
-none_found : (q : Bool) (k' : List Frame) (a b : At) (es : List Event) (z : State) → length k' ≤ 64 → FlowValue (Flow true missing) q missing a b → From k' (Ok (missing_go b)) es z → FoundValue q k' a es z
+none_found : (q : Bool) (k' : List Frame) (a b : At) (es : List Event) (z : State) → length k' ≤ 64 → FlowValue (Flow true missing) q missing a b → From k' (Ok (missing_transition b)) es z → FoundValue q k' a es z
 none_found q k' a b es z within form h =
-    let w = went k' (missing_go b) es z h in
-    record { tree = missing; end = b; goes = false; rest = w.tail; form = form; told_is = w.told_is; runs = w.runs; less = omega (arith, ap length w.told_is); shallow = omega arith }
+    let w = went k' (missing_transition b) es z h in
+    record { tree = missing; end = b; continues = false; rest = w.tail; form = form; emitted_is = w.emitted_is; runs = w.runs; less = omega (arith, ap length w.emitted_is); shallow = omega arith }
 
 value_found : (n : ℕ) → FlowLaw n → (k : List Frame) (f : Frame) (q g : Bool) (a : At) (es : List Event) (z : State) → length es ≤ n → z.mode ≡ Ended → length k < 64
-    → From (k ++ (f ∷ [])) (paired_at (suc (length k)) q g a) es z → FoundValue q (k ++ (f ∷ [])) a es z
-unfolding paired_at flow_value
+    → From (k ++ (f ∷ [])) (after_key_at (suc (length k)) q g a) es z → FoundValue q (k ++ (f ∷ [])) a es z
+unfolding after_key_at flow_value
 value_found n law k f q g a es z le fin room h =
     let k' = k ++ (f ∷ []) in
     let c = flow_next a in
@@ -171,7 +171,7 @@ value_found n law k f q g a es z le fin room h =
     (λ close h. none_found q k' a (past 1 c) es z within (inl (colon, inl (close, refl, refl))) h)
     (λ close h.
     let v = inner n law k f (flow_next (past 1 c)) es z le fin room h in
-    record { tree = v.tree; end = v.end; goes = v.goes; rest = v.rest; form = inl (colon, inr (close, v.form)); told_is = v.told_is; runs = v.runs; less = v.less; shallow = v.shallow }))
+    record { tree = v.tree; end = v.end; continues = v.continues; rest = v.rest; form = inl (colon, inr (close, v.form)); emitted_is = v.emitted_is; runs = v.runs; less = v.less; shallow = v.shallow }))
     (λ colon h. choose k' (closes_value c.line) _ _ es z h
     (λ close h. none_found q k' a a es z within (inr (colon, close, refl, refl)) h)
     (λ _ h. refused k' (flow_fault g c) es z h))
@@ -184,29 +184,29 @@ members_found n law (suc m) le fl k a es z short fin room h =
     let k' = k ++ (InPairs fl ∷ []) in
     pairs_entry_found fl k' a es z h
     (λ end h. let c = closing fl k (InPairs fl) MappingEnd a es z h in
-    record { pairs = no_pairs; end = past 1 a; rest = c.tail; form = (end, refl); told_is = c.told_is; runs = c.runs; less = c.less; shallow = omega arith })
+    record { pairs = no_pairs; end = past 1 a; rest = c.tail; form = (end, refl); emitted_is = c.emitted_is; runs = c.runs; less = c.less; shallow = omega arith })
     (λ open_pair b.
     let w = b.value in
-    let s = went k' (flow_key w) es z b.goes in
+    let s = went k' (flow_key w) es z b.continues in
     let q = is_quoted w.scalar in
-    let g = goes_on w.scalar.style w.end in
-    let short' : length s.tail ≤ n = omega (arith, ap length s.told_is) in
-    let paired = subst (λ (r : Result Go Fault). From k' r s.tail z) (at_paired (suc (length k)) q g (Some (InPairs fl)) w.end)
-    (goes_in (Paired q g) k (InPairs fl) w.end s.tail z (λ e. absurd cc) fin s.runs) in
-    let v = value_found n law k (InPairs fl) q g w.end s.tail z short' fin room paired in
-    let further = subst (λ (r : Result Go Fault). From k' r v.rest z) (at_done_pairs (suc (length k)) v.goes fl v.end)
-    (goes_in (Done v.goes) k (InPairs fl) v.end v.rest z (λ e. absurd cc) fin v.runs) in
-    pairs_further fl k' v.goes (flow_next v.end) v.rest z further
+    let g = continues_below w.scalar.style w.end in
+    let short' : length s.tail ≤ n = omega (arith, ap length s.emitted_is) in
+    let after_key = subst (λ (r : Result Transition Fault). From k' r s.tail z) (at_after_key (suc (length k)) q g (Some (InPairs fl)) w.end)
+    (continues_in (AfterKey q g) k (InPairs fl) w.end s.tail z (λ e. absurd cc) fin s.runs) in
+    let v = value_found n law k (InPairs fl) q g w.end s.tail z short' fin room after_key in
+    let further = subst (λ (r : Result Transition Fault). From k' r v.rest z) (at_done_pairs (suc (length k)) v.continues fl v.end)
+    (continues_in (Done v.continues) k (InPairs fl) v.end v.rest z (λ e. absurd cc) fin v.runs) in
+    pairs_further fl k' v.continues (flow_next v.end) v.rest z further
     (λ comma h.
-    let p = members_found n law m (omega arith) fl k (flow_next (past 1 (flow_next v.end))) v.rest z (omega (arith, v.less, ap length s.told_is)) fin room h in
+    let p = members_found n law m (omega arith) fl k (flow_next (past 1 (flow_next v.end))) v.rest z (omega (arith, v.less, ap length s.emitted_is)) fin room h in
     record {
       pairs = pair w.scalar v.tree p.pairs;
       end = p.end;
       rest = p.rest;
       form = (w.end, v.end, open_pair, b.is, v.form, inl (comma, p.form));
-      told_is = s.told_is ∙ ap (λ (t : List Event). scalar_event w.scalar ∷ t) (v.told_is ∙ ap (told v.tree) p.told_is);
+      emitted_is = s.emitted_is ∙ ap (λ (t : List Event). scalar_event w.scalar ∷ t) (v.emitted_is ∙ ap (emitted v.tree) p.emitted_is);
       runs = p.runs;
-      less = omega (arith, v.less, p.less, ap length s.told_is);
+      less = omega (arith, v.less, p.less, ap length s.emitted_is);
       shallow = omega (arith, v.shallow, p.shallow, length_pushed k (InPairs fl));
     })
     (λ comma end h.
@@ -216,9 +216,9 @@ members_found n law (suc m) le fl k a es z short fin room h =
       end = past 1 (flow_next v.end);
       rest = c.tail;
       form = (w.end, v.end, open_pair, b.is, v.form, inr (comma, end, refl, refl));
-      told_is = s.told_is ∙ ap (λ (t : List Event). scalar_event w.scalar ∷ t) (v.told_is ∙ ap (told v.tree) c.told_is);
+      emitted_is = s.emitted_is ∙ ap (λ (t : List Event). scalar_event w.scalar ∷ t) (v.emitted_is ∙ ap (emitted v.tree) c.emitted_is);
       runs = c.runs;
-      less = omega (arith, v.less, c.less, ap length s.told_is);
+      less = omega (arith, v.less, c.less, ap length s.emitted_is);
       shallow = omega (arith, v.shallow, length_pushed k (InPairs fl));
     }))
 
@@ -227,18 +227,18 @@ pub seq_found : (n : ℕ) → FlowLaw n → (fl : Bool) (k : List Frame) (a : At
     → From k (opened (length k) SequenceStart (past 1 a) Open (InSeq fl)) es z → FoundFlow fl k a es z
 seq_found n law fl k a es z le fin begin h =
     let o = opened_at k (length k) SequenceStart (past 1 a) Open (InSeq fl) es z h in
-    let entry = subst (λ (r : Result Go Fault). From (k ++ (InSeq fl ∷ [])) r o.tail z) (at_open_seq (suc (length k)) fl (past 1 a))
-    (goes_in Open k (InSeq fl) (past 1 a) o.tail z (λ e. absurd cc) fin o.runs) in
-    let i = items_found n law n (omega arith) fl k (flow_next (past 1 a)) o.tail z (omega (arith, ap length o.told_is)) fin o.room entry in
+    let entry = subst (λ (r : Result Transition Fault). From (k ++ (InSeq fl ∷ [])) r o.tail z) (at_open_seq (suc (length k)) fl (past 1 a))
+    (continues_in Open k (InSeq fl) (past 1 a) o.tail z (λ e. absurd cc) fin o.runs) in
+    let i = items_found n law n (omega arith) fl k (flow_next (past 1 a)) o.tail z (omega (arith, ap length o.emitted_is)) fin o.room entry in
     record {
       tree = Seq i.items;
       end = i.end;
-      goes = false;
+      continues = false;
       rest = i.rest;
       form = (begin, i.form);
-      told_is = o.told_is ∙ ap (λ (t : List Event). SequenceStart ∷ t) i.told_is;
+      emitted_is = o.emitted_is ∙ ap (λ (t : List Event). SequenceStart ∷ t) i.emitted_is;
       runs = i.runs;
-      less = omega (arith, i.less, ap length o.told_is);
+      less = omega (arith, i.less, ap length o.emitted_is);
       shallow = omega (arith, i.shallow);
     }
 
@@ -246,34 +246,34 @@ pub map_found : (n : ℕ) → FlowLaw n → (fl : Bool) (k : List Frame) (a : At
     → From k (opened (length k) MappingStart (past 1 a) Open (InPairs fl)) es z → FoundFlow fl k a es z
 map_found n law fl k a es z le fin begin h =
     let o = opened_at k (length k) MappingStart (past 1 a) Open (InPairs fl) es z h in
-    let entry = subst (λ (r : Result Go Fault). From (k ++ (InPairs fl ∷ [])) r o.tail z) (at_open_pairs (suc (length k)) fl (past 1 a))
-    (goes_in Open k (InPairs fl) (past 1 a) o.tail z (λ e. absurd cc) fin o.runs) in
-    let p = members_found n law n (omega arith) fl k (flow_next (past 1 a)) o.tail z (omega (arith, ap length o.told_is)) fin o.room entry in
+    let entry = subst (λ (r : Result Transition Fault). From (k ++ (InPairs fl ∷ [])) r o.tail z) (at_open_pairs (suc (length k)) fl (past 1 a))
+    (continues_in Open k (InPairs fl) (past 1 a) o.tail z (λ e. absurd cc) fin o.runs) in
+    let p = members_found n law n (omega arith) fl k (flow_next (past 1 a)) o.tail z (omega (arith, ap length o.emitted_is)) fin o.room entry in
     record {
       tree = Map p.pairs;
       end = p.end;
-      goes = false;
+      continues = false;
       rest = p.rest;
       form = (begin, p.form);
-      told_is = o.told_is ∙ ap (λ (t : List Event). MappingStart ∷ t) p.told_is;
+      emitted_is = o.emitted_is ∙ ap (λ (t : List Event). MappingStart ∷ t) p.emitted_is;
       runs = p.runs;
-      less = omega (arith, p.less, ap length o.told_is);
+      less = omega (arith, p.less, ap length o.emitted_is);
       shallow = omega (arith, p.shallow);
     }
 
-pub word_found : (fl : Bool) (k : List Frame) (a : At) (es : List Event) (z : State) → length k ≤ 64 → Bound (word_at fl a) (word_go fl) k es z → FoundFlow fl k a es z
-word_found fl k a es z within b =
+pub scalar_token_found : (fl : Bool) (k : List Frame) (a : At) (es : List Event) (z : State) → length k ≤ 64 → Bound (scalar_token_at fl a) (scalar_token_transition fl) k es z → FoundFlow fl k a es z
+scalar_token_found fl k a es z within b =
     let w = b.value in
-    let l = landed_at k fl (goes_on w.scalar.style w.end) (scalar_event w.scalar) Keep w.end es z b.goes in
+    let l = landed_at k fl (continues_below w.scalar.style w.end) (scalar_event w.scalar) Keep w.end es z b.continues in
     record {
       tree = Leaf w.scalar;
       end = w.end;
-      goes = goes_on w.scalar.style w.end;
+      continues = continues_below w.scalar.style w.end;
       rest = l.tail;
       form = b.is;
-      told_is = l.told_is;
+      emitted_is = l.emitted_is;
       runs = l.runs;
-      less = omega (arith, ap length l.told_is);
+      less = omega (arith, ap length l.emitted_is);
       shallow = omega arith;
     }
 
@@ -284,4 +284,4 @@ flow_law zero k parent a (e ∷ es) z le fin within h = absurd (omega arith)
 flow_law (suc n) k parent a es z le fin within h =
     choose k (begins 91 a.line) _ _ es z h (λ begin h. seq_found n (flow_law n) true k a es z le fin begin h)
     (λ _ h. choose k (begins 123 a.line) _ _ es z h (λ begin h. map_found n (flow_law n) true k a es z le fin begin h)
-    (λ _ h. word_found true k a es z within (bound (word_at true a) (word_go true) k es z h)))
+    (λ _ h. scalar_token_found true k a es z within (bound (scalar_token_at true a) (scalar_token_transition true) k es z h)))

@@ -6,10 +6,10 @@ use Rattle.yaml_scan.specs.Lines.{lines_of, lengthened}
 use Rattle.yaml_small.specs.Trees.{Tree}
 use Rattle.yaml_small.specs.Scalars.{Fault, NotCarried, open_fault}
 use Rattle.yaml_small.specs.Grammar.{without_mark, Carried}
-use Rattle.yaml_small.specs.Stream.{Refuses, IsFirm, ends_return}
+use Rattle.yaml_small.specs.Stream.{Refuses, IsFinal, ends_return}
 use Rattle.yaml_small.proofs.Scans.{lines_of-open}
 use Rattle.yaml_small.proofs.Marks.{and_false}
-use Rattle.yaml_small.proofs.Firm.{refused_for_good}
+use Rattle.yaml_small.proofs.Final.{refused_for_good}
 
 lengthened-more : (c : ℕ) (lines more : List (List ℕ)) → open_fault lines ≡ NotCarried → lengthened c (lines ++ more) ≡ lengthened c lines ++ more
 lengthened-more c [] more some = absurd cc
@@ -67,7 +67,7 @@ marked (a ∷ b ∷ c ∷ ds) rest e = record { same = either (test a b c); retu
     ending true (d ∷ ds) e = e
     ending false ds e = e
 
-pub refused_front : (text rest : List ℕ) (fault : Fault) (o : Option Tree) → Refuses text fault → IsFirm fault → ends_return text ≡ false → Carried (text ++ (10 ∷ rest)) o → ⊥
-refused_front text rest fault o refuses firm return carried =
+pub refused_front : (text rest : List ℕ) (fault : Fault) (o : Option Tree) → Refuses text fault → IsFinal fault → ends_return text ≡ false → Carried (text ++ (10 ∷ rest)) o → ⊥
+refused_front text rest fault o refuses final return carried =
     let m = marked text rest return in
-    refused_for_good text (text ++ (10 ∷ rest)) (lines_of rest) fault o refuses firm (ap lines_of m.same ∙ lines_behind_feed (without_mark text) rest m.return) carried
+    refused_for_good text (text ++ (10 ∷ rest)) (lines_of rest) fault o refuses final (ap lines_of m.same ∙ lines_behind_feed (without_mark text) rest m.return) carried

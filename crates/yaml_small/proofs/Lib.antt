@@ -3,9 +3,9 @@ pub mod Digits
 pub mod Marks
 pub mod Runs
 pub mod Steps
-pub mod ToldFlow
-pub mod ToldBlock
-pub mod ToldText
+pub mod EmittedFlow
+pub mod EmittedBlock
+pub mod EmittedText
 pub mod Found
 pub mod FoundFlow
 pub mod FoundBlock
@@ -14,7 +14,9 @@ pub mod Unique
 pub mod Live
 pub mod Carries
 pub mod Grows
-pub mod Firm
+pub mod Final
 pub mod Fronts
 pub mod Ends
 pub mod Outcomes
+pub mod Depth
+pub mod DepthFaults

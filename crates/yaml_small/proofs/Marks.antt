@@ -5,7 +5,7 @@ use Rattle.yaml_scan.specs.Bytes.{is_gap, is_white, whites}
 use Rattle.yaml_scan.specs.Lines.{is_over, is_passed, ends}
 use Rattle.yaml_scan.specs.Plain.{begins_plain}
 use Rattle.yaml_small.specs.Places.{At, begins, at_mark, is_dash, is_colon}
-use Rattle.yaml_small.specs.Scalars.{Fault, Word, start_fault, plain_at, word_at, key_at, is_key, begins_block}
+use Rattle.yaml_small.specs.Scalars.{Fault, ScalarToken, start_fault, plain_at, scalar_token_at, key_at, is_key, begins_block}
 
 pub and_parts : (a b : Bool) → a && b ≡ true → (a ≡ true) × (b ≡ true)
 and_parts true b e = (refl, e)
@@ -57,20 +57,20 @@ plain_opener flow c cs e = record {
 quote_opener : (c n : ℕ) (cs : List ℕ) → NoOpener (n ∷ cs) → eqb c n ≡ true → NoOpener (c ∷ cs)
 quote_opener c n cs here is = subst (λ (x : ℕ). NoOpener (x ∷ cs)) (sym (eqb-true c n is)) here
 
-plain_begins : (flow : Bool) (a : At) (w : Word) → plain_at flow a ≡ Ok w → begins_plain flow a.line ≡ true
+plain_begins : (flow : Bool) (a : At) (w : ScalarToken) → plain_at flow a ≡ Ok w → begins_plain flow a.line ≡ true
 unfolding plain_at
 plain_begins flow a w e = from (at_mark a) (begins_plain flow a.line) _ e
   where
-    from : (m b : Bool) (x : Word) → cond (not m && b) (Ok x) (Err (start_fault a)) ≡ Ok w → b ≡ true
+    from : (m b : Bool) (x : ScalarToken) → cond (not m && b) (Ok x) (Err (start_fault a)) ≡ Ok w → b ≡ true
     from true b x e = absurd cc
     from false true x e = refl
     from false false x e = absurd cc
 
 -- what begins a plain or quoted scalar opens nothing else
-pub word_opener : (flow : Bool) (col : ℕ) (line : List ℕ) (later : List (List ℕ)) (w : Word) → word_at flow (record { col = col; line = line; later = later }) ≡ Ok w → NoOpener line
-unfolding word_at
-word_opener flow col [] later w e = record { seq = refl; map = refl; block = refl; dash = refl }
-word_opener flow col (c ∷ cs) later w e =
+pub scalar_token_opener : (flow : Bool) (col : ℕ) (line : List ℕ) (later : List (List ℕ)) (w : ScalarToken) → scalar_token_at flow (record { col = col; line = line; later = later }) ≡ Ok w → NoOpener line
+unfolding scalar_token_at
+scalar_token_opener flow col [] later w e = record { seq = refl; map = refl; block = refl; dash = refl }
+scalar_token_opener flow col (c ∷ cs) later w e =
     let a : At = record { col = col; line = c ∷ cs; later = later } in
     elim (cases_Bool (eqb c 39)) [
       | inl is ↦ quote_opener c 39 cs (record { seq = refl; map = refl; block = refl; dash = refl }) is
@@ -80,7 +80,7 @@ word_opener flow col (c ∷ cs) later w e =
       ]
     ]
   where
-    plain_left : (flow : Bool) (a : At) (s d : Bool) (x y : Result Word Fault) (w : Word) → s ≡ false → d ≡ false → cond s x (cond d y (plain_at flow a)) ≡ Ok w → plain_at flow a ≡ Ok w
+    plain_left : (flow : Bool) (a : At) (s d : Bool) (x y : Result ScalarToken Fault) (w : ScalarToken) → s ≡ false → d ≡ false → cond s x (cond d y (plain_at flow a)) ≡ Ok w → plain_at flow a ≡ Ok w
     plain_left flow a s d x y w no_single no_double e = sym (rw (no_single, no_double) refl) ∙ e
 
 -- where one of these begins a line no plain or quoted scalar does
@@ -94,14 +94,14 @@ plain_refused : (flow : Bool) (a : At) → begins_plain flow a.line ≡ false �
 unfolding plain_at
 plain_refused flow a e = refused (at_mark a) (begins_plain flow a.line) _ e
   where
-    refused : (m b : Bool) (x : Word) → b ≡ false → cond (not m && b) (Ok x) (Err (start_fault a)) ≡ Err (start_fault a)
+    refused : (m b : Bool) (x : ScalarToken) → b ≡ false → cond (not m && b) (Ok x) (Err (start_fault a)) ≡ Err (start_fault a)
     refused true b x e = refl
     refused false b x e = rw e refl
 
-no_word : (flow : Bool) (c : ℕ) (line : List ℕ) (col : ℕ) (later : List (List ℕ)) → IsOpener c → begins c line ≡ true → word_at flow (record { col = col; line = line; later = later }) ≡ Err (start_fault (record { col = col; line = line; later = later }))
-unfolding word_at
-no_word flow c [] col later o is = absurd cc
-no_word flow c (d ∷ ds) col later o is =
+no_scalar_token : (flow : Bool) (c : ℕ) (line : List ℕ) (col : ℕ) (later : List (List ℕ)) → IsOpener c → begins c line ≡ true → scalar_token_at flow (record { col = col; line = line; later = later }) ≡ Err (start_fault (record { col = col; line = line; later = later }))
+unfolding scalar_token_at
+no_scalar_token flow c [] col later o is = absurd cc
+no_scalar_token flow c (d ∷ ds) col later o is =
     let same = eqb-true d c is in
     let single : eqb d 39 ≡ false = ap (λ (x : ℕ). eqb x 39) same ∙ o.single in
     let double : eqb d 34 ≡ false = ap (λ (x : ℕ). eqb x 34) same ∙ o.double in
@@ -111,7 +111,7 @@ no_word flow c (d ∷ ds) col later o is =
 -- where one of these begins a line no key and no dash does
 pub no_key : (c : ℕ) (a : At) → IsOpener c → begins c a.line ≡ true → is_key a ≡ false
 unfolding key_at
-no_key c a o is = rw (no_word false c a.line a.col a.later o is) refl
+no_key c a o is = rw (no_scalar_token false c a.line a.col a.later o is) refl
 
 pub opener_no_dash : (c : ℕ) (line : List ℕ) → IsOpener c → begins c line ≡ true → is_dash line ≡ false
 opener_no_dash c [] o is = refl
@@ -167,6 +167,6 @@ ends_colon [] e = refl
 ends_colon (c ∷ cs) e = over_colon (drop (whites (c ∷ cs)) (c ∷ cs)) (and_parts (is_white c) (is_passed (c ∷ cs)) e).1
 
 -- a scalar behind which the line ends is no key
-pub ended_no_key : (a : At) (w : Word) → word_at false a ≡ Ok w → ends w.end.line ≡ true → is_key a ≡ false
+pub ended_no_key : (a : At) (w : ScalarToken) → scalar_token_at false a ≡ Ok w → ends w.end.line ≡ true → is_key a ≡ false
 unfolding key_at
 ended_no_key a w e last = rw (e, ends_colon w.end.line last) refl

@@ -2,22 +2,22 @@
 use Rattle.std.proofs.Common.{◌≡◌, ℕ, suc, ◌-◌, List, [], ◌∷◌, ◌++◌, length, take, Bool, true, false, cond, Option, Some, Result, Ok, Err, refl, sym, ap, ◌∙◌, subst, arith, slice_get}
 use Rattle.yaml_small.specs.declared.event.Event.{Event}
 use Rattle.yaml_small.specs.declared.state.Mode.{Mode}
-use Rattle.yaml_small.specs.declared.state.Mode.TheVariants.{Done, Stray}
+use Rattle.yaml_small.specs.declared.state.Mode.TheVariants.{Done, Trailing}
 use Rattle.yaml_small.specs.declared.state.Frame.{Frame}
 use Rattle.yaml_small.specs.declared.state.Change.{Change}
 use Rattle.yaml_small.specs.declared.state.Change.TheVariants.{Keep, Pop}
 use Rattle.yaml_scan.specs.Lines.{ends}
 use Rattle.yaml_small.specs.Places.{At, over, next_at}
 use Rattle.yaml_small.specs.Scalars.{Fault}
-use Rattle.yaml_small.specs.Step.{Go, go, settled, step_at}
+use Rattle.yaml_small.specs.Step.{Transition, transition, settled, step_at}
 use Rattle.yaml_small.specs.Stream.{State, top_of, changed, behind, moved, next, Runs}
 
--- a step's answer tells the first of these events, and the rest leads on
-abbrev pub From : List Frame → Result Go Fault → List Event → State → Type 0
+-- a step's answer emits the first of these events, and the rest leads on
+abbrev pub From : List Frame → Result Transition Fault → List Event → State → Type 0
 From k r [] z = ⊥
-From k r (e ∷ es) z = (g : Go) × (r ≡ Ok g) × (e ≡ g.event) × Runs (behind k g) es z
+From k r (e ∷ es) z = (g : Transition) × (r ≡ Ok g) × (e ≡ g.event) × Runs (behind k g) es z
 
-abbrev pub step_of : State → Result Go Fault
+abbrev pub step_of : State → Result Transition Fault
 step_of s = step_at s.mode (top_of s.frames) (length s.frames) s.at
 
 pub runs_of : (s : State) (es : List Event) (z : State) → From s.frames (step_of s) es z → Runs s es z
@@ -35,7 +35,7 @@ pub from_of : (s : State) (e : Event) (es : List Event) (z : State) → Runs s (
 unfolding next
 from_of s e es z (m, here, rest) = stepped s.frames (step_of s) here
   where
-    stepped : (k : List Frame) (r : Result Go Fault) → moved k r ≡ Ok (e, m) → From k r (e ∷ es) z
+    stepped : (k : List Frame) (r : Result Transition Fault) → moved k r ≡ Ok (e, m) → From k r (e ∷ es) z
     stepped k (Ok g) h =
         let same = pair_is (g.event, behind k g) (e, m) h in
         (g, refl, sym (ap (λ (p : Event × State). p.0) same), subst (λ (x : State). Runs x es z) (sym (ap (λ (p : Event × State). p.1) same)) rest)
@@ -74,10 +74,10 @@ done g a k = state (Done g) k a
 -- the state behind a node on one line, in a flow or not
 abbrev pub landed : Bool → Bool → At → List Frame → State
 landed true g a k = done g a k
-landed false g a k = cond (ends a.line) (done g (next_at a.later) k) (state Stray k (over a))
+landed false g a k = cond (ends a.line) (done g (next_at a.later) k) (state Trailing k (over a))
 
 either_landed : (b : Bool) (g : Bool) (e : Event) (c : Change) (a : At) (k : List Frame)
-    → behind k (cond b (go e (next_at a.later) (Done g) c) (go e (over a) Stray c)) ≡ cond b (done g (next_at a.later) (changed c k)) (state Stray (changed c k) (over a))
+    → behind k (cond b (transition e (next_at a.later) (Done g) c) (transition e (over a) Trailing c)) ≡ cond b (done g (next_at a.later) (changed c k)) (state Trailing (changed c k) (over a))
 either_landed true g e c a k = refl
 either_landed false g e c a k = refl
 
@@ -86,14 +86,14 @@ unfolding settled
 settled_lands true g e c a k = refl
 settled_lands false g e c a k = either_landed (ends a.line) g e c a k
 
-either_event : (b : Bool) (x y : Go) (e : Event) → x.event ≡ e → y.event ≡ e → (cond b x y).event ≡ e
+either_event : (b : Bool) (x y : Transition) (e : Event) → x.event ≡ e → y.event ≡ e → (cond b x y).event ≡ e
 either_event true x y e p q = p
 either_event false x y e p q = q
 
 pub settled_event : (fl g : Bool) (e : Event) (c : Change) (a : At) → (settled fl g e c a).event ≡ e
 unfolding settled
 settled_event true g e c a = refl
-settled_event false g e c a = either_event (ends a.line) (go e (next_at a.later) (Done g) c) (go e (over a) Stray c) e refl refl
+settled_event false g e c a = either_event (ends a.line) (transition e (next_at a.later) (Done g) c) (transition e (over a) Trailing c) e refl refl
 
 -- a state with one more open list or map, by its step
 pub runs_in : (mode : Mode) (k : List Frame) (f : Frame) (a : At) (es : List Event) (z : State) → From (k ++ (f ∷ [])) (step_at mode (Some f) (suc (length k)) a) es z → Runs (state mode (k ++ (f ∷ [])) a) es z
@@ -109,11 +109,11 @@ from_in mode k f a e es z h =
     (from_of (state mode (k ++ (f ∷ [])) a) e es z h))
 
 -- a step that goes on without a change, one that closes and one that settles
-pub settles : (k : List Frame) (r : Result Go Fault) (fl g : Bool) (e : Event) (a : At) (es : List Event) (z : State) → r ≡ Ok (settled fl g e Keep a) → Runs (landed fl g a k) es z → From k r (e ∷ es) z
+pub settles : (k : List Frame) (r : Result Transition Fault) (fl g : Bool) (e : Event) (a : At) (es : List Event) (z : State) → r ≡ Ok (settled fl g e Keep a) → Runs (landed fl g a k) es z → From k r (e ∷ es) z
 settles k r fl g e a es z h rest =
     (settled fl g e Keep a, h, sym (settled_event fl g e Keep a), subst (λ (s : State). Runs s es z) (sym (settled_lands fl g e Keep a k)) rest)
 
-pub closes : (k : List Frame) (f : Frame) (r : Result Go Fault) (fl : Bool) (e : Event) (a : At) (es : List Event) (z : State) → r ≡ Ok (settled fl false e Pop a) → Runs (landed fl false a k) es z → From (k ++ (f ∷ [])) r (e ∷ es) z
+pub closes : (k : List Frame) (f : Frame) (r : Result Transition Fault) (fl : Bool) (e : Event) (a : At) (es : List Event) (z : State) → r ≡ Ok (settled fl false e Pop a) → Runs (landed fl false a k) es z → From (k ++ (f ∷ [])) r (e ∷ es) z
 closes k f r fl e a es z h rest = (
   settled fl false e Pop a,
   h,

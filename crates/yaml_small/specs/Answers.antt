@@ -29,18 +29,18 @@ fails_in_form (Ok y) = false
 fails_in_form (Err fault) = is_form fault
 
 -- An error is the fault, wherever its marker stands, or want of memory.
-abbrev pub Fails : {Y : Type 0} → ScanError → Result Y Fault → Type 0
-Fails errors.Memory read = Unit {0}
-Fails (errors.Form marker) read = fails_in_form read ≡ true
-Fails (errors.NotCarried marker) read = read ≡ Err NotCarried
-Fails (errors.TooDeep marker) read = read ≡ Err TooDeep
+abbrev pub ScanFails : {Y : Type 0} → ScanError → Result Y Fault → Type 0
+ScanFails errors.Memory read = Unit {0}
+ScanFails (errors.Form marker) read = fails_in_form read ≡ true
+ScanFails (errors.NotCarried marker) read = read ≡ Err NotCarried
+ScanFails (errors.TooDeep marker) read = read ≡ Err TooDeep
 
 -- What a call gave, seen by view, is what was to be read; and its error is the fault.
-abbrev pub Gives : {X Y : Type 0} → (X → Y) → Result X ScanError → Result Y Fault → Type 0
-Gives view (Ok x) read = read ≡ Ok (view x)
-Gives view (Err e) read = Fails e read
+abbrev pub ScanGives : {X Y : Type 0} → (X → Y) → Result X ScanError → Result Y Fault → Type 0
+ScanGives view (Ok x) read = read ≡ Ok (view x)
+ScanGives view (Err e) read = ScanFails e read
 
 -- the event alone
 abbrev pub event_of : Result (Event × State) Fault → Result Event Fault
-event_of (Ok told) = Ok told.0
+event_of (Ok emitted) = Ok emitted.0
 event_of (Err fault) = Err fault

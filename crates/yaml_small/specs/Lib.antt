@@ -5,8 +5,9 @@ pub mod Grammar
 pub mod Step
 pub mod Stream
 pub mod Answers
-pub mod Words
+pub mod ScalarTokens
 pub mod Steps
 pub mod Schema
 pub mod Data
 pub mod View
+pub mod Printed

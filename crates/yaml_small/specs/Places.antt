@@ -1,6 +1,6 @@
 -- Places in the lines of a text.
-use Rattle.std.specs.Prelude.{ℕ, ◌+◌, List, [], ◌∷◌, drop, nat_le, nat_lt, Bool, true, false, not, ◌==◌, ◌&&◌, ◌||◌, cond, Option}
-use Rattle.yaml_scan.specs.Bytes.{is_gap, spaces, whites}
+use Rattle.std.specs.Prelude.{ℕ, ◌+◌, List, [], ◌∷◌, drop, nat_le, nat_lt, Bool, true, false, not, ◌==◌, ◌&&◌, ◌||◌, if◌then◌else◌, Option}
+use Rattle.yaml_scan.specs.Bytes.{dash, colon, is_gap, spaces, whites}
 use Rattle.yaml_scan.specs.Lines.{is_passed, ends, is_dashes, is_dots}
 use Rattle.yaml_scan.specs.Block.{is_deeper}
 
@@ -22,11 +22,12 @@ over a = past (whites a.line) a
 unfoldable pub next_at : List (List ℕ) → At
 next_at [] = record { col = 0; line = []; later = [] }
 next_at (line ∷ lines) =
-    cond (is_passed line) (next_at lines) (record { col = spaces line; line = drop (spaces line) line; later = lines })
+    if is_passed line then next_at lines
+    else record { col = spaces line; line = drop (spaces line) line; later = lines }
 
 -- the next token within a flow, where white space, line ends and comments part tokens
 unfoldable pub flow_next : At → At
-flow_next a = over (cond (ends a.line) (next_at a.later) a)
+flow_next a = over (if ends a.line then next_at a.later else a)
 
 abbrev pub is_end : At → Bool
 is_end a = is_nil a.line
@@ -60,11 +61,11 @@ is_within parent a = is_deeper parent a.col && not (is_outside a)
 -- a dash or a colon that is a mark
 abbrev pub is_dash : List ℕ → Bool
 is_dash [] = false
-is_dash (c ∷ cs) = c == 45 && is_gap cs
+is_dash (c ∷ cs) = c == dash && is_gap cs
 
 abbrev pub is_colon : List ℕ → Bool
 is_colon [] = false
-is_colon (c ∷ cs) = c == 58 && is_gap cs
+is_colon (c ∷ cs) = c == colon && is_gap cs
 
 -- the dash of a list whose dashes stand at a column
 abbrev pub at_dash : ℕ → At → Bool

@@ -1,6 +1,6 @@
 -- What a YAML document stands for: a tree of lists, maps with every pair, repeated keys too, and scalars, each
 -- with its text and style; and the events that tell it (YAML 1.2.2, sections 3.1.1 and 3.2).
-use Rattle.std.specs.Prelude.{ℕ, zero, suc, max, List, [], ◌∷◌, Option, Some, None}
+use Rattle.std.specs.Prelude.{ℕ, zero, suc, max, List, [], ◌∷◌, codes, Option, Some, None}
 use Rattle.yaml_small.specs.declared.event.Event.{Event}
 use Rattle.yaml_small.specs.declared.event.Event.TheVariants as events
 use Rattle.yaml_small.specs.declared.event.Style.{Style}
@@ -26,7 +26,7 @@ mutual
 
 -- what stands for a node that is missing: the plain scalar ~
 abbrev pub tilde : Scalar
-tilde = record { text = 126 ∷ []; style = styles.Plain }
+tilde = record { text = codes "~"; style = styles.Plain }
 
 abbrev pub missing : Tree
 missing = Leaf tilde
@@ -51,26 +51,26 @@ abbrev mutual
 
 -- the events of a tree, in front of those that follow
 abbrev mutual
-  pub told : Tree → List Event → List Event
-  told (Leaf s) es = scalar_event s ∷ es
-  told (Seq ts) es = events.SequenceStart ∷ each_told ts (events.SequenceEnd ∷ es)
-  told (Map ps) es = events.MappingStart ∷ pairs_told ps (events.MappingEnd ∷ es)
+  pub emitted : Tree → List Event → List Event
+  emitted (Leaf s) es = scalar_event s ∷ es
+  emitted (Seq ts) es = events.SequenceStart ∷ each_emitted ts (events.SequenceEnd ∷ es)
+  emitted (Map ps) es = events.MappingStart ∷ pairs_emitted ps (events.MappingEnd ∷ es)
 
-  pub each_told : Trees → List Event → List Event
-  each_told none es = es
-  each_told (more t ts) es = told t (each_told ts es)
+  pub each_emitted : Trees → List Event → List Event
+  each_emitted none es = es
+  each_emitted (more t ts) es = emitted t (each_emitted ts es)
 
-  pub pairs_told : Pairs → List Event → List Event
-  pairs_told no_pairs es = es
-  pairs_told (pair key t ps) es = scalar_event key ∷ told t (pairs_told ps es)
+  pub pairs_emitted : Pairs → List Event → List Event
+  pairs_emitted no_pairs es = es
+  pairs_emitted (pair key t ps) es = scalar_event key ∷ emitted t (pairs_emitted ps es)
 
 -- the events of a stream of one document, or of none, in front of those that follow
-abbrev pub stream_told : Option Tree → List Event → List Event
-stream_told None es = events.StreamStart ∷ events.StreamEnd ∷ es
-stream_told (Some t) es =
-    events.StreamStart ∷ events.DocumentStart ∷ told t (events.DocumentEnd ∷ events.StreamEnd ∷ es)
+abbrev pub stream_emitted : Option Tree → List Event → List Event
+stream_emitted None es = events.StreamStart ∷ events.StreamEnd ∷ es
+stream_emitted (Some t) es =
+    events.StreamStart ∷ events.DocumentStart ∷ emitted t (events.DocumentEnd ∷ events.StreamEnd ∷ es)
 
--- the stream's end, told n times more
+-- the stream's end, emitted n times more
 abbrev pub ends_again : ℕ → List Event
 ends_again zero = []
 ends_again (suc n) = events.StreamEnd ∷ ends_again n

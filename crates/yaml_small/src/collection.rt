@@ -3,8 +3,8 @@
 
 ghost use Rattle.std.specs.Prelude.{◌≡◌, ◌≤◌, length};
 ghost use Rattle.yaml_small.specs.Step as spec;
-ghost use Rattle.yaml_small.specs.Answers.{place_at, Gives};
-ghost use Rattle.yaml_small.specs.Words.{FailsAs};
+ghost use Rattle.yaml_small.specs.Answers.{place_at, ScanGives};
+ghost use Rattle.yaml_small.specs.ScalarTokens.{FailsAs};
 ghost use Rattle.yaml_small.specs.Steps.{step_view};
 
 use crate::cursor::{
@@ -13,17 +13,17 @@ use crate::cursor::{
 };
 use crate::error::ScanError;
 use crate::event::{Event, Marker};
-use crate::flow::{open_of, paired_of, pairs_done, seq_done};
+use crate::flow::{after_key_of, open_of, pairs_done, seq_done};
 use crate::node::{Step, explicit_of, item_of, node_of, value_of};
 use crate::place::Place;
-use crate::scalar::{Word, key_of, scalar_event};
+use crate::scalar::{ScalarToken, fault_mark, is_tabbed, key_of, scalar_event};
 use crate::state::{Change, Frame, Mode};
 use std::alloc::Global;
-use yaml_scan::ends;
+use yaml_scan::{ends, is_comment_line};
 
 /// A step that changes nothing of the open lists and maps.
 fn plain_step(event: Event, mark: Marker, place: Place<'_>, mode: Mode) -> Step<'_>
-    ensures { step_view result ≡ spec.go event (place_at place.entry) mode Change.Keep }
+    ensures { step_view result ≡ spec.transition event (place_at place.entry) mode Change.Keep }
 {
     Step {
         event,
@@ -48,27 +48,27 @@ fn block_end(event: Event, place: Place<'_>) -> Step<'_>
 }
 
 /// Why a line does not belong where it stands.
-fn line_error(goes: bool, place: Place<'_>) -> ScanError
-    ensures { FailsAs result (spec.line_fault goes (place_at place.entry)) }
+fn line_error(continues: bool, place: Place<'_>) -> ScanError
+    ensures { FailsAs result (spec.line_fault continues (place_at place.entry)) }
 {
-    if begins(b'\t', place.line) || goes {
+    if is_tabbed(place.line) || continues {
         ScanError::NotCarried(place.mark)
     } else {
-        ScanError::Form(place.mark)
+        ScanError::Form(fault_mark(place))
     }
 }
 
 /// A key of a block map.
 #[tactic(auto, unfolding(crate::specs::Step::key_step))]
 fn key_step(alloc: Global, place: Place<'_>) -> Result<Step<'_>, ScanError>
-    ensures { Gives step_view result (spec.key_step (place_at place.entry)) }
+    ensures { ScanGives step_view result (spec.key_step (place_at place.entry)) }
 {
-    let word = key_of(alloc, place)?;
-    let Word {
+    let scalar_token = key_of(alloc, place)?;
+    let ScalarToken {
         content,
         style,
         end,
-    } = word;
+    } = scalar_token;
     let event = scalar_event(alloc, content, style)?;
     Ok(plain_step(event, place.mark, end, Mode::Value(place.col)))
 }
@@ -79,10 +79,10 @@ fn list_done(
     alloc: Global,
     depth: usize,
     col: usize,
-    goes: bool,
+    continues: bool,
     place: Place<'_>,
 ) -> Result<Step<'_>, ScanError>
-    ensures { Gives step_view result (spec.list_done depth col goes (place_at place.entry)) }
+    ensures { ScanGives step_view result (spec.list_done depth col continues (place_at place.entry)) }
 {
     if list_ends(col, place) {
         return Ok(block_end(Event::SequenceEnd, place));
@@ -90,13 +90,18 @@ fn list_done(
     if at_dash(col, place) {
         return item_of(alloc, depth, col, past(place, 1));
     }
-    Err(line_error(goes, place))
+    Err(line_error(continues, place))
 }
 
 /// What stands behind a value of a block map.
 #[tactic(auto, unfolding(crate::specs::Step::map_done))]
-fn map_done(alloc: Global, col: usize, goes: bool, place: Place<'_>) -> Result<Step<'_>, ScanError>
-    ensures { Gives step_view result (spec.map_done col goes (place_at place.entry)) }
+fn map_done(
+    alloc: Global,
+    col: usize,
+    continues: bool,
+    place: Place<'_>,
+) -> Result<Step<'_>, ScanError>
+    ensures { ScanGives step_view result (spec.map_done col continues (place_at place.entry)) }
 {
     if map_ends(col, place) {
         return Ok(block_end(Event::MappingEnd, place));
@@ -104,18 +109,18 @@ fn map_done(alloc: Global, col: usize, goes: bool, place: Place<'_>) -> Result<S
     if place.col == col {
         return key_step(alloc, place);
     }
-    Err(line_error(goes, place))
+    Err(line_error(continues, place))
 }
 
 /// The mark of the document's end.
 #[tactic(auto, unfolding(crate::specs::Step::dots_end))]
 fn dots_end(place: Place<'_>) -> Result<Step<'_>, ScanError>
     requires { 3 ≤ length place.line.now }
-    ensures { Gives step_view result (spec.dots_end (place_at place.entry)) }
+    ensures { ScanGives step_view result (spec.dots_end (place_at place.entry)) }
 {
     let behind = past(place, 3);
     if !ends(behind.line) {
-        return Err(ScanError::Form(over(behind).mark));
+        return Err(ScanError::Form(fault_mark(over(behind))));
     }
     Ok(plain_step(
         Event::DocumentEnd,
@@ -127,8 +132,8 @@ fn dots_end(place: Place<'_>) -> Result<Step<'_>, ScanError>
 
 /// What stands behind the document's node.
 #[tactic(auto, unfolding(crate::specs::Step::root_done))]
-fn root_done(goes: bool, place: Place<'_>) -> Result<Step<'_>, ScanError>
-    ensures { Gives step_view result (spec.root_done goes (place_at place.entry)) }
+fn root_done(continues: bool, place: Place<'_>) -> Result<Step<'_>, ScanError>
+    ensures { ScanGives step_view result (spec.root_done continues (place_at place.entry)) }
 {
     if is_end(place) {
         return Ok(plain_step(Event::DocumentEnd, place.mark, place, Mode::Last));
@@ -139,7 +144,7 @@ fn root_done(goes: bool, place: Place<'_>) -> Result<Step<'_>, ScanError>
     if at_dashes(place) {
         return Err(ScanError::NotCarried(place.mark));
     }
-    Err(line_error(goes, place))
+    Err(line_error(continues, place))
 }
 
 /// What stands behind a node.
@@ -147,25 +152,25 @@ fn root_done(goes: bool, place: Place<'_>) -> Result<Step<'_>, ScanError>
 fn done_of(
     alloc: Global,
     depth: usize,
-    goes: bool,
+    continues: bool,
     frame: Option<Frame>,
     place: Place<'_>,
 ) -> Result<Step<'_>, ScanError>
-    ensures { Gives step_view result (spec.done_at depth goes frame (place_at place.entry)) }
+    ensures { ScanGives step_view result (spec.done_at depth continues frame (place_at place.entry)) }
 {
     match frame {
-        None => root_done(goes, place),
-        Some(Frame::InList(col)) => list_done(alloc, depth, col, goes, place),
-        Some(Frame::InMap(col)) => map_done(alloc, col, goes, place),
-        Some(Frame::InSeq(inner)) => seq_done(alloc, inner, depth, goes, flow_next(place)),
-        Some(Frame::InPairs(inner)) => pairs_done(alloc, inner, goes, flow_next(place)),
+        None => root_done(continues, place),
+        Some(Frame::InList(col)) => list_done(alloc, depth, col, continues, place),
+        Some(Frame::InMap(col)) => map_done(alloc, col, continues, place),
+        Some(Frame::InSeq(inner)) => seq_done(alloc, inner, depth, continues, flow_next(place)),
+        Some(Frame::InPairs(inner)) => pairs_done(alloc, inner, continues, flow_next(place)),
     }
 }
 
 /// The document's start, or the stream's end.
 #[tactic(auto, unfolding(crate::specs::Step::document_at))]
 fn document_of(place: Place<'_>) -> Result<Step<'_>, ScanError>
-    ensures { Gives step_view result (spec.document_at (place_at place.entry)) }
+    ensures { ScanGives step_view result (spec.document_at (place_at place.entry)) }
 {
     if is_end(place) {
         return Ok(plain_step(Event::StreamEnd, place.mark, place, Mode::Ended));
@@ -187,27 +192,27 @@ fn document_of(place: Place<'_>) -> Result<Step<'_>, ScanError>
 /// The stream's end behind the document.
 #[tactic(auto, unfolding(crate::specs::Step::last_at))]
 fn last_of(place: Place<'_>) -> Result<Step<'_>, ScanError>
-    ensures { Gives step_view result (spec.last_at (place_at place.entry)) }
+    ensures { ScanGives step_view result (spec.last_at (place_at place.entry)) }
 {
     if is_end(place) {
         return Ok(plain_step(Event::StreamEnd, place.mark, place, Mode::Ended));
     }
-    if at_dots(place) {
-        return Err(ScanError::Form(place.mark));
+    if at_dots(place) || is_comment_line(place.line) {
+        return Err(ScanError::Form(fault_mark(place)));
     }
     Err(ScanError::NotCarried(place.mark))
 }
 
 /// One step: what is looked for, the innermost open list or map, how many are open, and the place.
 #[tactic(auto, unfolding(crate::specs::Step::step_at))]
-pub(crate) fn step_of(
+pub fn step_of(
     alloc: Global,
     mode: Mode,
     frame: Option<Frame>,
     depth: usize,
     place: Place<'_>,
 ) -> Result<Step<'_>, ScanError>
-    ensures { Gives step_view result (spec.step_at mode frame depth (place_at place.entry)) }
+    ensures { ScanGives step_view result (spec.step_at mode frame depth (place_at place.entry)) }
 {
     match mode {
         Mode::Begin => Ok(plain_step(Event::StreamStart, Marker::START, place, Mode::Document)),
@@ -218,9 +223,9 @@ pub(crate) fn step_of(
         Mode::Key => key_step(alloc, place),
         Mode::Value(col) => value_of(alloc, depth, col, place),
         Mode::Open => open_of(alloc, depth, frame, place),
-        Mode::Paired(quoted, goes) => paired_of(alloc, depth, quoted, goes, place),
-        Mode::Done(goes) => done_of(alloc, depth, goes, frame, place),
-        Mode::Stray => Err(ScanError::Form(place.mark)),
+        Mode::AfterKey(quoted, continues) => after_key_of(alloc, depth, quoted, continues, place),
+        Mode::Done(continues) => done_of(alloc, depth, continues, frame, place),
+        Mode::Trailing => Err(ScanError::Form(fault_mark(place))),
         Mode::Last => last_of(place),
         Mode::Ended => Ok(plain_step(Event::StreamEnd, place.mark, place, Mode::Ended)),
     }

@@ -1,4 +1,6 @@
 //! Walks from place to place.
+//!
+//! A step looks at most at the line's next three bytes and at the next content's column.
 
 ghost use Rattle.std.specs.Prelude.{◌≡◌, ◌≤◌, ◌<◌, ◌∷◌, length, option_copied, IfSome};
 ghost use Rattle.yaml_scan.specs.Lines.{lines_of, lines_behind};
@@ -10,7 +12,7 @@ use crate::place::Place;
 use yaml_scan::{cut_line, ends, is_dashes, is_deeper, is_dots, is_gap, is_passed, spaces, whites};
 
 /// The place so many bytes further on in the line.
-pub(crate) fn past(place: Place<'_>, count: usize) -> Place<'_>
+pub fn past(place: Place<'_>, count: usize) -> Place<'_>
     requires { count ≤ length place.line.now }
     ensures { place_at result ≡ spec.past count (place_at place.entry) }
 {
@@ -25,14 +27,14 @@ pub(crate) fn past(place: Place<'_>, count: usize) -> Place<'_>
 }
 
 /// The place behind white space.
-pub(crate) fn over(place: Place<'_>) -> Place<'_>
+pub fn over(place: Place<'_>) -> Place<'_>
     ensures { place_at result ≡ spec.over (place_at place.entry) }
 {
     past(place, whites(place.line))
 }
 
 /// The start of a text's first line.
-pub(crate) fn line_start(text: &[u8], mark: Marker) -> Place<'_>
+pub fn line_start(text: &[u8], mark: Marker) -> Place<'_>
     ensures col { result.col ≡ 0 }
     ensures lines { lines_of text.now ≡ result.line.now ∷ lines_behind (option_copied result.later) }
     ensures shorter { IfSome result.later (λ later. length later.now < length text.now) }
@@ -53,7 +55,7 @@ pub(crate) fn line_start(text: &[u8], mark: Marker) -> Place<'_>
 }
 
 /// Where the next line begins, or the text's end.
-pub(crate) fn mark_below(place: Place<'_>) -> Marker {
+pub fn mark_below(place: Place<'_>) -> Marker {
     match place.later {
         None => place.mark.after(place.line),
         Some(_) => Marker {
@@ -66,7 +68,7 @@ pub(crate) fn mark_below(place: Place<'_>) -> Marker {
 
 /// The first place with content in lines that begin at a mark, or the text's end.
 #[tactic(auto, unfolding(crate::specs::Places::next_at))]
-pub(crate) fn content_in(later: Option<&[u8]>, mark: Marker) -> Place<'_>
+pub fn content_in(later: Option<&[u8]>, mark: Marker) -> Place<'_>
     ensures { place_at result ≡ spec.next_at (lines_behind (option_copied later.entry)) }
 {
     let mut rest = later;
@@ -89,7 +91,7 @@ pub(crate) fn content_in(later: Option<&[u8]>, mark: Marker) -> Place<'_>
 }
 
 /// The next content behind a place's line.
-pub(crate) fn next_content(place: Place<'_>) -> Place<'_>
+pub fn next_content(place: Place<'_>) -> Place<'_>
     ensures { place_at result ≡ spec.next_at (lines_behind (option_copied place.entry.later)) }
 {
     content_in(place.later, mark_below(place))
@@ -97,7 +99,7 @@ pub(crate) fn next_content(place: Place<'_>) -> Place<'_>
 
 /// The next token within a flow.
 #[tactic(auto, unfolding(crate::specs::Places::flow_next))]
-pub(crate) fn flow_next(place: Place<'_>) -> Place<'_>
+pub fn flow_next(place: Place<'_>) -> Place<'_>
     ensures { place_at result ≡ spec.flow_next (place_at place.entry) }
 {
     if ends(place.line) {
@@ -108,7 +110,7 @@ pub(crate) fn flow_next(place: Place<'_>) -> Place<'_>
 }
 
 /// Whether a line begins with a byte.
-pub(crate) fn begins(byte: u8, line: &[u8]) -> bool
+pub fn begins(byte: u8, line: &[u8]) -> bool
     ensures { result ≡ spec.begins byte line.now }
 {
     match line {
@@ -118,7 +120,7 @@ pub(crate) fn begins(byte: u8, line: &[u8]) -> bool
 }
 
 /// Whether the text ends here.
-pub(crate) fn is_end(place: Place<'_>) -> bool
+pub fn is_end(place: Place<'_>) -> bool
     ensures { result ≡ spec.is_end (place_at place.entry) }
 {
     match place.line {
@@ -128,42 +130,42 @@ pub(crate) fn is_end(place: Place<'_>) -> bool
 }
 
 /// Whether the mark of a document's start stands here.
-pub(crate) fn at_dashes(place: Place<'_>) -> bool
+pub fn at_dashes(place: Place<'_>) -> bool
     ensures { result ≡ spec.at_dashes (place_at place.entry) }
 {
     place.col == 0 && is_dashes(place.line)
 }
 
 /// Whether the mark of a document's end stands here.
-pub(crate) fn at_dots(place: Place<'_>) -> bool
+pub fn at_dots(place: Place<'_>) -> bool
     ensures { result ≡ spec.at_dots (place_at place.entry) }
 {
     place.col == 0 && is_dots(place.line)
 }
 
 /// Whether either mark stands here.
-pub(crate) fn at_mark(place: Place<'_>) -> bool
+pub fn at_mark(place: Place<'_>) -> bool
     ensures { result ≡ spec.at_mark (place_at place.entry) }
 {
     at_dashes(place) || at_dots(place)
 }
 
 /// Whether the document's content is over here.
-pub(crate) fn is_outside(place: Place<'_>) -> bool
+pub fn is_outside(place: Place<'_>) -> bool
     ensures { result ≡ spec.is_outside (place_at place.entry) }
 {
     is_end(place) || at_mark(place)
 }
 
 /// Whether content that is deeper than the parent's column stands here.
-pub(crate) fn is_within(parent: Option<usize>, place: Place<'_>) -> bool
+pub fn is_within(parent: Option<usize>, place: Place<'_>) -> bool
     ensures { result ≡ spec.is_within parent (place_at place.entry) }
 {
     is_deeper(parent, place.col) && !is_outside(place)
 }
 
 /// Whether a line begins with a dash that is a mark.
-pub(crate) fn is_dash(line: &[u8]) -> bool
+pub fn is_dash(line: &[u8]) -> bool
     ensures { result ≡ spec.is_dash line.now }
 {
     match line {
@@ -173,7 +175,7 @@ pub(crate) fn is_dash(line: &[u8]) -> bool
 }
 
 /// Whether a line begins with a colon that is a mark.
-pub(crate) fn is_colon(line: &[u8]) -> bool
+pub fn is_colon(line: &[u8]) -> bool
     ensures { result ≡ spec.is_colon line.now }
 {
     match line {
@@ -183,21 +185,21 @@ pub(crate) fn is_colon(line: &[u8]) -> bool
 }
 
 /// Whether a dash of a list at a column stands here.
-pub(crate) fn at_dash(col: usize, place: Place<'_>) -> bool
+pub fn at_dash(col: usize, place: Place<'_>) -> bool
     ensures { result ≡ spec.at_dash col (place_at place.entry) }
 {
     place.col == col && is_dash(place.line)
 }
 
 /// Whether a list at a column ends here.
-pub(crate) fn list_ends(col: usize, place: Place<'_>) -> bool
+pub fn list_ends(col: usize, place: Place<'_>) -> bool
     ensures { result ≡ spec.list_ends col (place_at place.entry) }
 {
     !at_dash(col, place) && place.col <= col
 }
 
 /// Whether a map at a column ends here.
-pub(crate) fn map_ends(col: usize, place: Place<'_>) -> bool
+pub fn map_ends(col: usize, place: Place<'_>) -> bool
     ensures { result ≡ spec.map_ends col (place_at place.entry) }
 {
     place.col < col || is_outside(place)

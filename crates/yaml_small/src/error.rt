@@ -12,15 +12,15 @@ use warg_values::Memory as OutOfMemory;
 #[derive(Clone, Copy, Debug, PartialEq, Eq, Error)]
 pub enum ScanError {
     /// The text is no YAML in one of the carried forms.
-    #[error("the text is not well-formed YAML here: {0:?}")]
+    #[error("the text is not well-formed YAML at {0}; correct it there")]
     Form(Marker),
-    /// A form of YAML stands here that is not carried: an anchor, an alias, a tag, a directive, a `? ` key, a tab
+    /// A form of YAML stands here that is not supported: an anchor, an alias, a tag, a directive, a `? ` key, a tab
     /// as indentation, a plain or quoted scalar over several lines, an indentation indicator, a key directly
     /// within a flow list, or a second document.
-    #[error("this form of YAML is not supported; write it in another way: {0:?}")]
+    #[error("the form of YAML at {0} is not supported; write it in another way")]
     NotCarried(Marker),
     /// A list or map is nested more than 64 deep.
-    #[error("lists and maps are nested more than 64 deep here: {0:?}")]
+    #[error("lists and maps are nested more than 64 deep at {0}; nest them less deep")]
     TooDeep(Marker),
     /// No memory was left.
     #[error("out of memory: free some, or give the program more, and try again")]

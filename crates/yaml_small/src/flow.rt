@@ -4,8 +4,8 @@ ghost use Rattle.std.specs.Prelude.{◌≡◌, ◌≤◌, true, length, IfErr, I
 ghost use Rattle.yaml_scan.specs.Plain as plain;
 ghost use Rattle.yaml_small.specs.Grammar as grammar;
 ghost use Rattle.yaml_small.specs.Step as spec;
-ghost use Rattle.yaml_small.specs.Answers.{place_at, Gives};
-ghost use Rattle.yaml_small.specs.Words.{FailsAs, word_view};
+ghost use Rattle.yaml_small.specs.Answers.{place_at, ScanGives};
+ghost use Rattle.yaml_small.specs.ScalarTokens.{FailsAs, scalar_token_view};
 ghost use Rattle.yaml_small.specs.Steps.{step_view};
 
 use crate::cursor::{at_dashes, at_dots, begins, flow_next, is_end, past};
@@ -13,7 +13,7 @@ use crate::error::ScanError;
 use crate::event::{Event, Marker};
 use crate::node::{Step, inline_of, missing_step, settled};
 use crate::place::Place;
-use crate::scalar::{Word, goes_on, is_plain, scalar_event, word_of};
+use crate::scalar::{ScalarToken, continues_below, fault_mark, is_plain, scalar_event, scalar_token_of};
 use crate::state::{Change, Frame, Mode};
 use std::alloc::Global;
 use yaml_scan::{begins_flow_mark, is_gap};
@@ -55,7 +55,7 @@ fn seq_entry(
     depth: usize,
     place: Place<'_>,
 ) -> Result<Step<'_>, ScanError>
-    ensures { Gives step_view result (spec.seq_entry inner depth (place_at place.entry)) }
+    ensures { ScanGives step_view result (spec.seq_entry inner depth (place_at place.entry)) }
 {
     if begins(b']', place.line) {
         return Ok(closed(Event::SequenceEnd, inner, place));
@@ -66,44 +66,48 @@ fn seq_entry(
 /// A key of a flow map, or the map's end.
 #[tactic(auto, unfolding(crate::specs::Step::pairs_entry))]
 fn pairs_entry(alloc: Global, inner: bool, place: Place<'_>) -> Result<Step<'_>, ScanError>
-    ensures { Gives step_view result (spec.pairs_entry inner (place_at place.entry)) }
+    ensures { ScanGives step_view result (spec.pairs_entry inner (place_at place.entry)) }
 {
     if begins(b'}', place.line) {
         return Ok(closed(Event::MappingEnd, inner, place));
     }
-    let word = word_of(alloc, true, place)?;
-    key_step(alloc, place.mark, word)
+    let scalar_token = scalar_token_of(alloc, true, place)?;
+    key_step(alloc, place.mark, scalar_token)
 }
 
 /// The step of a key of a flow map.
-fn key_step<'a>(alloc: Global, mark: Marker, word: Word<'a>) -> Result<Step<'a>, ScanError>
-    ensures value { IfOk result (λ step. step_view step ≡ spec.flow_key (word_view word.entry)) }
+fn key_step<'a>(
+    alloc: Global,
+    mark: Marker,
+    scalar_token: ScalarToken<'a>,
+) -> Result<Step<'a>, ScanError>
+    ensures value { IfOk result (λ step. step_view step ≡ spec.flow_key (scalar_token_view scalar_token.entry)) }
     ensures only { IfErr result (λ e. e ≡ ScanError.Memory) }
 {
-    let Word {
+    let ScalarToken {
         content,
         style,
         end,
-    } = word;
+    } = scalar_token;
     let event = scalar_event(alloc, content, style)?;
     Ok(Step {
         event,
         mark,
         place: end,
-        mode: Mode::Paired(!is_plain(style), goes_on(style, end)),
+        mode: Mode::AfterKey(!is_plain(style), continues_below(style, end)),
         change: Change::Keep,
     })
 }
 
 /// What stands behind an opening bracket.
 #[tactic(auto, unfolding(crate::specs::Step::open_at))]
-pub(crate) fn open_of(
+pub fn open_of(
     alloc: Global,
     depth: usize,
     frame: Option<Frame>,
     place: Place<'_>,
 ) -> Result<Step<'_>, ScanError>
-    ensures { Gives step_view result (spec.open_at depth frame (place_at place.entry)) }
+    ensures { ScanGives step_view result (spec.open_at depth frame (place_at place.entry)) }
 {
     match frame {
         None => Err(ScanError::Form(place.mark)),
@@ -115,8 +119,8 @@ pub(crate) fn open_of(
 }
 
 /// Why a flow does not go on here.
-fn flow_error(goes: bool, place: Place<'_>) -> ScanError
-    ensures { FailsAs result (spec.flow_fault goes (place_at place.entry)) }
+fn flow_error(continues: bool, place: Place<'_>) -> ScanError
+    ensures { FailsAs result (spec.flow_fault continues (place_at place.entry)) }
 {
     if is_end(place) {
         return ScanError::Form(place.mark);
@@ -127,16 +131,16 @@ fn flow_error(goes: bool, place: Place<'_>) -> ScanError
     if at_dots(place) {
         return ScanError::Form(place.mark);
     }
-    if goes && !begins_flow_mark(place.line) {
+    if continues && !begins_flow_mark(place.line) {
         return ScanError::NotCarried(place.mark);
     }
-    ScanError::Form(place.mark)
+    ScanError::Form(fault_mark(place))
 }
 
 /// The value of a flow map behind its key's colon.
 #[tactic(auto, unfolding(crate::specs::Step::flow_value))]
 fn flow_value(alloc: Global, depth: usize, place: Place<'_>) -> Result<Step<'_>, ScanError>
-    ensures { Gives step_view result (spec.flow_value depth (place_at place.entry)) }
+    ensures { ScanGives step_view result (spec.flow_value depth (place_at place.entry)) }
 {
     let token = flow_next(place);
     if closes_value(token.line) {
@@ -146,15 +150,15 @@ fn flow_value(alloc: Global, depth: usize, place: Place<'_>) -> Result<Step<'_>,
 }
 
 /// What stands behind a key of a flow map.
-#[tactic(auto, unfolding(crate::specs::Step::paired_at))]
-pub(crate) fn paired_of(
+#[tactic(auto, unfolding(crate::specs::Step::after_key_at))]
+pub fn after_key_of(
     alloc: Global,
     depth: usize,
     quoted: bool,
-    goes: bool,
+    continues: bool,
     place: Place<'_>,
 ) -> Result<Step<'_>, ScanError>
-    ensures { Gives step_view result (spec.paired_at depth quoted goes (place_at place.entry)) }
+    ensures { ScanGives step_view result (spec.after_key_at depth quoted continues (place_at place.entry)) }
 {
     let token = flow_next(place);
     if is_flow_colon(quoted, token.line) {
@@ -163,29 +167,29 @@ pub(crate) fn paired_of(
     if closes_value(token.line) {
         return missing_step(alloc, place.mark, place);
     }
-    Err(flow_error(goes, token))
+    Err(flow_error(continues, token))
 }
 
 /// Why a flow list does not go on here.
-fn seq_error(goes: bool, place: Place<'_>) -> ScanError
-    ensures { FailsAs result (spec.seq_fault goes (place_at place.entry)) }
+fn seq_error(continues: bool, place: Place<'_>) -> ScanError
+    ensures { FailsAs result (spec.seq_fault continues (place_at place.entry)) }
 {
     if begins(b':', place.line) {
         return ScanError::NotCarried(place.mark);
     }
-    flow_error(goes, place)
+    flow_error(continues, place)
 }
 
 /// What stands behind an entry of a flow list.
 #[tactic(auto, unfolding(crate::specs::Step::seq_done))]
-pub(crate) fn seq_done(
+pub fn seq_done(
     alloc: Global,
     inner: bool,
     depth: usize,
-    goes: bool,
+    continues: bool,
     place: Place<'_>,
 ) -> Result<Step<'_>, ScanError>
-    ensures { Gives step_view result (spec.seq_done inner depth goes (place_at place.entry)) }
+    ensures { ScanGives step_view result (spec.seq_done inner depth continues (place_at place.entry)) }
 {
     if begins(b',', place.line) {
         return seq_entry(alloc, inner, depth, flow_next(past(place, 1)));
@@ -193,18 +197,18 @@ pub(crate) fn seq_done(
     if begins(b']', place.line) {
         return Ok(closed(Event::SequenceEnd, inner, place));
     }
-    Err(seq_error(goes, place))
+    Err(seq_error(continues, place))
 }
 
 /// What stands behind a value of a flow map.
 #[tactic(auto, unfolding(crate::specs::Step::pairs_done))]
-pub(crate) fn pairs_done(
+pub fn pairs_done(
     alloc: Global,
     inner: bool,
-    goes: bool,
+    continues: bool,
     place: Place<'_>,
 ) -> Result<Step<'_>, ScanError>
-    ensures { Gives step_view result (spec.pairs_done inner goes (place_at place.entry)) }
+    ensures { ScanGives step_view result (spec.pairs_done inner continues (place_at place.entry)) }
 {
     if begins(b',', place.line) {
         return pairs_entry(alloc, inner, flow_next(past(place, 1)));
@@ -212,5 +216,5 @@ pub(crate) fn pairs_done(
     if begins(b'}', place.line) {
         return Ok(closed(Event::MappingEnd, inner, place));
     }
-    Err(flow_error(goes, place))
+    Err(flow_error(continues, place))
 }

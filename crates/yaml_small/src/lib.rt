@@ -1,4 +1,4 @@
-//! The events of a YAML document, told one by one, and what scalars stand for.
+//! The events of a YAML document, emitted one by one, and what scalars stand for.
 //!
 //! A text is UTF-8 and holds one document of YAML 1.2.2 or none. These forms are carried:
 //!
@@ -9,7 +9,7 @@
 //! - plain, single-quoted and double-quoted scalars on one line, and block scalars behind `|`, `|-`, `>` and `>-`
 //! - missing nodes, which are the plain scalar `~`
 //!
-//! These are refused as not carried: anchors, aliases, tags, directives, `? ` keys, a tab as indentation, plain and
+//! These are not supported: anchors, aliases, tags, directives, `? ` keys, a tab as indentation, plain and
 //! quoted scalars over several lines, indentation indicators and `+` at a block scalar, a key directly within a
 //! flow list, and a second document. Lists and maps are at most 64 deep. Whatever else a text holds is not well
 //! formed.
@@ -37,6 +37,3 @@ pub use event::{Event, Marker, Style};
 pub use parser::Parser;
 pub use schema::{Resolved, resolve};
 pub use yaml::{Yaml, YamlList, YamlPairs};
-
-#[cfg(test)]
-mod tests;

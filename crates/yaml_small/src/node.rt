@@ -2,28 +2,36 @@
 
 ghost use Rattle.std.specs.Prelude.{◌≡◌, ◌≤◌, length, IfErr, IfOk};
 ghost use Rattle.yaml_small.specs.Step as spec;
-ghost use Rattle.yaml_small.specs.Answers.{place_at, Gives};
-ghost use Rattle.yaml_small.specs.Words.{word_view};
+ghost use Rattle.yaml_small.specs.Answers.{place_at, ScanGives};
+ghost use Rattle.yaml_small.specs.ScalarTokens.{scalar_token_view};
 ghost use Rattle.yaml_small.specs.Steps.{step_view};
 
 use crate::cursor::{at_dash, begins, is_dash, is_within, next_content, over, past};
 use crate::error::ScanError;
 use crate::event::{Event, Marker};
 use crate::place::Place;
-use crate::scalar::{Word, begins_block, block_of, goes_on, is_key, scalar_event, word_of};
+use crate::scalar::{
+    ScalarToken, begins_block, block_of, continues_below, fault_mark, is_key, scalar_event,
+    scalar_token_of,
+};
 use crate::state::{Change, Frame, Mode};
 use std::alloc::Global;
 use warg_values::Text;
-use yaml_scan::{ends, spaces, whites};
+use yaml_scan::{ends, is_comment_line, spaces, whites};
 
 /// An event and its mark; where the next step begins, and what it looks for there; and what becomes of the open
 /// lists and maps.
 #[derive(Debug, Drop)]
-pub(crate) struct Step<'a> {
+pub struct Step<'a> {
+    /// The event.
     pub event: Event,
+    /// Where it stands.
     pub mark: Marker,
+    /// Where the next step begins.
     pub place: Place<'a>,
+    /// What that step looks for.
     pub mode: Mode,
+    /// What becomes of the open lists and maps.
     pub change: Change,
 }
 
@@ -40,7 +48,7 @@ fn opened<'a>(
     mode: Mode,
     frame: Frame,
 ) -> Result<Step<'a>, ScanError>
-    ensures { Gives step_view result (spec.opened depth event (place_at place.entry) mode frame) }
+    ensures { ScanGives step_view result (spec.opened depth event (place_at place.entry) mode frame) }
 {
     if depth >= MAX_DEPTH {
         return Err(ScanError::TooDeep(mark));
@@ -58,7 +66,7 @@ fn opened<'a>(
 #[tactic(auto, unfolding(crate::specs::Step::list_start))]
 fn list_start(depth: usize, place: Place<'_>) -> Result<Step<'_>, ScanError>
     requires { 1 ≤ length place.line.now }
-    ensures { Gives step_view result (spec.list_start depth (place_at place.entry)) }
+    ensures { ScanGives step_view result (spec.list_start depth (place_at place.entry)) }
 {
     let col = place.col;
     opened(
@@ -74,7 +82,7 @@ fn list_start(depth: usize, place: Place<'_>) -> Result<Step<'_>, ScanError>
 /// The start of a block map at its first key.
 #[tactic(auto, unfolding(crate::specs::Step::map_start))]
 fn map_start(depth: usize, place: Place<'_>) -> Result<Step<'_>, ScanError>
-    ensures { Gives step_view result (spec.map_start depth (place_at place.entry)) }
+    ensures { ScanGives step_view result (spec.map_start depth (place_at place.entry)) }
 {
     opened(
         depth,
@@ -88,22 +96,22 @@ fn map_start(depth: usize, place: Place<'_>) -> Result<Step<'_>, ScanError>
 
 /// A step to the place behind a node on one line: in a flow more stands on the line, else nothing does.
 #[tactic(auto, unfolding(crate::specs::Step::settled))]
-pub(crate) fn settled(
+pub fn settled(
     flow: bool,
-    goes: bool,
+    continues: bool,
     event: Event,
     mark: Marker,
     change: Change,
     place: Place<'_>,
 ) -> Step<'_>
-    ensures { step_view result ≡ spec.settled flow goes event change (place_at place.entry) }
+    ensures { step_view result ≡ spec.settled flow continues event change (place_at place.entry) }
 {
     if flow {
         return Step {
             event,
             mark,
             place,
-            mode: Mode::Done(goes),
+            mode: Mode::Done(continues),
             change,
         };
     }
@@ -117,9 +125,9 @@ pub(crate) fn settled(
             over(place)
         },
         mode: if over_line {
-            Mode::Done(goes)
+            Mode::Done(continues)
         } else {
-            Mode::Stray
+            Mode::Trailing
         },
         change,
     }
@@ -127,14 +135,14 @@ pub(crate) fn settled(
 
 /// A node on one line, or a block scalar.
 #[tactic(auto, unfolding(crate::specs::Step::inline_at))]
-pub(crate) fn inline_of(
+pub fn inline_of(
     alloc: Global,
     flow: bool,
     depth: usize,
     parent: Option<usize>,
     place: Place<'_>,
 ) -> Result<Step<'_>, ScanError>
-    ensures { Gives step_view result (spec.inline_at flow depth parent (place_at place.entry)) }
+    ensures { ScanGives step_view result (spec.inline_at flow depth parent (place_at place.entry)) }
 {
     if begins(b'[', place.line) {
         return opened(
@@ -157,42 +165,53 @@ pub(crate) fn inline_of(
         );
     }
     if !flow && begins_block(place.line) {
-        let word = block_of(alloc, parent, place)?;
-        return block_step(alloc, place.mark, word);
+        let scalar_token = block_of(alloc, parent, place)?;
+        return block_step(alloc, place.mark, scalar_token);
     }
-    let word = word_of(alloc, flow, place)?;
-    word_step(alloc, flow, place.mark, word)
+    let scalar_token = scalar_token_of(alloc, flow, place)?;
+    scalar_token_step(alloc, flow, place.mark, scalar_token)
 }
 
 /// The step of a scalar on one line.
-fn word_step<'a>(
+fn scalar_token_step<'a>(
     alloc: Global,
     flow: bool,
     mark: Marker,
-    word: Word<'a>,
+    scalar_token: ScalarToken<'a>,
 ) -> Result<Step<'a>, ScanError>
-    ensures value { IfOk result (λ step. step_view step ≡ spec.word_go flow (word_view word.entry)) }
+    ensures value { IfOk result (λ step. step_view step ≡ spec.scalar_token_transition flow (scalar_token_view scalar_token.entry)) }
     ensures only { IfErr result (λ e. e ≡ ScanError.Memory) }
 {
-    let Word {
+    let ScalarToken {
         content,
         style,
         end,
-    } = word;
+    } = scalar_token;
     let event = scalar_event(alloc, content, style)?;
-    Ok(settled(flow, goes_on(style, end), event, mark, Change::Keep, end))
+    Ok(settled(
+        flow,
+        continues_below(style, end),
+        event,
+        mark,
+        Change::Keep,
+        end,
+    ))
 }
 
 /// The step of a block scalar.
-fn block_step<'a>(alloc: Global, mark: Marker, word: Word<'a>) -> Result<Step<'a>, ScanError>
-    ensures value { IfOk result (λ step. step_view step ≡ spec.block_go (word_view word.entry)) }
+fn block_step<'a>(
+    alloc: Global,
+    mark: Marker,
+    scalar_token: ScalarToken<'a>,
+) -> Result<Step<'a>, ScanError>
+    ensures value { IfOk result (λ step. step_view step ≡ spec.block_transition (scalar_token_view scalar_token.entry)) }
     ensures only { IfErr result (λ e. e ≡ ScanError.Memory) }
 {
-    let Word {
+    let ScalarToken {
         content,
         style,
         end,
-    } = word;
+    } = scalar_token;
     let event = scalar_event(alloc, content, style)?;
     Ok(Step {
         event,
@@ -204,12 +223,8 @@ fn block_step<'a>(alloc: Global, mark: Marker, word: Word<'a>) -> Result<Step<'a
 }
 
 /// The step of a node that is missing.
-pub(crate) fn missing_step(
-    alloc: Global,
-    mark: Marker,
-    place: Place<'_>,
-) -> Result<Step<'_>, ScanError>
-    ensures value { IfOk result (λ step. step_view step ≡ spec.missing_go (place_at place.entry)) }
+pub fn missing_step(alloc: Global, mark: Marker, place: Place<'_>) -> Result<Step<'_>, ScanError>
+    ensures value { IfOk result (λ step. step_view step ≡ spec.missing_transition (place_at place.entry)) }
     ensures only { IfErr result (λ e. e ≡ ScanError.Memory) }
 {
     let text = Text::copy_of(alloc, "~")?;
@@ -224,13 +239,13 @@ pub(crate) fn missing_step(
 
 /// A node under a parent's column, where its line's content begins.
 #[tactic(auto, unfolding(crate::specs::Step::node_at))]
-pub(crate) fn node_of(
+pub fn node_of(
     alloc: Global,
     depth: usize,
     parent: Option<usize>,
     place: Place<'_>,
 ) -> Result<Step<'_>, ScanError>
-    ensures { Gives step_view result (spec.node_at depth parent (place_at place.entry)) }
+    ensures { ScanGives step_view result (spec.node_at depth parent (place_at place.entry)) }
 {
     if is_dash(place.line) {
         return list_start(depth, place);
@@ -250,7 +265,7 @@ fn below(
     mark: Marker,
     place: Place<'_>,
 ) -> Result<Step<'_>, ScanError>
-    ensures { Gives step_view result (spec.below depth parent (place_at place.entry)) }
+    ensures { ScanGives step_view result (spec.below depth parent (place_at place.entry)) }
 {
     if is_within(parent, place) {
         return node_of(alloc, depth, parent, place);
@@ -268,7 +283,7 @@ fn tabbed(
     mark: Marker,
     place: Place<'_>,
 ) -> Result<Step<'_>, ScanError>
-    ensures { Gives step_view result (spec.tabbed depth col (place_at place.entry)) }
+    ensures { ScanGives step_view result (spec.tabbed depth col (place_at place.entry)) }
 {
     if is_dash(place.line) {
         return Err(ScanError::NotCarried(mark));
@@ -281,13 +296,13 @@ fn tabbed(
 
 /// The entry of a block list behind its dash.
 #[tactic(auto, unfolding(crate::specs::Step::item_at))]
-pub(crate) fn item_of(
+pub fn item_of(
     alloc: Global,
     depth: usize,
     col: usize,
     place: Place<'_>,
 ) -> Result<Step<'_>, ScanError>
-    ensures { Gives step_view result (spec.item_at depth col (place_at place.entry)) }
+    ensures { ScanGives step_view result (spec.item_at depth col (place_at place.entry)) }
 {
     if ends(place.line) {
         return below(alloc, depth, Some(col), place.mark, next_content(place));
@@ -308,7 +323,7 @@ fn under(
     mark: Marker,
     place: Place<'_>,
 ) -> Result<Step<'_>, ScanError>
-    ensures { Gives step_view result (spec.under depth col (place_at place.entry)) }
+    ensures { ScanGives step_view result (spec.under depth col (place_at place.entry)) }
 {
     if at_dash(col, place) {
         return list_start(depth, place);
@@ -318,13 +333,13 @@ fn under(
 
 /// The value of a block map behind its key's colon.
 #[tactic(auto, unfolding(crate::specs::Step::value_at))]
-pub(crate) fn value_of(
+pub fn value_of(
     alloc: Global,
     depth: usize,
     col: usize,
     place: Place<'_>,
 ) -> Result<Step<'_>, ScanError>
-    ensures { Gives step_view result (spec.value_at depth col (place_at place.entry)) }
+    ensures { ScanGives step_view result (spec.value_at depth col (place_at place.entry)) }
 {
     if ends(place.line) {
         return under(alloc, depth, col, place.mark, next_content(place));
@@ -334,15 +349,25 @@ pub(crate) fn value_of(
 
 /// The document's node behind three dashes.
 #[tactic(auto, unfolding(crate::specs::Step::explicit_at))]
-pub(crate) fn explicit_of(
-    alloc: Global,
-    depth: usize,
-    place: Place<'_>,
-) -> Result<Step<'_>, ScanError>
-    ensures { Gives step_view result (spec.explicit_at depth (place_at place.entry)) }
+pub fn explicit_of(alloc: Global, depth: usize, place: Place<'_>) -> Result<Step<'_>, ScanError>
+    ensures { ScanGives step_view result (spec.explicit_at depth (place_at place.entry)) }
 {
     if ends(place.line) {
         return below(alloc, depth, None, place.mark, next_content(place));
     }
-    inline_of(alloc, false, depth, None, over(place))
+    if spaces(place.line) == whites(place.line) {
+        return inline_of(alloc, false, depth, None, over(place));
+    }
+    Err(tab_error(place))
+}
+
+/// Why no content stands behind three dashes and a tab.
+fn tab_error(place: Place<'_>) -> ScanError
+    ensures { FailsAs result (spec.behind_tab (place_at place.entry)) }
+{
+    if is_comment_line(place.line) {
+        ScanError::Form(fault_mark(place))
+    } else {
+        ScanError::NotCarried(past(place, spaces(place.line)).mark)
+    }
 }

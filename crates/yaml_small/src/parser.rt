@@ -2,7 +2,7 @@
 
 ghost use Rattle.std.specs.Prelude.{◌≡◌, OnErr};
 ghost use Rattle.yaml_small.specs.Stream as spec;
-ghost use Rattle.yaml_small.specs.Answers.{state_of, Gives, event_of};
+ghost use Rattle.yaml_small.specs.Answers.{state_of, ScanGives, event_of};
 
 use crate::collection::step_of;
 use crate::cursor::content_in;
@@ -12,7 +12,7 @@ use crate::place::Place;
 use crate::state::{Change, Frame, Mode};
 use std::alloc::Global;
 
-/// A parser of one text, which it tells event by event. It keeps no copy of the text, and of the text's
+/// A parser of one text, which it emits event by event. It keeps no copy of the text, and of the text's
 /// structure only the lists and maps that are open.
 #[derive(Debug, Drop)]
 pub struct Parser<'a> {
@@ -49,7 +49,7 @@ impl<'a> Parser<'a> {
     /// The next event and where it stands, or why no carried document goes on; the parser stays where it is.
     #[tactic(auto, unfolding(crate::specs::Stream::next))]
     pub fn peek(&self, alloc: Global) -> Result<(Event, Marker), ScanError>
-        ensures { Gives (λ told. told.0) result (event_of (spec.next (state_of self.now))) }
+        ensures { ScanGives (λ emitted. emitted.0) result (event_of (spec.next (state_of self.now))) }
     {
         let frame = self.frames.as_slice().last().copied();
         let step = step_of(alloc, self.mode, frame, self.frames.len(), self.place)?;
@@ -62,7 +62,7 @@ impl<'a> Parser<'a> {
     /// leaves the parser where it was.
     #[tactic(auto, unfolding(crate::specs::Stream::next))]
     pub fn next_token(&mut self, alloc: Global) -> Result<(Event, Marker), ScanError>
-        ensures told { Gives (λ told. (told.0, state_of self.new)) result (spec.next (state_of self.old)) }
+        ensures emitted { ScanGives (λ emitted. (emitted.0, state_of self.new)) result (spec.next (state_of self.old)) }
         ensures err { OnErr result (state_of self.new ≡ state_of self.old) }
     {
         let frame = self.frames.as_slice().last().copied();

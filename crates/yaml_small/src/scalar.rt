@@ -3,8 +3,8 @@
 ghost use Rattle.std.specs.Prelude.{◌≡◌, true, option_copied, IfOk, IfErr};
 ghost use Rattle.yaml_scan.specs.Lines.{lines_behind};
 ghost use Rattle.yaml_small.specs.Scalars as spec;
-ghost use Rattle.yaml_small.specs.Answers.{place_at, Gives};
-ghost use Rattle.yaml_small.specs.Words.{content_bytes, word_view, FoundIn, FailsAs};
+ghost use Rattle.yaml_small.specs.Answers.{place_at, ScanGives};
+ghost use Rattle.yaml_small.specs.ScalarTokens.{content_bytes, scalar_token_view, FoundIn, FailsAs};
 
 use crate::cursor::{
     at_dashes, at_dots, at_mark, begins, content_in, is_colon, is_end, mark_below, over, past,
@@ -16,30 +16,31 @@ use std::alloc::Global;
 use warg_values::Text;
 use yaml_scan::{
     Block, BlockError, Head, QuoteError, Quoted, begins_plain, block_indent, block_scalar,
-    double_quoted, ends, is_gap, is_white_line, plain_len, single_quoted, text_follows,
+    double_quoted, ends, is_comment_line, is_control, is_gap, is_white_line, plain_len, single_quoted, text_follows,
 };
 
 /// The text of a scalar: a part of the line, or bytes of its own.
 #[derive(Debug, Drop)]
-pub(crate) enum Content<'a> {
+pub enum Content<'a> {
+    /// A part of the line.
     Lent(&'a [u8]),
+    /// Bytes of its own.
     Owned(Vec<u8>),
 }
 
 /// A scalar, and the place behind it.
 #[derive(Debug, Drop)]
-pub(crate) struct Word<'a> {
+pub struct ScalarToken<'a> {
+    /// The text.
     pub content: Content<'a>,
+    /// How it is written.
     pub style: Style,
+    /// The place behind it.
     pub end: Place<'a>,
 }
 
 /// The event of a scalar.
-pub(crate) fn scalar_event(
-    alloc: Global,
-    content: Content<'_>,
-    style: Style,
-) -> Result<Event, ScanError>
+pub fn scalar_event(alloc: Global, content: Content<'_>, style: Style) -> Result<Event, ScanError>
     ensures value { IfOk result (λ e. e ≡ Event.Scalar (content_bytes content.entry) style) }
     ensures only { IfErr result (λ e. e ≡ ScanError.Memory) }
 {
@@ -68,6 +69,26 @@ fn begins_at(flow: bool, place: Place<'_>) -> bool
     !at_mark(place) && begins_plain(flow, place.line)
 }
 
+/// Whether a tab indents more than a comment.
+pub fn is_tabbed(line: &[u8]) -> bool
+    ensures { result ≡ spec.is_tabbed line.now }
+{
+    begins(b'\t', line) && !is_comment_line(line)
+}
+
+/// Where a fault stands: at the first control character of a comment, else at the place.
+pub fn fault_mark(place: Place<'_>) -> Marker {
+    if !is_comment_line(place.line) {
+        return place.mark;
+    }
+    for at in 0..place.line.len() {
+        if is_control(&place.line[at..]) {
+            return place.mark.after(&place.line[..at]);
+        }
+    }
+    place.mark
+}
+
 /// Whether an anchor, an alias, a tag, a `? ` or a tab stands where a node would start.
 fn is_not_carried(line: &[u8]) -> bool
     ensures { result ≡ spec.is_not_carried line.now }
@@ -78,7 +99,7 @@ fn is_not_carried(line: &[u8]) -> bool
             *first == b'&'
                 || *first == b'*'
                 || *first == b'!'
-                || *first == b'\t'
+                || is_tabbed(line)
                 || (*first == b'?' && is_gap(rest))
         }
     }
@@ -100,20 +121,20 @@ fn start_error(place: Place<'_>) -> ScanError
     if is_not_carried(place.line) {
         return ScanError::NotCarried(place.mark);
     }
-    ScanError::Form(place.mark)
+    ScanError::Form(fault_mark(place))
 }
 
 /// A plain scalar.
 #[tactic(auto, unfolding(crate::specs::Scalars::plain_at))]
-fn plain_of(flow: bool, place: Place<'_>) -> Result<Word<'_>, ScanError>
-    ensures { Gives word_view result (spec.plain_at flow (place_at place.entry)) }
+fn plain_of(flow: bool, place: Place<'_>) -> Result<ScalarToken<'_>, ScanError>
+    ensures { ScanGives scalar_token_view result (spec.plain_at flow (place_at place.entry)) }
 {
     if !begins_at(flow, place) {
         return Err(start_error(place));
     }
     let len = plain_len(flow, place.line);
     let (text, _) = place.line.split_at(len);
-    Ok(Word {
+    Ok(ScalarToken {
         content: Content::Lent(text),
         style: Style::Plain,
         end: past(place, len),
@@ -126,14 +147,14 @@ fn quoted_of<'a>(
     style: Style,
     place: Place<'a>,
     found: Result<Quoted<'a>, QuoteError>,
-) -> Result<Word<'a>, ScanError>
+) -> Result<ScalarToken<'a>, ScanError>
     ensures { FoundIn style (place_at place.entry) found.entry result }
 {
     match found {
         Ok(quoted) => {
             let Quoted { text, rest } = quoted;
             let len = place.line.len().saturating_sub(rest.len());
-            Ok(Word {
+            Ok(ScalarToken {
                 content: Content::Owned(text),
                 style,
                 end: past(place, len),
@@ -164,9 +185,13 @@ fn mark_left(place: Place<'_>, left: usize) -> Marker {
 }
 
 /// A plain or quoted scalar.
-#[tactic(auto, unfolding(crate::specs::Scalars::word_at))]
-pub(crate) fn word_of(alloc: Global, flow: bool, place: Place<'_>) -> Result<Word<'_>, ScanError>
-    ensures { Gives word_view result (spec.word_at flow (place_at place.entry)) }
+#[tactic(auto, unfolding(crate::specs::Scalars::scalar_token_at))]
+pub fn scalar_token_of(
+    alloc: Global,
+    flow: bool,
+    place: Place<'_>,
+) -> Result<ScalarToken<'_>, ScanError>
+    ensures { ScanGives scalar_token_view result (spec.scalar_token_at flow (place_at place.entry)) }
 {
     if begins(b'\'', place.line) {
         return quoted_of(
@@ -187,20 +212,20 @@ pub(crate) fn word_of(alloc: Global, flow: bool, place: Place<'_>) -> Result<Wor
 
 /// A key of a block map, and the place behind its colon.
 #[tactic(auto, unfolding(crate::specs::Scalars::key_at))]
-pub(crate) fn key_of(alloc: Global, place: Place<'_>) -> Result<Word<'_>, ScanError>
-    ensures { Gives word_view result (spec.key_at (place_at place.entry)) }
+pub fn key_of(alloc: Global, place: Place<'_>) -> Result<ScalarToken<'_>, ScanError>
+    ensures { ScanGives scalar_token_view result (spec.key_at (place_at place.entry)) }
 {
-    let word = word_of(alloc, false, place)?;
-    let Word {
+    let scalar_token = scalar_token_of(alloc, false, place)?;
+    let ScalarToken {
         content,
         style,
         end,
-    } = word;
+    } = scalar_token;
     let end = over(end);
     if !is_colon(end.line) {
-        return Err(ScanError::Form(end.mark));
+        return Err(ScanError::Form(fault_mark(end)));
     }
-    Ok(Word {
+    Ok(ScalarToken {
         content,
         style,
         end: past(end, 1),
@@ -208,7 +233,7 @@ pub(crate) fn key_of(alloc: Global, place: Place<'_>) -> Result<Word<'_>, ScanEr
 }
 
 /// Whether a key of a block map stands here.
-pub(crate) fn is_key(alloc: Global, place: Place<'_>) -> Result<bool, ScanError>
+pub fn is_key(alloc: Global, place: Place<'_>) -> Result<bool, ScanError>
     ensures value { IfOk result (λ holds. holds ≡ spec.is_key (place_at place.entry)) }
     ensures only { IfErr result (λ e. e ≡ ScanError.Memory) }
 {
@@ -222,7 +247,7 @@ pub(crate) fn is_key(alloc: Global, place: Place<'_>) -> Result<bool, ScanError>
 }
 
 /// Whether a line begins with a block scalar's head.
-pub(crate) fn begins_block(line: &[u8]) -> bool
+pub fn begins_block(line: &[u8]) -> bool
     ensures { result ≡ spec.begins_block line.now }
 {
     begins(b'|', line) || begins(b'>', line)
@@ -255,12 +280,13 @@ fn gathered<'a>(
     head: Head,
     indent: Option<usize>,
     place: Place<'a>,
-) -> Result<Word<'a>, ScanError>
-    ensures { Gives word_view result (spec.gathered head.folded head.strip indent (lines_behind (option_copied place.entry.later))) }
+) -> Result<ScalarToken<'a>, ScanError>
+    ensures { ScanGives scalar_token_view result
+        (spec.gathered head.folded head.strip indent (lines_behind (option_copied place.entry.later))) }
 {
     let style = folded_style(head.folded);
     let Some(indent) = indent else {
-        return Ok(Word {
+        return Ok(ScalarToken {
             content: Content::Owned(Vec::new(alloc)),
             style,
             end: content_in(place.later, mark_below(place)),
@@ -269,7 +295,7 @@ fn gathered<'a>(
     match block_scalar(alloc, head, indent, place.later) {
         Ok(block) => {
             let Block { text, later } = block;
-            Ok(Word {
+            Ok(ScalarToken {
                 content: Content::Owned(text),
                 style,
                 end: content_in(later, mark_behind(place, later)),
@@ -304,15 +330,17 @@ fn headed(
     head: Head,
     parent: Option<usize>,
     place: Place<'_>,
-) -> Result<Word<'_>, ScanError>
-    ensures { Gives word_view result (spec.headed head.folded head.strip parent place.entry.line.now (lines_behind (option_copied place.entry.later))) }
+) -> Result<ScalarToken<'_>, ScanError>
+    ensures { ScanGives scalar_token_view result
+        (spec.headed head.folded head.strip parent place.entry.line.now
+        (lines_behind (option_copied place.entry.later))) }
 {
     if !ends(place.line) {
-        let mark = over(place).mark;
+        let behind = over(place);
         return Err(if is_indicator(place.line) {
-            ScanError::NotCarried(mark)
+            ScanError::NotCarried(behind.mark)
         } else {
-            ScanError::Form(mark)
+            ScanError::Form(fault_mark(behind))
         });
     }
     gathered(alloc, head, block_indent(parent, place.later), place)
@@ -320,13 +348,13 @@ fn headed(
 
 /// A block scalar under a parent's column, and the content behind its lines.
 #[tactic(auto, unfolding(crate::specs::Scalars::block_at))]
-pub(crate) fn block_of(
+pub fn block_of(
     alloc: Global,
     parent: Option<usize>,
     place: Place<'_>,
-) -> Result<Word<'_>, ScanError>
+) -> Result<ScalarToken<'_>, ScanError>
     requires { spec.begins_block place.line.now ≡ true }
-    ensures { Gives word_view result (spec.block_at parent (place_at place.entry)) }
+    ensures { ScanGives scalar_token_view result (spec.block_at parent (place_at place.entry)) }
 {
     let folded = begins(b'>', place.line);
     let behind = past(place, 1);
@@ -340,14 +368,14 @@ pub(crate) fn block_of(
 }
 
 /// Whether a scalar would go on in the next line: it is plain, and text follows it there.
-pub(crate) fn goes_on(style: Style, place: Place<'_>) -> bool
-    ensures { result ≡ spec.goes_on style (place_at place.entry) }
+pub fn continues_below(style: Style, place: Place<'_>) -> bool
+    ensures { result ≡ spec.continues_below style (place_at place.entry) }
 {
     is_plain(style) && (is_white_line(place.line) && text_follows(place.later))
 }
 
 /// Whether a style is the plain one.
-pub(crate) fn is_plain(style: Style) -> bool
+pub fn is_plain(style: Style) -> bool
     ensures { result ≡ spec.is_plain style }
 {
     match style {

@@ -28,13 +28,13 @@ pub fn resolve(text: &str) -> Resolved
     let bytes = text.as_bytes();
     match integer(bytes) {
         Some(number) => Resolved::Integer(number),
-        None => resolved_word(bytes),
+        None => resolved_text(bytes),
     }
 }
 
 /// What a text stands for that is no integer.
-fn resolved_word(text: &[u8]) -> Resolved
-    ensures { result ≡ spec.resolved_word text.now }
+fn resolved_text(text: &[u8]) -> Resolved
+    ensures { result ≡ spec.resolved_text text.now }
 {
     if text == b"~".as_slice() || text == b"null".as_slice() {
         return Resolved::Null;

@@ -2,7 +2,7 @@
 
 /// What a parser looks for at its place.
 #[derive(Clone, Copy, Debug)]
-pub(crate) enum Mode {
+pub enum Mode {
     /// The stream's start.
     Begin,
     /// A document, or the stream's end.
@@ -19,11 +19,11 @@ pub(crate) enum Mode {
     Open,
     /// What stands behind a key of a flow map: whether the key was quoted, and whether it was plain and would
     /// go on in the next line.
-    Paired(bool, bool),
+    AfterKey(bool, bool),
     /// What stands behind a node: whether it was a plain scalar that would go on in the next line.
     Done(bool),
     /// Nothing: more stands on a line than may.
-    Stray,
+    Trailing,
     /// The stream's end, behind the document.
     Last,
     /// Nothing: the stream has ended.
@@ -32,7 +32,7 @@ pub(crate) enum Mode {
 
 /// An open list or map.
 #[derive(Clone, Copy, Debug)]
-pub(crate) enum Frame {
+pub enum Frame {
     /// A block list, whose dashes stand at this column.
     InList(usize),
     /// A block map, whose keys stand at this column.
@@ -45,8 +45,11 @@ pub(crate) enum Frame {
 
 /// What an event changes of the open lists and maps.
 #[derive(Clone, Copy, Debug)]
-pub(crate) enum Change {
+pub enum Change {
+    /// Nothing.
     Keep,
+    /// One more is open, the innermost.
     Push(Frame),
+    /// The innermost is closed.
     Pop,
 }

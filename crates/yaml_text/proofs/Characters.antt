@@ -18,8 +18,8 @@ alone : (b : ℕ) → 128 ≤ b → eqb b 194 ≡ false → (xs : List ℕ) → 
 alone b high other [] = no_control b high
 alone b high other (d ∷ ds) = rw (no_control b high, other) refl
 
-paired : (b d : ℕ) (xs : List ℕ) → 128 ≤ b → 160 ≤ d → is_control (b ∷ d ∷ xs) ≡ false
-paired b d xs high above =
+after_key : (b d : ℕ) (xs : List ℕ) → 128 ≤ b → 160 ≤ d → is_control (b ∷ d ∷ xs) ≡ false
+after_key b d xs high above =
     let no : nat_lt d 160 ≡ false = grind (arith, nat_tests) in
     rw (no_control b high, no) (last (eqb b 194))
   where
@@ -49,7 +49,7 @@ two_bytes : (c : ℕ) → 160 ≤ c → c < 2048 → AreQuiet ((192 + c / 64) �
 two_bytes c high less = (
   omega arith,
   (λ rest. elim (cases_eq (192 + c / 64) 194) [
-    | inl is ↦ paired (192 + c / 64) (128 + c % 64) rest (omega arith) (omega arith)
+    | inl is ↦ after_key (192 + c / 64) (128 + c % 64) rest (omega arith) (omega arith)
     | inr other ↦ alone (192 + c / 64) (omega arith) (ne_eqb (192 + c / 64) 194 other) ((128 + c % 64) ∷ rest)
   ]),
   (omega arith, (λ rest. alone (128 + c % 64) (omega arith) (following c) rest), tt),

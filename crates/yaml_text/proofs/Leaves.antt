@@ -8,7 +8,7 @@ use Rattle.yaml_scan.specs.Bytes.{is_gap, whites}
 use Rattle.yaml_scan.specs.Block.{is_deeper}
 use Rattle.yaml_small.specs.Trees.{Scalar, Leaf}
 use Rattle.yaml_small.specs.Places.{At, past, over, next_at, at_mark}
-use Rattle.yaml_small.specs.Scalars.{word_at, key_at}
+use Rattle.yaml_small.specs.Scalars.{scalar_token_at, key_at}
 use Rattle.yaml_small.specs.Grammar.{IsKey, Inline}
 use Rattle.yaml_text.specs.Texts.{is_escaped, hex_digit, hex_pair, escape, double_char, single_char, quoted_char, quoted_in, is_double, quoted, quoted_style, is_block, text_at, text_style}
 use Rattle.yaml_text.specs.Written.{plain_scalar}
@@ -16,7 +16,7 @@ use Rattle.yaml_text.proofs.Quotes.{NoQuote}
 use Rattle.yaml_text.proofs.BlockText.{or_parts}
 use Rattle.yaml_text.proofs.BlockShape.{char_inline}
 use Rattle.yaml_text.proofs.Lines.{and_parts, is_inline, is_inline_byte, line_of, later_of, line_of-append, later_of-append, IsBreak, line_of-break, at_text, after}
-use Rattle.yaml_text.proofs.Words.{is_token, token_is, EndsPlain, plain_word, quoted_at_word}
+use Rattle.yaml_text.proofs.ScalarTokens.{is_token, token_is, EndsPlain, plain_scalar_token, quoted_at_scalar_token}
 use Rattle.yaml_text.proofs.Plain.{PlainText}
 use Rattle.yaml_text.proofs.Blocks.{Shallow}
 use Rattle.yaml_text.proofs.Texts.{block_read}
@@ -98,16 +98,16 @@ quoted_inline text = quoted_in_inline (is_double text) text refl
 
 -- a word that was read from its text, with the place behind it
 pub record Reads (w : List ℕ) (s : Scalar) (a : At) : Type 0 where
-  pub is : word_at false a ≡ Ok (record { scalar = s; end = past (length w) a })
+  pub is : scalar_token_at false a ≡ Ok (record { scalar = s; end = past (length w) a })
 
 drop_front : (xs ys : List ℕ) → drop (length xs) (xs ++ ys) ≡ ys
 drop_front [] ys = refl
 drop_front (x ∷ xs) ys = drop_front xs ys
 
 -- a word alone on its line
-pub word_inline : (parent : Option ℕ) (w : List ℕ) (s : Scalar) (col : ℕ) (k : List ℕ) → is_inline w ≡ true → IsBreak k → Reads w s (at_text col (w ++ k))
+pub scalar_token_inline : (parent : Option ℕ) (w : List ℕ) (s : Scalar) (col : ℕ) (k : List ℕ) → is_inline w ≡ true → IsBreak k → Reads w s (at_text col (w ++ k))
     → Inline parent (Leaf s) (at_text col (w ++ k)) (after k)
-word_inline parent w s col k inline break r =
+scalar_token_inline parent w s col k inline break r =
     let a = at_text col (w ++ k) in
     let rest : drop (length w) (line_of (w ++ k)) ≡ [] =
     ap (drop (length w)) (line_of-append w k inline) ∙ drop_front w (line_of k) ∙ line_of-break k break in
@@ -124,19 +124,19 @@ plain_mark w col text p =
 
 pub plain_reads : (w : List ℕ) (col : ℕ) (text : List ℕ) → PlainText w → EndsPlain (line_of text) → Reads w (plain_scalar w) (at_text col (w ++ text))
 plain_reads w col text p end = record {
-  is = plain_word w (line_of text) (at_text col (w ++ text)) p.tokens (p.begin (line_of text)) (plain_mark w col text p) end
+  is = plain_scalar_token w (line_of text) (at_text col (w ++ text)) p.tokens (p.begin (line_of text)) (plain_mark w col text p) end
       (line_of-append w text (tokens_inline w p.tokens)) (p.single (line_of text)) (p.double (line_of text));
 }
 
 pub plain_leaf : (parent : Option ℕ) (w : List ℕ) (col : ℕ) (k : List ℕ) → PlainText w → IsBreak k → Inline parent (Leaf (plain_scalar w)) (at_text col (w ++ k)) (after k)
 plain_leaf parent w col k p break =
-    word_inline parent w (plain_scalar w) col k (tokens_inline w p.tokens) break (plain_reads w col k p (rw (line_of-break k break) (λ white. refl)))
+    scalar_token_inline parent w (plain_scalar w) col k (tokens_inline w p.tokens) break (plain_reads w col k p (rw (line_of-break k break) (λ white. refl)))
 
 -- a text in quotes at a place
 pub quoted_reads : (text : List ℕ) (col : ℕ) (rest : List ℕ) → IsUtf8 text → NoQuote (line_of rest)
     → Reads (quoted text) (record { text = text; style = quoted_style text }) (at_text col (quoted text ++ rest))
 quoted_reads text col rest utf8 behind = record {
-  is = quoted_at_word text (line_of rest) (at_text col (quoted text ++ rest)) utf8 behind (line_of-append (quoted text) rest (quoted_inline text));
+  is = quoted_at_scalar_token text (line_of rest) (at_text col (quoted text ++ rest)) utf8 behind (line_of-append (quoted text) rest (quoted_inline text));
 }
 
 -- a text that is no key
@@ -146,7 +146,7 @@ unfolding text_at text_style
 text_leaf level col parent text k utf8 break shallow deep = elim (cases_Bool (is_block text)) [
   | inl is ↦ rw is (inr (block_read level col text parent k utf8 is break shallow deep))
   | inr other ↦ rw other
-      (word_inline parent (quoted text) (record { text = text; style = quoted_style text }) col k (quoted_inline text) break
+      (scalar_token_inline parent (quoted text) (record { text = text; style = quoted_style text }) col k (quoted_inline text) break
       (quoted_reads text col k utf8 (rw (line_of-break k break) tt)))
 ]
 
@@ -171,9 +171,9 @@ colon_follows w s a line r here gap =
     }
 
 -- a word and a colon before a gap
-pub word_key : (w : List ℕ) (s : Scalar) (col : ℕ) (rest : List ℕ) → is_inline w ≡ true → is_gap (line_of rest) ≡ true → Reads w s (at_text col (w ++ (58 ∷ rest)))
+pub scalar_token_key : (w : List ℕ) (s : Scalar) (col : ℕ) (rest : List ℕ) → is_inline w ≡ true → is_gap (line_of rest) ≡ true → Reads w s (at_text col (w ++ (58 ∷ rest)))
     → KeyAt s (at_text col (w ++ (58 ∷ rest))) (line_of rest) (later_of rest)
-word_key w s col rest inline gap r =
+scalar_token_key w s col rest inline gap r =
     let colon : line_of (58 ∷ rest) ≡ 58 ∷ line_of rest = line_of-append (58 ∷ []) rest refl in
     let behind : later_of (58 ∷ rest) ≡ later_of rest = later_of-append (58 ∷ []) rest refl in
     let here = ap (drop (length w)) (line_of-append w (58 ∷ rest) inline) ∙ drop_front w (line_of (58 ∷ rest)) ∙ colon in
@@ -187,12 +187,12 @@ pub name_key : (name : List ℕ) (col : ℕ) (rest : List ℕ) → PlainText nam
     → KeyAt (plain_scalar name) (at_text col (name ++ (58 ∷ rest))) (line_of rest) (later_of rest)
 name_key name col rest p gap =
     let colon : line_of (58 ∷ rest) ≡ 58 ∷ line_of rest = line_of-append (58 ∷ []) rest refl in
-    word_key name (plain_scalar name) col rest (tokens_inline name p.tokens) gap
+    scalar_token_key name (plain_scalar name) col rest (tokens_inline name p.tokens) gap
     (plain_reads name col (58 ∷ rest) p (subst EndsPlain (sym colon) (ends_colon (line_of rest) gap)))
 
 pub quoted_key : (key : List ℕ) (col : ℕ) (rest : List ℕ) → IsUtf8 key → is_gap (line_of rest) ≡ true
     → KeyAt (record { text = key; style = quoted_style key }) (at_text col (quoted key ++ (58 ∷ rest))) (line_of rest) (later_of rest)
 quoted_key key col rest utf8 gap =
     let colon : line_of (58 ∷ rest) ≡ 58 ∷ line_of rest = line_of-append (58 ∷ []) rest refl in
-    word_key (quoted key) (record { text = key; style = quoted_style key }) col rest (quoted_inline key) gap
+    scalar_token_key (quoted key) (record { text = key; style = quoted_style key }) col rest (quoted_inline key) gap
     (quoted_reads key col (58 ∷ rest) utf8 (subst NoQuote (sym colon) refl))

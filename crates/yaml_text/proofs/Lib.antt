@@ -5,7 +5,7 @@ mod Characters
 mod BlockText
 mod Lines
 mod Quotes
-mod Words
+mod ScalarTokens
 mod Blocks
 mod BlockShape
 mod Texts

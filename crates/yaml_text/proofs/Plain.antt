@@ -11,7 +11,7 @@ use Rattle.yaml_scan.specs.Plain.{is_indicator, begins_plain}
 use Rattle.yaml_small.specs.Places.{begins}
 use Rattle.yaml_text.specs.Written.{boolean_text, magnitude, is_letter, is_name_byte, is_name}
 use Rattle.yaml_text.proofs.Lines.{and_parts, not_true, opens}
-use Rattle.yaml_text.proofs.Words.{is_token, token_is, token_clean, token_white}
+use Rattle.yaml_text.proofs.ScalarTokens.{is_token, token_is, token_clean, token_white}
 
 -- a test of each number below n
 abbrev all_below : (ℕ → Bool) → ℕ → Bool

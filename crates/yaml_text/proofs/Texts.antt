@@ -8,7 +8,7 @@ use Rattle.yaml_scan.specs.Lines.{lines_of, is_white_line}
 use Rattle.yaml_scan.specs.Block.{is_deeper, indent_of}
 use Rattle.yaml_small.specs.declared.event.Style.TheVariants as styles
 use Rattle.yaml_small.specs.Places.{next_at}
-use Rattle.yaml_small.specs.Scalars.{word, block_at, begins_block, gathered}
+use Rattle.yaml_small.specs.Scalars.{scalar_token, block_at, begins_block, gathered}
 use Rattle.yaml_text.specs.Texts.{block, is_block}
 use Rattle.yaml_text.proofs.Lines.{line_of, later_of, lines_parted, IsBreak, after, at_text, whites_spaces, spaces_spaces}
 use Rattle.yaml_text.proofs.BlockText.{or_parts}
@@ -29,7 +29,7 @@ indent_is m c cs lines parent white deeper =
 
 gathered_is : (m : ℕ) (text : List ℕ) (parent : Option ℕ) (lines behind : List (List ℕ)) → BlockShape text → Shallow (suc m) behind → is_deeper parent (suc m) ≡ true
     → lines ≡ indented (suc m) (lines_of text) ++ behind
-    → gathered false true (indent_of parent lines) lines ≡ Ok (word text styles.Literal (next_at behind))
+    → gathered false true (indent_of parent lines) lines ≡ Ok (scalar_token text styles.Literal (next_at behind))
 gathered_is m text parent lines behind shape shallow deeper is =
     let lines_are : lines_of text ≡ (shape.first ∷ shape.rest) ∷ later_of text = lines_parted text ∙ ap (λ (l : List ℕ). l ∷ later_of text) shape.first_is in
     let indent : indent_of parent (indented (suc m) (lines_of text) ++ behind) ≡ Some (suc m) =
@@ -40,7 +40,7 @@ gathered_is m text parent lines behind shape shallow deeper is =
 -- a block at a level, before a line's end and shallow lines
 pub block_read : (level col : ℕ) (text : List ℕ) (parent : Option ℕ) (k : List ℕ) → IsUtf8 text → is_block text ≡ true → IsBreak k → Shallow (level + 2) (later_of k)
     → is_deeper parent (level + 2) ≡ true
-    → (begins_block (line_of (block level text ++ k)) ≡ true) × (block_at parent (at_text col (block level text ++ k)) ≡ Ok (word text styles.Literal (after k)))
+    → (begins_block (line_of (block level text ++ k)) ≡ true) × (block_at parent (at_text col (block level text ++ k)) ≡ Ok (scalar_token text styles.Literal (after k)))
 unfolding block block_at
 block_read level col text parent k utf8 is break shallow deeper =
     let shape = block_shape text utf8 is in

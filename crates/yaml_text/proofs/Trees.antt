@@ -11,7 +11,7 @@ use Rattle.yaml_text.specs.Texts.{quote, quoted_char, quoted, quoted_style, text
 use Rattle.yaml_text.specs.Written.{Written, number, boolean, null, character, text, list, map, unit_variant, empty_variant, variant, Elements, no_elements, element, Members, no_members, member, new_line, written, elements_text, members_text, single, tree_of, trees_of, pairs_of, ReadsBack, ElementsReadBack, MembersReadBack}
 use Rattle.yaml_text.proofs.Lines.{opens, Opens, opens_is, opens_white, is_inline, line_of, later_of, line_of-append, later_of-append, IsBreak, line_of-break, at_text, after}
 use Rattle.yaml_text.proofs.Levels.{column, column_le, Follows, follows_deeper, after_new_line, after_blank, follows_content, follows_blank, is_inner, no_dash_here}
-use Rattle.yaml_text.proofs.Words.{plain_word}
+use Rattle.yaml_text.proofs.ScalarTokens.{plain_scalar_token}
 use Rattle.yaml_text.proofs.Plain.{PlainText, number_plain, boolean_plain, tilde_plain, character_plain, name_plain}
 use Rattle.yaml_text.proofs.Leaves.{plain_leaf, text_leaf, name_key, quoted_key}
 
@@ -145,7 +145,7 @@ empty_map a e = subst (λ (l : List ℕ). EmptyMap (at a l)) (sym e) (empty_map_
 tilde_at : (a : At) → a.line ≡ 126 ∷ [] → (m : At) × Flow false missing a m × LineEnd m (next_at a.later)
 tilde_at a e =
     let mark : at_mark a ≡ false = rw e (none (eqb a.col 0)) in
-    (past 1 a, plain_word (126 ∷ []) [] a refl refl mark (λ white. refl) e refl refl, record { ends = rw e refl; next = refl })
+    (past 1 a, plain_scalar_token (126 ∷ []) [] a refl refl mark (λ white. refl) e refl refl, record { ends = rw e refl; next = refl })
   where
     none : (b : Bool) → (b && false) || (b && false) ≡ false
     none true = refl

@@ -1,9 +1,10 @@
 -- What is written as YAML, and the text that it is written as (YAML 1.2.2, sections 7.3, 8.1 and 8.2).
-use Rattle.std.specs.Prelude.{◌≡◌, ℕ, ◌+◌, ◌^◌, ◌<◌, List, [], ◌∷◌, ◌++◌, nat_le, Bool, true, false, ◌==◌, ◌&&◌, ◌||◌, cond, ℤ, pos, negsuc, codes}
+use Rattle.std.specs.Prelude.{◌≡◌, ℕ, ◌+◌, ◌^◌, ◌<◌, List, [], ◌∷◌, ◌++◌, nat_le, Bool, true, false, ◌==◌, ◌&&◌, ◌||◌, if◌then◌else◌, ℤ, pos, negsuc, codes}
 use Rattle.std.specs.Char.{is_ascii_alphanumeric}
 use Rattle.std.specs.List.{list_all}
 use Rattle.std.specs.Fmt.{signed_decimal}
 use Rattle.std.specs.Str.{IsUtf8}
+use Rattle.yaml_scan.specs.Bytes.{line_feed, space, dash, digit_zero, digit_nine, colon, upper_a, upper_z, underscore, lower_a, lower_z}
 use Rattle.yaml_small.specs.declared.event.Style.TheVariants.{Plain}
 use Rattle.yaml_small.specs.Trees.{Scalar, Tree, Leaf, Seq, Map, Trees, none, more, Pairs, no_pairs, pair, missing}
 use Rattle.yaml_text.specs.Texts.{indentation, quoted, quoted_style, text_at, text_style}
@@ -53,7 +54,7 @@ has_no_members (member key w ms) = false
 
 -- a line feed and a level's indentation
 abbrev pub new_line : ℕ → List ℕ
-new_line level = 10 ∷ indentation level
+new_line level = line_feed ∷ indentation level
 
 -- The text of a value at a level. Behind a list's dash and a space, behind a key's colon and behind the colon of
 -- a variant's name the value stands on a line of its own, one level deeper. Behind it a new line of the list's or
@@ -62,24 +63,24 @@ abbrev mutual
   pub written : ℕ → Written → List ℕ
   written level (number n) = signed_decimal n
   written level (boolean b) = boolean_text b
-  written level null = 126 ∷ []
+  written level null = codes "~"
   written level (character c) = c ∷ []
   written level (text t) = text_at level t
-  written level (list ws) = cond (has_no_elements ws) (91 ∷ 93 ∷ []) (elements_text level ws)
-  written level (map ms) = cond (has_no_members ms) (123 ∷ 125 ∷ []) (members_text level ms)
-  written level (unit_variant name) = name ++ (58 ∷ 32 ∷ 126 ∷ [])
-  written level (empty_variant name) = name ++ (58 ∷ 32 ∷ 91 ∷ 93 ∷ [])
-  written level (variant name w) = name ++ (58 ∷ new_line (level + 1)) ++ written (level + 1) w
+  written level (list ws) = if has_no_elements ws then codes "[]" else elements_text level ws
+  written level (map ms) = if has_no_members ms then codes "{}" else members_text level ms
+  written level (unit_variant name) = name ++ codes ": ~"
+  written level (empty_variant name) = name ++ codes ": []"
+  written level (variant name w) = name ++ (colon ∷ new_line (level + 1)) ++ written (level + 1) w
 
   pub elements_text : ℕ → Elements → List ℕ
   elements_text level no_elements = []
   elements_text level (element w ws) =
-      (45 ∷ 32 ∷ new_line (level + 1)) ++ written (level + 1) w ++ new_line level ++ elements_text level ws
+      (dash ∷ space ∷ new_line (level + 1)) ++ written (level + 1) w ++ new_line level ++ elements_text level ws
 
   pub members_text : ℕ → Members → List ℕ
   members_text level no_members = []
   members_text level (member key w ms) =
-      quoted key ++ (58 ∷ new_line (level + 1)) ++ written (level + 1) w ++ new_line level ++ members_text level ms
+      quoted key ++ (colon ∷ new_line (level + 1)) ++ written (level + 1) w ++ new_line level ++ members_text level ms
 
 -- the document's tree
 abbrev pub plain_scalar : List ℕ → Scalar
@@ -109,17 +110,17 @@ abbrev mutual
   pairs_of no_members = no_pairs
   pairs_of (member key w ms) = pair (record { text = key; style = quoted_style key }) (tree_of w) (pairs_of ms)
 
--- What reads back: numbers of 64 bits, letters and digits of ASCII, texts of UTF-8, and names of ASCII letters, digits and
--- _, a letter first.
+-- What reads back: numbers of 64 bits, letters and digits of ASCII, texts of UTF-8, and names of ASCII letters, digits
+-- and _, a letter first.
 abbrev pub magnitude : ℤ → ℕ
 magnitude (pos n) = n
 magnitude (negsuc n) = n + 1
 
 abbrev pub is_letter : ℕ → Bool
-is_letter c = (nat_le 65 c && nat_le c 90) || (nat_le 97 c && nat_le c 122)
+is_letter c = (nat_le upper_a c && nat_le c upper_z) || (nat_le lower_a c && nat_le c lower_z)
 
 abbrev pub is_name_byte : ℕ → Bool
-is_name_byte c = is_letter c || (nat_le 48 c && nat_le c 57) || c == 95
+is_name_byte c = is_letter c || (nat_le digit_zero c && nat_le c digit_nine) || c == underscore
 
 abbrev pub is_name : List ℕ → Bool
 is_name [] = false

@@ -12,5 +12,8 @@ ghost use Rattle.yaml_text.specs.Written.{Written, written, tree_of, ReadsBack};
 /// texts are UTF-8, its variants have names of ASCII letters, digits and `_` with a letter first, and its lists
 /// and maps are at most 64 deep.
 pub fn written_is_carried()
-    ensures { (value : Written) → ReadsBack value → depth (tree_of value) ≤ 64 → Carried (written 0 value) (Some (tree_of value)) }
+    ensures { (value : Written)
+        → ReadsBack value
+        → depth (tree_of value) ≤ 64
+        → Carried (written 0 value) (Some (tree_of value)) }
 {}

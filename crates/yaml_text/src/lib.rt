@@ -17,6 +17,3 @@ mod leaf;
 mod style;
 
 pub use leaf::{push_indentation, push_key, push_text};
-
-#[cfg(test)]
-mod tests;

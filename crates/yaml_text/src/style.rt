@@ -4,7 +4,7 @@ ghost use Rattle.std.specs.Prelude.{◌≡◌};
 ghost use Rattle.yaml_text.specs.Texts as spec;
 
 /// Whether a character is written as an escape: U+0000 to 001F, U+007F to 009F, U+2028, U+2029 and U+FEFF.
-pub(crate) fn is_escaped(character: char) -> bool
+pub fn is_escaped(character: char) -> bool
     ensures { result ≡ spec.is_escaped character }
 {
     matches!(character, '\0'..='\x1f' | '\x7f'..='\u{9f}' | '\u{2028}' | '\u{2029}' | '\u{feff}')
@@ -12,7 +12,7 @@ pub(crate) fn is_escaped(character: char) -> bool
 
 /// Whether a text in quotes has double ones: it holds a character that is written as an escape.
 #[tactic(auto, unfolding(crate::specs::Texts::is_double))]
-pub(crate) fn is_double(text: &str) -> bool
+pub fn is_double(text: &str) -> bool
     ensures { result ≡ spec.is_double text.now }
 {
     text.chars().any(is_escaped)
@@ -20,7 +20,7 @@ pub(crate) fn is_double(text: &str) -> bool
 
 /// Whether a text that is no key is written as a block.
 #[tactic(auto, unfolding(crate::specs::Texts::is_block))]
-pub(crate) fn is_block(text: &str) -> bool
+pub fn is_block(text: &str) -> bool
     ensures { result ≡ spec.is_block text.now }
 {
     let bytes = text.as_bytes();

@@ -1,7 +1,7 @@
 use Rattle.std.proofs.Common.{◌≡◌, Some}
 use Rattle.warg_record.specs.Reading as reading
 use Rattle.warg_record.specs.Reading.{hash_of}
-use Rattle.warg_record.proofs.TextLaws.{digest_of-again, digest_of-none}
+use Rattle.warg_hash.specs.HashLaws.{digest_of-again, digest_of-none}
 use Rattle.warg_record.proofs.fields.hash_of.Goals as goal
 
 pub returns-in-Ok : goal.returns-in-Ok

@@ -1,4 +1,4 @@
-use Rattle.warg_hash.proofs.NameLaws.{is_package_name-name}
+use Rattle.warg_hash.specs.NameLaws.{is_package_name-name}
 use Rattle.warg_hash.proofs.name.PackageName.as_str.Goals as goal
 
 pub returns-clause-is_name : goal.returns-clause-is_name

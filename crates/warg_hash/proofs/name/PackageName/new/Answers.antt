@@ -1,6 +1,6 @@
 use Rattle.std.proofs.Common.{sym, ◌∙◌}
 use Rattle.std.proofs.lemmas.Bool.{both_ways}
-use Rattle.warg_hash.proofs.NameLaws.{is_package_name-name, is_package_name-complete}
+use Rattle.warg_hash.specs.NameLaws.{is_package_name-name, is_package_name-complete}
 use Rattle.warg_hash.proofs.name.PackageName.new.Goals as goal
 
 pub returns-then-not-is_package_name-clause-form : goal.returns-then-not-is_package_name-clause-form

@@ -1,0 +1,630 @@
+//! Documents of the standard, doubtful corners, markers and values, whose expected answers come from the standard
+//! and from another reader.
+
+use indexmap::IndexMap;
+use std::alloc::Global;
+use std::fmt::Write;
+use std::test::Fail;
+use warg_values::Text;
+use yaml_small::{
+    Event, Marker, Parser, Resolved, ScanError, Style, Yaml, YamlList, YamlPairs, resolve,
+};
+
+/// How a scalar begins in a table: with its style.
+fn sign(style: Style) -> &'static str {
+    match style {
+        Style::Plain => ":",
+        Style::SingleQuoted => "'",
+        Style::DoubleQuoted => "\"",
+        Style::Literal => "|",
+        Style::Folded => ">",
+    }
+}
+
+/// Adds a text with its line feeds, tabs and backslashes escaped.
+fn push_escaped(out: &mut String, text: &str) -> Result<(), Fail> {
+    for character in text.chars() {
+        match character {
+            '\n' => out.push_str("\\n")?,
+            '\t' => out.push_str("\\t")?,
+            '\\' => out.push_str("\\\\")?,
+            other => out.push(other)?,
+        }
+    }
+    Ok(())
+}
+
+/// Adds an event behind a space.
+fn push_event(out: &mut String, event: &Event) -> Result<(), Fail> {
+    match event {
+        Event::StreamStart | Event::StreamEnd | Event::DocumentStart | Event::DocumentEnd => {}
+        Event::SequenceStart => out.push_str(" [")?,
+        Event::SequenceEnd => out.push_str(" ]")?,
+        Event::MappingStart => out.push_str(" {")?,
+        Event::MappingEnd => out.push_str(" }")?,
+        Event::Scalar(text, style) => {
+            out.push_str(" ")?;
+            out.push_str(sign(*style))?;
+            push_escaped(out, text.as_str())?;
+        }
+    }
+    Ok(())
+}
+
+/// Adds an error's kind and its place behind a space.
+fn push_error(out: &mut String, kind: &str, marker: Marker) -> Result<(), Fail> {
+    let line = marker.line;
+    let col = marker.col;
+    write!(out, " !{kind} {line}:{col}")?;
+    Ok(())
+}
+
+/// The events of a text's nodes, and the error where one comes.
+fn emitted(alloc: Global, text: &str) -> Result<String, Fail> {
+    let mut out = String::new(alloc);
+    let mut parser = Parser::new(alloc, text);
+    for _ in 0..u64::MAX {
+        match parser.next_token(alloc) {
+            Ok((event, _)) => {
+                push_event(&mut out, &event)?;
+                if event == Event::StreamEnd {
+                    break;
+                }
+            }
+            Err(error) => {
+                match error {
+                    ScanError::Form(marker) => push_error(&mut out, "Form", marker)?,
+                    ScanError::NotCarried(marker) => push_error(&mut out, "NotCarried", marker)?,
+                    ScanError::TooDeep(marker) => push_error(&mut out, "TooDeep", marker)?,
+                    ScanError::Memory => out.push_str(" !Memory")?,
+                }
+                break;
+            }
+        }
+    }
+    match out.as_str().strip_prefix(" ") {
+        Some(rest) => Ok(String::from_str(alloc, rest)?),
+        None => Ok(out),
+    }
+}
+
+#[test]
+fn carried_examples_of_the_standard(rt: HostRuntime) -> Result<(), Fail> {
+    for (text, want) in EXAMPLES {
+        assert_eq!(rt; emitted(rt.alloc(), text)?.as_str(), want, "{text:?}");
+    }
+    Ok(())
+}
+
+#[test]
+fn refused_examples_of_the_standard(rt: HostRuntime) -> Result<(), Fail> {
+    for (text, want) in REFUSED {
+        let got = emitted(rt.alloc(), text)?;
+        let error = match got.as_str().split_once("!") {
+            Some((_, error)) => error,
+            None => "none",
+        };
+        assert_eq!(rt; error, want, "{text:?}");
+    }
+    Ok(())
+}
+
+#[test]
+fn doubtful_corners(rt: HostRuntime) -> Result<(), Fail> {
+    for (text, want) in CORNERS {
+        assert_eq!(rt; emitted(rt.alloc(), text)?.as_str(), want, "{text:?}");
+    }
+    Ok(())
+}
+
+/// The marks of a text's events, each as line, column and index.
+fn marks(alloc: Global, text: &str) -> Result<String, Fail> {
+    let mut out = String::new(alloc);
+    let mut parser = Parser::new(alloc, text);
+    for _ in 0..u64::MAX {
+        let (event, marker) = parser.next_token(alloc).ok().ok_or("refused")?;
+        let line = marker.line;
+        let col = marker.col;
+        let index = marker.index;
+        write!(out, "{line}:{col}:{index} ")?;
+        if event == Event::StreamEnd {
+            break;
+        }
+    }
+    Ok(out)
+}
+
+#[test]
+fn markers_count_lines_and_characters(rt: HostRuntime) -> Result<(), Fail> {
+    let block = marks(rt.alloc(), "é: |\r\n é\r\nb:\r\n- c")?;
+    assert_eq!(rt;
+        block.as_str(),
+        "1:0:0 1:0:0 1:0:0 1:0:0 1:3:3 3:0:10 4:0:14 4:2:16 4:3:17 4:3:17 4:3:17 4:3:17 "
+    );
+    let flow = marks(rt.alloc(), "\u{feff}[a, {b: c}] # d\n")?;
+    assert_eq!(rt;
+        flow.as_str(),
+        "1:0:0 1:0:1 1:0:1 1:1:2 1:4:5 1:5:6 1:8:9 1:9:10 1:10:11 2:0:17 2:0:17 "
+    );
+    let missing = marks(rt.alloc(), "a:\nb:\n")?;
+    assert_eq!(rt;
+        missing.as_str(),
+        "1:0:0 1:0:0 1:0:0 1:0:0 1:2:2 2:0:3 2:2:5 3:0:6 3:0:6 3:0:6 "
+    );
+    Ok(())
+}
+
+/// A flow list within lists, so many of them.
+fn nested(alloc: Global, depth: usize, open: &str, close: &str) -> Result<String, Fail> {
+    let mut out = String::new(alloc);
+    for _ in 0..depth {
+        out.push_str(open)?;
+    }
+    for _ in 0..depth {
+        out.push_str(close)?;
+    }
+    Ok(out)
+}
+
+#[test]
+fn the_65th_list_is_too_deep(rt: HostRuntime) -> Result<(), Fail> {
+    let flow = nested(rt.alloc(), 64, "[", "]")?;
+    assert!(rt; !emitted(rt.alloc(), flow.as_str())?.as_str().contains("!"));
+    let deeper = nested(rt.alloc(), 65, "[", "]")?;
+    assert!(rt;
+        emitted(rt.alloc(), deeper.as_str())?
+            .as_str()
+            .ends_with("!TooDeep 1:64")
+    );
+    let block = nested(rt.alloc(), 65, "- ", "")?;
+    assert!(rt;
+        emitted(rt.alloc(), block.as_str())?
+            .as_str()
+            .ends_with("!TooDeep 1:128")
+    );
+    Ok(())
+}
+
+#[test]
+fn a_refusal_and_the_end_come_again(rt: HostRuntime) -> Result<(), Fail> {
+    let mut parser = Parser::new(rt.alloc(), "- a\n- ]");
+    for _ in 0..4 {
+        assert!(rt; parser.next_token(rt.alloc()).is_ok());
+    }
+    assert!(rt; parser.peek(rt.alloc()).is_err());
+    let first = parser.next_token(rt.alloc());
+    assert!(rt; first.is_err());
+    assert!(rt; parser.next_token(rt.alloc()) == first);
+    let mut empty = Parser::new(rt.alloc(), "# nothing\n\n");
+    assert!(rt; empty.peek(rt.alloc()).is_ok());
+    let start = empty.next_token(rt.alloc()).ok().ok_or("refused")?;
+    assert!(rt; start.0 == Event::StreamStart);
+    for _ in 0..3 {
+        let end = empty.next_token(rt.alloc()).ok().ok_or("refused")?;
+        assert!(rt; end.0 == Event::StreamEnd);
+    }
+    Ok(())
+}
+
+/// What a text stands for.
+fn resolved(text: &str) -> Resolved {
+    resolve(text)
+}
+
+#[test]
+fn texts_stand_for_values(rt: HostRuntime) {
+    for (text, want) in VALUES {
+        assert_eq!(rt; resolved(text), want, "{text:?}");
+    }
+}
+
+#[test]
+fn a_repeated_key_keeps_its_place(rt: HostRuntime) -> Result<(), Fail> {
+    let alloc = rt.alloc();
+    let mut pairs = IndexMap::new(alloc);
+    for (key, value) in [("b", 1i64), ("a", 2), ("b", 3)] {
+        pairs.insert(Text::copy_of(alloc, key)?, Yaml::Integer(value))?;
+    }
+    let pairs = YamlPairs::new(alloc, pairs)?;
+    assert_eq!(rt; pairs.as_slice().len(), 2);
+    let first = pairs.as_slice().first().ok_or("no pair")?;
+    assert_eq!(rt; first.0.as_str(), "b");
+    assert!(rt; first.1 == Yaml::Integer(3));
+    let list = YamlList::new(vec![in alloc; Yaml::Hash(pairs), Yaml::Null]?);
+    assert_eq!(rt; list.as_slice().len(), 2);
+    Ok(())
+}
+
+/// Texts and what they stand for.
+const VALUES: [(&str, Resolved); 40] = [
+    ("", Resolved::Text),
+    ("~", Resolved::Null),
+    ("null", Resolved::Null),
+    ("Null", Resolved::Text),
+    ("true", Resolved::Boolean(true)),
+    ("false", Resolved::Boolean(false)),
+    ("True", Resolved::Text),
+    ("12", Resolved::Integer(12)),
+    ("-0", Resolved::Integer(0)),
+    ("+5", Resolved::Integer(5)),
+    ("++5", Resolved::Integer(5)),
+    ("+-5", Resolved::Integer(-5)),
+    ("-+5", Resolved::Text),
+    ("007", Resolved::Integer(7)),
+    ("0o14", Resolved::Integer(12)),
+    ("0o8", Resolved::Text),
+    ("0xC", Resolved::Integer(12)),
+    ("0x-fF", Resolved::Integer(-255)),
+    ("0x", Resolved::Text),
+    ("+", Resolved::Text),
+    (
+        "9223372036854775807",
+        Resolved::Integer(9223372036854775807),
+    ),
+    (
+        "-9223372036854775808",
+        Resolved::Integer(-9223372036854775808),
+    ),
+    ("9223372036854775808", Resolved::RealForm),
+    ("0x8000000000000000", Resolved::Text),
+    ("1.5", Resolved::RealForm),
+    ("-1.", Resolved::RealForm),
+    (".5", Resolved::RealForm),
+    (".", Resolved::Text),
+    ("1.2.3", Resolved::Text),
+    ("1e3", Resolved::RealForm),
+    ("1.5E-3", Resolved::RealForm),
+    ("1e", Resolved::Text),
+    ("e3", Resolved::Text),
+    (".inf", Resolved::RealForm),
+    ("-.INF", Resolved::RealForm),
+    (".iNF", Resolved::Text),
+    (".nan", Resolved::RealForm),
+    ("-.nan", Resolved::Text),
+    ("12 ", Resolved::Text),
+    ("a", Resolved::Text),
+];
+
+/// Examples of chapters 2, 6, 7 and 8 of YAML 1.2.2 that are carried, and the events of their nodes.
+const EXAMPLES: [(&str, &str); 35] = [
+    // Example 2.1
+    (
+        "- Mark McGwire\n- Sammy Sosa\n- Ken Griffey\n",
+        "[ :Mark McGwire :Sammy Sosa :Ken Griffey ]",
+    ),
+    // Example 2.2
+    (
+        "hr:  65    # Home runs\navg: 0.278 # Batting average\nrbi: 147   # Runs Batted In\n",
+        "{ :hr :65 :avg :0.278 :rbi :147 }",
+    ),
+    // Example 2.3
+    (
+        "american:\n- Boston Red Sox\n- Detroit Tigers\nnational:\n- New York Mets\n- Chicago Cubs\n",
+        "{ :american [ :Boston Red Sox :Detroit Tigers ] :national [ :New York Mets :Chicago Cubs ] }",
+    ),
+    // Example 2.4
+    (
+        "-\n  name: Mark McGwire\n  hr:   65\n-\n  name: Sammy Sosa\n  hr:   63\n",
+        "[ { :name :Mark McGwire :hr :65 } { :name :Sammy Sosa :hr :63 } ]",
+    ),
+    // Example 2.5
+    (
+        "- [name        , hr, avg  ]\n- [Mark McGwire, 65, 0.278]\n",
+        "[ [ :name :hr :avg ] [ :Mark McGwire :65 :0.278 ] ]",
+    ),
+    // Example 2.6
+    (
+        "Mark McGwire: {hr: 65, avg: 0.278}\nSammy Sosa: {\n    hr: 63,\n    avg: 0.288,\n  }\n",
+        "{ :Mark McGwire { :hr :65 :avg :0.278 } :Sammy Sosa { :hr :63 :avg :0.288 } }",
+    ),
+    // Example 2.9
+    (
+        "---\nhr: # 1998 hr ranking\n- Mark McGwire\n- Sammy Sosa\n# 1998 rbi ranking\nrbi:\n- Sammy Sosa\n- Ken Griffey\n",
+        "{ :hr [ :Mark McGwire :Sammy Sosa ] :rbi [ :Sammy Sosa :Ken Griffey ] }",
+    ),
+    // Example 2.12
+    (
+        "---\n# Products purchased\n- item    : Super Hoop\n  quantity: 1\n- item    : Basketball\n  quantity: 4\n",
+        "[ { :item :Super Hoop :quantity :1 } { :item :Basketball :quantity :4 } ]",
+    ),
+    // Example 2.13
+    (
+        "# ASCII Art\n--- |\n  \\//||\\/||\n  // ||  ||__\n",
+        "|\\\\//||\\\\/||\\n// ||  ||__\\n",
+    ),
+    // Example 2.14
+    (
+        "--- >\n  Mark McGwire's\n  year was crippled\n  by a knee injury.\n",
+        ">Mark McGwire's year was crippled by a knee injury.\\n",
+    ),
+    // Example 2.15
+    (
+        "--- >\n Sammy Sosa completed another\n fine season with great stats.\n\n   63 Home Runs\n   0.288 Batting Average\n\n What a year!\n",
+        ">Sammy Sosa completed another fine season with great stats.\\n\\n  63 Home Runs\\n  0.288 Batting Average\\n\\nWhat a year!\\n",
+    ),
+    // Example 2.16
+    (
+        "name: Mark McGwire\naccomplishment: >\n  Mark set a major league\n  home run record in 1998.\nstats: |\n  65 Home Runs\n  0.278 Batting Average\n",
+        "{ :name :Mark McGwire :accomplishment >Mark set a major league home run record in 1998.\\n :stats |65 Home Runs\\n0.278 Batting Average\\n }",
+    ),
+    // Example 2.17
+    (
+        "unicode: \"Sosa did fine.\\u263A\"\ncontrol: \"\\b1998\\t1999\\t2000\\n\"\nhex esc: \"\\x0d\\x0a is \\r\\n\"\n\nsingle: '\"Howdy!\" he cried.'\nquoted: ' # Not a ''comment''.'\ntie-fighter: '|\\-*-/|'\n",
+        "{ :unicode \"Sosa did fine.☺ :control \"\u{8}1998\\t1999\\t2000\\n :hex esc \"\r\\n is \r\\n :single '\"Howdy!\" he cried. :quoted ' # Not a 'comment'. :tie-fighter '|\\\\-*-/| }",
+    ),
+    // Example 2.19
+    (
+        "canonical: 12345\ndecimal: +12345\noctal: 0o14\nhexadecimal: 0xC\n",
+        "{ :canonical :12345 :decimal :+12345 :octal :0o14 :hexadecimal :0xC }",
+    ),
+    // Example 6.1
+    (
+        "  # Leading comment line spaces are\n  # neither content nor indentation.\n    \nNot indented:\n By one space: |\n    By four\n      spaces\n Flow style: [    # Leading spaces\n   By two,        # in flow style\n  Also by two,    # are neither\n  \tStill by two   # content nor\n    ]             # indentation.\n",
+        "{ :Not indented { :By one space |By four\\n  spaces\\n :Flow style [ :By two :Also by two :Still by two ] } }",
+    ),
+    // Example 6.6
+    (
+        ">-\n  trimmed\n  \n \n\n  as\n  space\n",
+        ">trimmed\\n\\n\\nas space",
+    ),
+    // Example 6.7
+    (
+        ">\n  foo \n \n  \t bar\n\n  baz\n",
+        ">foo \\n\\n\\t bar\\n\\nbaz\\n",
+    ),
+    // Example 6.9
+    ("key:    # Comment\n  value\n", "{ :key :value }"),
+    // Example 6.11
+    (
+        "key:    # Comment\n        # lines\n  value\n\n\n",
+        "{ :key :value }",
+    ),
+    // Example 7.7
+    ("'here''s to \"quotes\"'\n", "'here's to \"quotes\""),
+    // Example 7.10
+    (
+        "# Outside flow collection:\n- ::vector\n- \": - ()\"\n- Up, up, and away!\n- -123\n- https://example.com/foo#bar\n# Inside flow collection:\n- [ ::vector,\n  \": - ()\",\n  \"Up, up and away!\",\n  -123,\n  https://example.com/foo#bar ]\n",
+        "[ :::vector \": - () :Up, up, and away! :-123 :https://example.com/foo#bar [ :::vector \": - () \"Up, up and away! :-123 :https://example.com/foo#bar ] ]",
+    ),
+    // Example 7.13
+    (
+        "- [ one, two, ]\n- [three ,four]\n",
+        "[ [ :one :two ] [ :three :four ] ]",
+    ),
+    // Example 7.15
+    (
+        "- { one : two , three: four , }\n- {five: six,seven : eight}\n",
+        "[ { :one :two :three :four } { :five :six :seven :eight } ]",
+    ),
+    // Example 7.18
+    (
+        "{\n\"adjacent\":value,\n\"readable\": value,\n\"empty\":\n}\n",
+        "{ \"adjacent :value \"readable :value \"empty :~ }",
+    ),
+    // Example 7.23
+    (
+        "- [ a, b ]\n- { a: b }\n- \"a\"\n- 'b'\n- c\n",
+        "[ [ :a :b ] { :a :b } \"a 'b :c ]",
+    ),
+    // Example 8.2
+    (
+        "- |\n detected\n- >\n \n  \n  # detected\n",
+        "[ |detected\\n >\\n\\n# detected\\n ]",
+    ),
+    // Example 8.4
+    (
+        "strip: |-\n  text\nclip: |\n  text\n",
+        "{ :strip |text :clip |text\\n }",
+    ),
+    // Example 8.6
+    ("strip: >-\n\nclip: >\n\n", "{ :strip > :clip > }"),
+    // Example 8.7
+    ("|\n literal\n \ttext\n\n\n", "|literal\\n\\ttext\\n"),
+    // Example 8.8
+    (
+        "|\n \n  \n  literal\n   \n  \n  text\n\n # Comment\n",
+        "|\\n\\nliteral\\n \\n\\ntext\\n",
+    ),
+    // Example 8.9
+    (">\n folded\n text\n\n\n", ">folded text\\n"),
+    // Example 8.10
+    (
+        ">\n\n folded\n line\n\n next\n line\n   * bullet\n\n   * list\n   * lines\n\n last\n line\n\n# Comment\n",
+        ">\\nfolded line\\nnext line\\n  * bullet\\n\\n  * list\\n  * lines\\n\\nlast line\\n",
+    ),
+    // Example 8.14
+    (
+        "block sequence:\n  - one\n  - two : three\n",
+        "{ :block sequence [ :one { :two :three } ] }",
+    ),
+    // Example 8.15
+    (
+        "- # Empty\n- |\n block node\n- - one # Compact\n  - two # sequence\n- one: two # Compact mapping\n",
+        "[ :~ |block node\\n [ :one :two ] { :one :two } ]",
+    ),
+    // Example 8.16
+    (
+        "block mapping:\n key: value\n",
+        "{ :block mapping { :key :value } }",
+    ),
+];
+
+/// A refused example for each form that is not carried, with the error's kind, line and column.
+const REFUSED: [(&str, &str); 26] = [
+    // Two documents (2.7)
+    (
+        "---\n- Mark McGwire\n\n# Team ranking\n---\n- Chicago Cubs\n",
+        "NotCarried 5:0",
+    ),
+    // A document behind the end mark (2.8)
+    (
+        "---\ntime: 20:03:20\n...\n---\ntime: 20:03:47\n",
+        "NotCarried 4:0",
+    ),
+    // An anchor (2.10)
+    ("rbi:\n  - &SS Sammy Sosa\n", "NotCarried 2:4"),
+    // An alias (2.10)
+    ("rbi:\n  - *SS\n", "NotCarried 2:4"),
+    // A complex key (2.11)
+    ("? - Detroit Tigers\n  - Chicago cubs\n", "NotCarried 1:0"),
+    // A plain scalar over lines (2.18)
+    (
+        "plain:\n  This unquoted scalar\n  spans many lines.\n",
+        "NotCarried 3:2",
+    ),
+    // A quoted scalar over lines (2.18)
+    (
+        "quoted: \"So does this\n  quoted scalar.\"\n",
+        "NotCarried 1:21",
+    ),
+    // A tag (2.23)
+    ("---\nnot-date: !!str 2002-04-28\n", "NotCarried 2:10"),
+    // A dash before a tab (6.3)
+    ("- - baz\n  -\tbaz\n", "Form 2:2"),
+    // A folded quote (6.5)
+    (
+        "Folding:\n  \"Empty line\n   \t\n  as a line feed\"\n",
+        "NotCarried 2:13",
+    ),
+    // A flow map as a key (6.12)
+    ("{ first: Sammy, last: Sosa }:\n  hr: 65\n", "Form 1:28"),
+    // A directive (6.13)
+    ("%FOO  bar baz\n--- \"foo\"\n", "NotCarried 1:0"),
+    // A tab as indentation
+    ("a:\n\tb: c\n", "NotCarried 2:0"),
+    // An empty key (7.3)
+    ("{\n  : bar,\n}\n", "Form 2:2"),
+    // A quoted key in a flow list (7.4)
+    (
+        "'implicit block key' : [\n  'implicit flow key' : value,\n ]\n",
+        "NotCarried 2:22",
+    ),
+    // A plain key in a flow list (7.19)
+    ("[\nfoo: bar\n]\n", "NotCarried 2:3"),
+    // A plain scalar over lines (7.12)
+    ("1st non-empty\n\n 2nd non-empty \n", "NotCarried 3:1"),
+    // An explicit flow key (7.16)
+    ("{\n? explicit: entry,\n}\n", "NotCarried 2:0"),
+    // An omitted key (7.17)
+    ("{\nomitted value:,\n: omitted key,\n}\n", "Form 3:0"),
+    // A key over lines (7.22)
+    ("[ foo\n bar: invalid,\n]\n", "NotCarried 2:1"),
+    // An indentation indicator (8.1)
+    ("- >1 # Indentation indicator\n  folded\n", "NotCarried 1:3"),
+    // Kept line ends (8.4)
+    ("keep: |+\n  text\n", "NotCarried 1:7"),
+    // A block key (8.17)
+    ("? |\n  block key\n: - one\n", "NotCarried 1:0"),
+    // An omitted block key (8.18)
+    ("plain key: in-line value\n: # Both empty\n", "Form 2:0"),
+    // A compact key (8.19)
+    ("- sun: yellow\n- ? earth: blue\n", "NotCarried 2:2"),
+    // A tag on a map (8.20)
+    (
+        "- !!map # Block collection\n  foo : bar\n",
+        "NotCarried 1:2",
+    ),
+];
+
+/// Texts about which a reader may doubt, the events of their nodes, and the error where one comes.
+const CORNERS: [(&str, &str); 99] = [
+    ("---\ta", "!NotCarried 1:3"),
+    ("--- \ta", "!NotCarried 1:4"),
+    ("---\t# c\na", ":a"),
+    ("---\t\na: 1", "{ :a :1 }"),
+    ("---\t# \u{1}", "!Form 1:6"),
+    ("a\n...\t\n", ":a"),
+    ("...\t", "!Form 1:0"),
+    ("a\n---\tb", ":a !NotCarried 2:0"),
+    ("# \u{1}", "!Form 1:2"),
+    ("a # b\u{1}", ":a !Form 1:5"),
+    ("a\n# b\u{1}\n", ":a !Form 2:3"),
+    ("a: # \u{7f}\n b", "{ :a !Form 1:5"),
+    ("- a\n\t# b\u{1}", "[ :a ] !Form 2:4"),
+    ("[a # \u{1}\n]", "[ :a !Form 1:5"),
+    ("[a\n# \u{1}\n]", "[ :a !Form 2:2"),
+    ("a\n...\n# \u{1}", ":a !Form 3:2"),
+    ("a:\tb", ":a:\\tb"),
+    ("-\ta", ":-\\ta"),
+    ("a\tb", ":a\\tb"),
+    ("- \t- a", "[ !NotCarried 1:2"),
+    ("- \ta: b", "[ !NotCarried 1:2"),
+    ("- \ta", "[ :a ]"),
+    ("[a,\n\tb]", "[ :a :b ]"),
+    ("a\t#b", ":a"),
+    ("a : b", "{ :a :b }"),
+    ("'a' : b", "{ 'a :b }"),
+    ("{a : b, 'c' : d}", "{ :a :b 'c :d }"),
+    ("{a\n: b}", "{ :a :b }"),
+    ("a\n: b", ":a !NotCarried 2:0"),
+    ("|-\t\nx", "|x"),
+    (">-\t\nx", ">x"),
+    ("|#c", "!Form 1:1"),
+    ("'a'#c", "'a !Form 1:3"),
+    ("[a]#c", "[ :a ] !Form 1:3"),
+    ("[]#", "[ ] !Form 1:2"),
+    ("| # c\nx", "|x\\n"),
+    ("|-  # c\nx", "|x"),
+    ("| x", "!Form 1:2"),
+    ("a\u{7f}b", ":a !Form 1:1"),
+    ("'a\u{85}b'", "!Form 1:2"),
+    ("a\rb", ":a !Form 1:1"),
+    ("\"a\u{2028}b\"", "\"a\u{2028}b"),
+    ("a\u{feff}b", ":a\u{feff}b"),
+    ("\"a\tb\"", "\"a\\tb"),
+    ("\"a\\\tb\"", "!Form 1:2"),
+    ("\"\\ud83d\\ude00\"", "!Form 1:1"),
+    ("|\nx", "|x\\n"),
+    ("|\n# x", "|# x\\n"),
+    ("|\nx\n---\n", "|x\\n !NotCarried 3:0"),
+    ("|\nx\n...\n", "|x\\n"),
+    ("a: |\n x", "{ :a |x\\n }"),
+    ("|\n    \n  x", "|  \\nx\\n"),
+    ("|\n x\n   ", "|x\\n  \\n"),
+    ("|\r\n a\r\n", "|a\\n"),
+    ("a: |\n# c\n  x", "{ :a | !Form 3:2"),
+    ("-\n|\n a", "[ :~ ] !Form 2:0"),
+    ("k:\n|\n a", "{ :k :~ !Form 2:0"),
+    ("|-+\nx", "!NotCarried 1:2"),
+    ("|--\nx", "!Form 1:2"),
+    ("'a\nb'", "!NotCarried 1:2"),
+    ("'a", "!Form 1:2"),
+    ("a # c\n b", ":a !Form 2:1"),
+    ("[a # c\n b]", "[ :a !Form 2:1"),
+    ("a: b\n  c: d", "{ :a :b !NotCarried 2:2"),
+    ("a: b\n  - c", "{ :a :b !NotCarried 2:2"),
+    ("[a\n b]", "[ :a !NotCarried 2:1"),
+    ("[a\n'b']", "[ :a !NotCarried 2:0"),
+    ("[a\n[b]]", "[ :a !Form 2:0"),
+    ("\"a\\\nb\"", "!NotCarried 1:3"),
+    ("\"\\q\"", "!Form 1:1"),
+    ("[a,\n---\n]", "[ :a !NotCarried 2:0"),
+    ("[a,\n...\n]", "[ :a !Form 2:0"),
+    ("a: [b,\nc]", "{ :a [ :b :c ] }"),
+    ("[:x]", "[ ::x ]"),
+    ("{:x}", "{ ::x :~ }"),
+    ("[?z]", "[ :?z ]"),
+    ("{?z: a}", "{ :?z :a }"),
+    ("[[a]: b]", "[ [ :a ] !NotCarried 1:4"),
+    ("[a: b]", "[ :a !NotCarried 1:2"),
+    ("[a:]", "[ :a !NotCarried 1:2"),
+    ("{[a]: b}", "{ !Form 1:1"),
+    ("[a]: b", "[ :a ] !Form 1:3"),
+    ("?", "!NotCarried 1:0"),
+    ("a:\n# c\n\n- b", "{ :a [ :b ] }"),
+    ("a: # c\n- b", "{ :a [ :b ] }"),
+    ("- a:\n  - b", "[ { :a [ :b ] } ]"),
+    ("---", ":~"),
+    ("...", "!Form 1:0"),
+    ("a\n...\nb", ":a !NotCarried 3:0"),
+    ("a\n...\n...", ":a !Form 3:0"),
+    ("  %a", "!NotCarried 1:2"),
+    ("---\n%a", "!Form 2:0"),
+    ("[1, &a", "[ :1 !NotCarried 1:4"),
+    ("[&a", "[ !NotCarried 1:1"),
+    ("a: b: c", "{ :a :b !Form 1:4"),
+    ("a: 1\n---\nb: 2\n", "{ :a :1 } !NotCarried 2:0"),
+    ("&a 1", "!NotCarried 1:0"),
+    ("[1", "[ :1 !Form 1:2"),
+    ("1.5", ":1.5"),
+];

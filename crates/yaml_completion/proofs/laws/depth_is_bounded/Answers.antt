@@ -1,5 +1,0 @@
-use Rattle.yaml_completion.proofs.Room.{always_within}
-use Rattle.yaml_completion.proofs.laws.depth_is_bounded.Goals as goal
-
-pub returns : goal.returns
-returns c = λ text events s runs. always_within text events s runs
