@@ -32,6 +32,8 @@ function read_surface(    row, f, kind, crate, holder, n, i, names) {
             for (i = 1; i <= n; i++) known[names[i]] = 1
         } else if (kind == "type" || kind == "variant" || kind == "module") {
             keep(crate, f[3], "")
+        } else if (kind == "file") {
+            files[f[3]] = 1
         } else if (kind == "handed") {
             # Calls of a handed-on type or function are cited as those of the crate that hands them on.
             handed[++handed_count] = crate "\t" f[3] "\t" f[4]
@@ -150,12 +152,22 @@ function take_prose(text,    found, behind, n, i, home, group) {
             mark(found[i])
         } else if (is_name(found[i]) && own != "" && alike[own, found[i]] == 1) {
             mark_only(found[i])
+        } else {
+            check_file(found[i])
         }
         if ((is_path(found[i]) || is_name(found[i])) && match(behind[i], /^ [(]`[a-z_]+`((, | and )`[a-z_]+`)*[)]/)) {
             group = substr(behind[i], RSTART, RLENGTH)
             take_group(found[i], group)
         }
     }
+}
+
+# A source `name.rt` or a definition `specs/Name` must be one of some crate.
+function check_file(name) {
+    sub(/^src[/]/, "", name)
+    sub(/[.]antt$/, "", name)
+    if ((name ~ /^[a-z0-9_]+[.]rt$/ || name ~ /^specs[/][A-Z][A-Za-z0-9]*$/) && !(name in files))
+        say("no crate has a file `" name "`")
 }
 
 # A bare name that one call of the crate alone has.
