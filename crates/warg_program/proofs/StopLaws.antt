@@ -1,13 +1,14 @@
 -- What a stop means for the files, and when nothing but memory can be short.
-use Rattle.std.proofs.Common.{◌≡◌, ◌∙◌, ◌≤◌, inl, inr, ap, sym, subst, arith, ℕ, List, Some, None, Option, IfSome}
+use Rattle.std.proofs.Common.{◌≡◌, ◌∙◌, ◌≤◌, inl, inr, refl, ap, sym, subst, arith, ℕ, List, Some, None, Option, IfSome}
 use Rattle.std.proofs.lemmas.Option.{same_Some}
 use Rattle.warg_values.specs.Faults.{Rose}
-use Rattle.warg_base.specs.Files.{FileMap, file_at}
+use Rattle.warg_base.specs.Files.{FileMap, LeavesPartlyWritten, file_at, with_file}
 use Rattle.wasm_compose.specs.Link.{LinkFits}
-use Rattle.warg_program.specs.World.{SeenFiles, SeenOutput, World, HasFile}
+use Rattle.warg_program.specs.World.{SeenFiles, SeenOutput, World, HasFile, SameFiles}
 use Rattle.warg_program.specs.Command.{Asked, Link, IsCommand}
 use Rattle.warg_program.specs.Link.{Exports, IsCause, IsWriteCause, IsPrintCause, LinkStops, LinkHolds}
 use Rattle.warg_program.specs.Run.{Does, Holds, Stops, IsDone, IsStopped, IsShortOfMemory, MayHold}
+use Rattle.warg_program.specs.Stop.{status_of}
 use Rattle.warg_program.specs.declared.stop.Stop.{Stop}
 use Rattle.warg_program.specs.declared.stop.Stop.TheVariants as stop
 use Rattle.warg_program.specs.declared.stop.Access.TheVariants as access
@@ -20,15 +21,17 @@ does_holds (Link root out) before after d = inr (d.linked, d.is_link, inr d.writ
 pub holds_done : (words : List (List ℕ)) (before after : World) → IsDone words before after → MayHold words before after
 holds_done words before after d = inr (d.command, d.is_command, does_holds d.command before after d.does)
 
--- what a command that stopped leaves
-stops_holds : (s : Stop) (c : Asked) (before after : World) → Stops s c before after → Holds c before after
-stops_holds s (Link root out) before after (inl r) = inl r.files
-stops_holds s (Link root out) before after (inr (inl o)) = inr (o.linked, o.is_link, inl o.written)
-stops_holds s (Link root out) before after (inr (inr l)) = inr (l.linked, l.is_link, inr l.written)
+-- what a command that stopped leaves, also where the files are as they were then
+stops_holds : (s : Stop) (c : Asked) (before stopped after : World) → SameFiles stopped after → Stops s c before stopped → Holds c before after
+stops_holds s (Link root out) before stopped after same (inl r) = inl (same ∙ r.files)
+stops_holds s (Link root out) before stopped after same (inr (inl o)) =
+    inr (o.linked, o.is_link, inl (subst (λ held. LeavesPartlyWritten before.files.held held out o.linked) (sym same) o.written))
+stops_holds s (Link root out) before stopped after same (inr (inr l)) =
+    inr (l.linked, l.is_link, inr (subst (λ held. IfSome before.files.held (λ files. held ≡ Some (with_file files out l.linked))) (sym same) l.written))
 
-pub holds_stopped : (s : Stop) (words : List (List ℕ)) (before after : World) → IsStopped s words before after → MayHold words before after
-holds_stopped s words before after (inl r) = inl r.files
-holds_stopped s words before after (inr c) = inr (c.command, c.is_command, stops_holds s c.command before after c.stops)
+pub holds_stopped : (s : Stop) (words : List (List ℕ)) (before stopped after : World) → SameFiles stopped after → IsStopped s words before stopped → MayHold words before after
+holds_stopped s words before stopped after same (inl r) = inl (same ∙ r.files)
+holds_stopped s words before stopped after same (inr c) = inr (c.command, c.is_command, stops_holds s c.command before stopped after same c.stops)
 
 no_some : {X : Type 0} (o : Option X) (x : X) → o ≡ None → o ≡ Some x → ⊥
 no_some o x missing there =
@@ -96,3 +99,12 @@ module _ (one_names : (bytes : List ℕ) (a b : List (List ℕ)) → Exports byt
 -- a count that rose stays risen
 pub rose_later : (old mid new : ℕ) → mid ≤ new → Rose old mid → Rose old new
 rose_later old mid new le rose = omega (arith, le, rose)
+
+-- want of memory is the status 7
+pub status_short : (s : Stop) → IsShortOfMemory s → status_of s ≡ 7
+status_short stop.Usage h = absurd h
+status_short (stop.Missing path) h = absurd h
+status_short (stop.Fault access) h = absurd h
+status_short (stop.BadComponent path error) h = absurd h
+status_short (stop.TooLarge path number) h = absurd h
+status_short stop.Memory h = refl

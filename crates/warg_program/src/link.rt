@@ -4,6 +4,7 @@ ghost use Rattle.std.specs.Prelude.{◌≡◌, ◌≤◌, IfOk, IfErr, OnOk, str
 ghost use Rattle.warg_program.specs.World.{SameFiles, PrintsNothing, seen_files, seen_output, world};
 ghost use Rattle.warg_program.specs.Link.{IsCause, IsLinkOf, LinkDone, LinkStops, done_line};
 
+use crate::laws::refused_has_no_shape;
 use crate::lines::done_line;
 use crate::stop::{Access, Stop};
 use std::alloc::{AllocError, Global};
@@ -34,6 +35,7 @@ fn linked<'a, F: Files>(
             return Err(Stop::Fault(Access::Read(root)));
         }
         Err(ComponentError::BadComponent(error)) => {
+            refused_has_no_shape();
             return Err(Stop::BadComponent { path: root, error });
         }
         Err(ComponentError::Memory) => return Err(Stop::Memory),

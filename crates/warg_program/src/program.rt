@@ -12,6 +12,7 @@ ghost use Rattle.warg_program.specs.Stop.{status_of};
 ghost use Rattle.warg_program.specs.declared.stop.Stop.{Stop as AnyStop};
 
 use crate::command::{Command, command_of};
+use crate::laws::one_list_of_names;
 use crate::lines::refuse;
 use crate::link::link;
 use crate::stop::Stop;
@@ -90,6 +91,7 @@ pub fn outcome<'a, F: Files, O: Out>(
     match perform(alloc, words, files, out) {
         Ok(()) => Ok(()),
         Err(stop) => {
+            one_list_of_names();
             refuse(alloc, out, &stop);
             Err(stop)
         }

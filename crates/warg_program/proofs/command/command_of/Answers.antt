@@ -1,0 +1,14 @@
+use Rattle.std.proofs.Common.{◌≡◌, ◌∙◌, map, true, refl, sym, ap, codes, string_bytes}
+use Rattle.std.specs.Cmp.{unsigned_Decides}
+use Rattle.std.proofs.lemmas.Slice.Eq.{slice_eq-Decides}
+use Rattle.warg_program.proofs.CommandLaws.{three_are}
+use Rattle.warg_program.proofs.command.command_of.Goals as goal
+
+pub returns-in-len3 : goal.returns-in-len3
+returns-in-len3 c =
+    let words = three_are c.args.words.now c.command-item.result c.root-item.result c.out-item.result c.in-len3.len_at_least c.in-len3.len_below in
+    let is_link : c.as_str.result.now ≡ codes "link" = (slice_eq-Decides unsigned_Decides c.as_str.result.now (codes "link") true c.if-eq.ensures).0 refl in
+    let command = sym (ap string_bytes c.command-item.is) ∙ sym c.as_str.ensures.value ∙ is_link in
+    let root = sym (ap string_bytes c.root-item.is) ∙ sym c.as_str-in-len3.ensures.value in
+    let out = sym (ap string_bytes c.out-item.is) ∙ sym c.as_str-in-len3-2.ensures.value in
+    ap (map string_bytes) words ∙ rw (command, root, out) refl
