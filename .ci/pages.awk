@@ -32,6 +32,8 @@ function read_surface(    row, f, kind, crate, holder, n, i, names) {
             for (i = 1; i <= n; i++) known[names[i]] = 1
         } else if (kind == "type" || kind == "variant" || kind == "module") {
             keep(crate, f[3], "")
+        } else if (kind == "file") {
+            files[f[3]] = 1
         } else if (kind == "handed") {
             # Calls of a handed-on type or function are cited as those of the crate that hands them on.
             handed[++handed_count] = crate "\t" f[3] "\t" f[4]
@@ -131,10 +133,9 @@ function is_foreign(name) {
     return name == "std" || name == "core" || (name in known && !(name in crates))
 }
 
-# That a page names this call.
-function mark(name, home) {
-    named[home, without_crate(name)] = 1
-    if (home == "") named_anywhere[without_crate(name)] = 1
+# That the page names this call. Those of a crate are to be named by its own page.
+function mark(name) {
+    named[page_crate, without_crate(name)] = 1
     cited++
 }
 
@@ -148,9 +149,11 @@ function take_prose(text,    found, behind, n, i, home, group) {
                 say("`" found[i] "` is no public call, type or law")
                 continue
             }
-            mark(found[i], home)
+            mark(found[i])
         } else if (is_name(found[i]) && own != "" && alike[own, found[i]] == 1) {
             mark_only(found[i])
+        } else {
+            check_file(found[i])
         }
         if ((is_path(found[i]) || is_name(found[i])) && match(behind[i], /^ [(]`[a-z_]+`((, | and )`[a-z_]+`)*[)]/)) {
             group = substr(behind[i], RSTART, RLENGTH)
@@ -159,11 +162,19 @@ function take_prose(text,    found, behind, n, i, home, group) {
     }
 }
 
+# A source `name.rt` or a definition `specs/Name` must be one of some crate.
+function check_file(name) {
+    sub(/^src[/]/, "", name)
+    sub(/[.]antt$/, "", name)
+    if ((name ~ /^[a-z0-9_]+[.]rt$/ || name ~ /^specs[/][A-Z][A-Za-z0-9]*$/) && !(name in files))
+        say("no crate has a file `" name "`")
+}
+
 # A bare name that one call of the crate alone has.
 function mark_only(name,    i, f) {
     for (i = 1; i <= owed_count; i++) {
         split(owed[i], f, "\t")
-        if (f[1] == own && last_of(f[2]) == name) named[own, f[2]] = 1
+        if (f[1] == own && last_of(f[2]) == name) named[page_crate, f[2]] = 1
     }
 }
 
@@ -205,7 +216,7 @@ function take_row(cells, count,    found, behind, n, i, home, clause_names, m, j
         }
         row_call[++row_calls] = found[i]
         row_home[row_calls] = home
-        mark(found[i], home)
+        mark(found[i])
         if (found[i] ~ /^[A-Z][A-Za-z0-9]*$/) type_names = type_names " " found[i]
     }
     # Bare names mean the calls of the types in the cell, or of all types where it has none.
@@ -223,10 +234,10 @@ function take_row(cells, count,    found, behind, n, i, home, clause_names, m, j
 function mark_bare(name, type_names,    i, f, holder) {
     for (i = 1; i <= owed_count; i++) {
         split(owed[i], f, "\t")
-        if ((own != "" && f[1] != own) || last_of(f[2]) != name) continue
+        if (f[1] != page_crate || last_of(f[2]) != name) continue
         holder = f[2]
         if (!sub(/::[^:]*$/, "", holder)) holder = ""
-        if (type_names == "" || holder == "" || index(type_names " ", " " holder " ")) named[f[1], f[2]] = 1
+        if (type_names == "" || holder == "" || index(type_names " ", " " holder " ")) named[page_crate, f[2]] = 1
     }
 }
 
@@ -358,7 +369,7 @@ BEGIN {
     }
     for (i = 1; i <= owed_count; i++) {
         split(owed[i], f, "\t")
-        if (!(f[1] in paged) || (f[1], f[2]) in named || f[2] in named_anywhere) continue
+        if (!(f[1] in paged) || (f[1], f[2]) in named) continue
         # The functions of a crate of callers are quoted where they help.
         if (f[1] ~ /^uses_/) continue
         page = "crates/" f[1] "/README.md"
