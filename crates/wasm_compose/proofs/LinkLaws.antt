@@ -1,5 +1,5 @@
 -- The items of a linked component, and their image.
-use Rattle.std.proofs.Common.{◌≡◌, ◌∙◌, subst, take, get_or, sym, ap, refl, ℕ, ◌+◌, ◌*◌, ◌^◌, ◌<◌, List, [], ◌∷◌, ◌++◌, length, map, Option, Some, None, slice_get, filter, option_map, option_and_then, arith}
+use Rattle.std.proofs.Common.{◌≡◌, ◌∙◌, subst, take, get_or, sym, ap, refl, ℕ, ◌+◌, ◌*◌, ◌^◌, ◌<◌, ◌≤◌, Contains, List, [], ◌∷◌, ◌++◌, length, map, Option, Some, None, slice_get, filter, option_map, option_and_then, arith}
 use Rattle.std.proofs.lemmas.List.{append-nil, map-append, map_push, take_more, get_or-map, length-map, append_assoc, length-append, length-take}
 use Rattle.std.proofs.lemmas.List.Elements.{filter-append, All-append, All-nil, All-cons}
 use Rattle.comp_format.specs.declared.types.Sort.{Sort}
@@ -174,6 +174,21 @@ room_left old new exports i d lt first h fits =
     let front = length-take i exports in
     let one = one_fits exports i d fits lt in
     omega (arith, counted, taken, front, one.1, lt)
+
+-- what one export more makes of the number of types
+pub room_taken : (old new : List Entry) (exports : List (List ℕ × Entity)) (i : ℕ) → i < length exports → next_index sort.Ty old ≡ 0 → HasLinked old new (map (λ e. e.0) (take i exports)) → next_index sort.Ty new + 2 ≤ 2 * length (map (λ e. e.0) exports)
+room_taken old new exports i lt first h =
+    let counted = types_linked old new _ first h in
+    let taken = length-map (take i exports) (λ (e : List ℕ × Entity). e.0) in
+    let all = length-map exports (λ (e : List ℕ × Entity). e.0) in
+    let front = length-take i exports in
+    omega (arith, counted, taken, all, front, lt)
+
+-- the name of an export is one of the names
+pub is_named : (exports : List (List ℕ × Entity)) (i : ℕ) (d : List ℕ × Entity) → i < length exports → Contains (map (λ e. e.0) exports) (get_or exports i d).0
+is_named exports i d lt =
+    let long = length-map exports (λ (e : List ℕ × Entity). e.0) in
+    (i, omega (arith, long, lt), get_or-map (λ (e : List ℕ × Entity). e.0) exports i d (get_or exports i d).0 lt)
 
 -- the names of exports, whatever is exported
 pub names_are : (exports : List (List ℕ × Entity)) → map (λ e. e.0) (entries exports) ≡ map (λ e. e.0) exports

@@ -8,8 +8,8 @@ use Rattle.comp_format.specs.Sections.{Reads, component_at}
 use Rattle.comp_shape.specs.declared.shape.Shape.{Shape}
 use Rattle.comp_shape.specs.declared.error.ShapeError.{ShapeError}
 use Rattle.comp_shape.specs.declared.error.ShapeError.TheVariants as errors
-use Rattle.comp_shape.specs.FirstForm.{InFirstForm}
-use Rattle.comp_shape.specs.Shape.{ShapeTree, shape}
+use Rattle.comp_shape.specs.FirstForm.{InFirstForm, StandsFirstOther}
+use Rattle.comp_shape.specs.Shape.{ShapeTree, BreaksAt, shape}
 use Rattle.comp_shape.specs.Views.{shape_tree}
 use Rattle.wasm_compose.specs.declared.component.Component.{Component}
 use Rattle.wasm_compose.specs.declared.export.ComponentExport.{ComponentExport}
@@ -53,13 +53,13 @@ pub record IsRead (c : Component) (bytes : List ℕ) : Type 0 where
   pub bytes_are : bytes_of c ≡ bytes
   pub shown : IsReadAs bytes c.shape c.exports.items
 
--- why bytes have no shape
+-- why bytes have no shape, and where they break what a shape asks
 abbrev pub IsRefused : ShapeError → List ℕ → Type 0
 IsRefused errors.Memory bytes = ⊥
 IsRefused (errors.Form at) bytes = component_at 200 bytes ≡ Err Form
 IsRefused (errors.NotCarried at) bytes = component_at 200 bytes ≡ Err NotCarried
-IsRefused (errors.Index at) bytes = (items : List ItemTree) × InFirstForm bytes items × (shape items ≡ None)
-IsRefused (errors.NotBuilt at) bytes = (items : List ItemTree) × Reads bytes items × ((others : List ItemTree) → InFirstForm bytes others → ⊥)
+IsRefused (errors.Index at) bytes = (items : List ItemTree) × InFirstForm bytes items × (shape items ≡ None) × BreaksAt bytes items at
+IsRefused (errors.NotBuilt at) bytes = (items : List ItemTree) × Reads bytes items × ((others : List ItemTree) → InFirstForm bytes others → ⊥) × StandsFirstOther bytes at
 
 -- the file at a path has such bytes
 abbrev pub RefusedAt : ShapeError → Option FileMap → List ℕ → Type 0

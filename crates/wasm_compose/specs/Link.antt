@@ -1,12 +1,12 @@
 -- The component that makes one instance of another and exports its exports.
-use Rattle.std.specs.Prelude.{◌≡◌, ℕ, ◌+◌, ◌*◌, ◌<◌, ◌^◌, List, [], ◌∷◌, length, map, All, Some, None}
+use Rattle.std.specs.Prelude.{◌≡◌, ℕ, ◌+◌, ◌*◌, ◌<◌, ◌≤◌, ◌⊎◌, ◌^◌, List, [], ◌∷◌, length, map, All, Contains, Some, None}
 use Rattle.std.specs.List.{AllByRecursion}
 use Rattle.comp_format.specs.declared.types.Sort.TheVariants as sort
 use Rattle.comp_format.specs.declared.types.InstanceItem.TheVariants as instance
 use Rattle.comp_format.specs.declared.types.Alias.TheVariants as alias
 use Rattle.comp_format.specs.Items.{ItemTree, Component, Instance, Aliased, Export}
 use Rattle.comp_format.specs.Sections.{Reads}
-use Rattle.comp_encoder.specs.Writing.{Entry, Single, IsShort, sections_of}
+use Rattle.comp_encoder.specs.Writing.{Entry, Single, IsShort, IsTooLongAmong, sections_of}
 use Rattle.comp_shape.specs.Image.{Image, image}
 
 -- each export: an alias of the instance's export, and the export of that. Both stand in the index space of types.
@@ -33,6 +33,14 @@ pub record LinkFits (root : List ℕ) (names : List (List ℕ)) : Type 0 where
   pub component : length root < 2 ^ 32
   pub names_fit : NamesFit names
   pub sections : AllByRecursion IsShort (sections_of (singles (link_items root names)))
+
+-- the length of one of the names, or a number of types that exports of these names make
+abbrev pub IsOfNames : ℕ → List (List ℕ) → Type 0
+IsOfNames n names = ((name : List ℕ) × Contains names name × (n ≡ length name)) ⊎ (n ≤ 2 * length names)
+
+-- a length, a count or a number of types of it
+abbrev pub IsOfLink : ℕ → List ℕ → List (List ℕ) → Type 0
+IsOfLink n root names = (n ≡ length root) ⊎ (IsOfNames n names ⊎ IsTooLongAmong n (sections_of (singles (link_items root names))))
 
 -- one component, one instance of it without arguments, no imports, and the component's exports
 abbrev pub link_image : List ℕ → List (List ℕ) → Image

@@ -127,7 +127,7 @@ impl<'a> Component<'a> {
 
     /// The component of the file at `path`, under a name.
     ///
-    /// `BadName` is answered exactly for the empty name, and then no file is read. `File` tells that the file is missing
+    /// `BadName` is answered exactly for the empty name, and then no file is touched. `File` tells that the file is missing
     /// or could not be read, and `BadComponent` is answered exactly where [`read_component`] refuses its bytes.
     pub fn from_file<F: Files>(
         alloc: Global,
@@ -137,6 +137,7 @@ impl<'a> Component<'a> {
     ) -> Result<Component<'a>, ComponentError>
         ensures never_falls { F.faults files.old ≤ F.faults files.new }
         ensures kept { F.told files.new ≡ F.told files.old }
+        ensures untouched { name.now ≡ [] → files.new ≡ files.old }
         ensures taken { IfOk result (λ c. (name_of c ≡ name.now) × (path_of c ≡ Some path.now)) }
         ensures read { IfOk result (λ c. IsRead c (bytes_of c)) }
         ensures found { IfOk result

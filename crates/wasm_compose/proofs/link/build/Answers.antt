@@ -1,4 +1,4 @@
-use Rattle.std.proofs.Common.{◌≡◌, ◌∙◌, Result, Err, refl, sym, ap}
+use Rattle.std.proofs.Common.{◌≡◌, ◌∙◌, Result, Err, refl, sym, ap, inr}
 use Rattle.std.proofs.lemmas.Result.{err_from_is_err_and}
 use Rattle.comp_format.specs.declared.error.EncodeError.{EncodeError}
 use Rattle.comp_format.specs.declared.error.EncodeError.TheVariants as encode_error
@@ -33,3 +33,9 @@ returns-in_err-link_each-clause-too_large c = λ n e.
       refused.0,
       λ short fits. refused.1 (rw (c.deref.ensures.value, ← names_are c.args.component.now.shape.exports.items) fits),
     )
+
+pub returns-in_err-link_each-clause-number : goal.returns-in_err-link_each-clause-number
+returns-in_err-link_each-clause-number c = λ n e.
+    let p = err_from_is_err_and c.from_residual-in_err-link_each.result c.from_residual-in_err-link_each.ensures.1 in
+    let same : p.0 ≡ encode_error.TooLarge n = err_is p.0 (encode_error.TooLarge n) (sym p.1 ∙ e) in
+    inr (rw (names_are c.args.component.now.shape.exports.items, ← c.deref.ensures.value) (c.in_err-link_each.ensures.number n (ap (λ (x : EncodeError). Err x) (sym p.2 ∙ same))))
