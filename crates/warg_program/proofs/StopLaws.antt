@@ -59,7 +59,7 @@ module _ (one_names : (bytes : List ℕ) (a b : List (List ℕ)) → Exports byt
       let same = there_is before held root bytes refused.0 e is refused.2 in
       let there = subst (λ others. Exports others refused.1) same refused.3 in
       let named = one_names bytes refused.1 names there x in
-      absurd (refused.4 (subst (λ others. LinkFits others refused.1) (sym same) (subst (λ others. LinkFits bytes others) (sym named) fits)))
+      absurd (refused.5 (subst (λ others. LinkFits others refused.1) (sym same) (subst (λ others. LinkFits bytes others) (sym named) fits)))
   cause_short stop.Memory root out before after e is none h = tt
 
   write_short : (s : Stop) (out : List ℕ) (before after : SeenFiles) → (Rose before.faults after.faults → ⊥) → IsWriteCause s out before after → IsShortOfMemory s

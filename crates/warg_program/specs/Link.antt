@@ -8,7 +8,7 @@ use Rattle.comp_encoder.specs.Writing.{component_text}
 use Rattle.comp_shape.specs.FirstForm.{InFirstForm}
 use Rattle.comp_shape.specs.Shape.{ShapeTree, shape}
 use Rattle.wasm_compose.specs.Component.{IsRefused}
-use Rattle.wasm_compose.specs.Link.{IsLinked, LinkFits, link_items, singles}
+use Rattle.wasm_compose.specs.Link.{IsLinked, IsOfLink, LinkFits, link_items, singles}
 use Rattle.warg_program.specs.World.{SeenFiles, SeenOutput, World, HasFile, HasNoFile, SameFiles, Writes, WritesPartly, PrintsNothing, Prints, PrintsPartly}
 use Rattle.warg_program.specs.declared.stop.Stop.{Stop}
 use Rattle.warg_program.specs.declared.stop.Stop.TheVariants as stop
@@ -56,7 +56,7 @@ IsCause (stop.BadComponent path error) root out before after =
     × ((bytes : List ℕ) × HasFile before root bytes × IsRefused error bytes × ((names : List (List ℕ)) → Exports bytes names → ⊥))
 IsCause (stop.TooLarge path number) root out before after =
     (path.now ≡ out) × (2 ^ 32 ≤ number)
-    × ((bytes : List ℕ) × (names : List (List ℕ)) × HasFile before root bytes × Exports bytes names × (LinkFits bytes names → ⊥))
+    × ((bytes : List ℕ) × (names : List (List ℕ)) × HasFile before root bytes × Exports bytes names × IsOfLink number bytes names × (LinkFits bytes names → ⊥))
 IsCause stop.Memory root out before after = Unit {0}
 
 -- why OUT was not written whole

@@ -2,6 +2,7 @@
 #![tactic(auto)]
 
 mod component;
+pub mod config;
 mod content;
 mod error;
 mod export;
