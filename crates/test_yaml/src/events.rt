@@ -527,7 +527,15 @@ const REFUSED: [(&str, &str); 26] = [
 ];
 
 /// Texts about which a reader may doubt, the events of their nodes, and the error where one comes.
-const CORNERS: [(&str, &str); 83] = [
+const CORNERS: [(&str, &str); 91] = [
+    ("# \u{1}", "!Form 1:2"),
+    ("a # b\u{1}", ":a !Form 1:5"),
+    ("a\n# b\u{1}\n", ":a !Form 2:3"),
+    ("a: # \u{7f}\n b", "{ :a !Form 1:5"),
+    ("- a\n\t# b\u{1}", "[ :a ] !Form 2:4"),
+    ("[a # \u{1}\n]", "[ :a !Form 1:5"),
+    ("[a\n# \u{1}\n]", "[ :a !Form 2:2"),
+    ("a\n...\n# \u{1}", ":a !Form 3:2"),
     ("a:\tb", ":a:\\tb"),
     ("-\ta", ":-\\ta"),
     ("a\tb", ":a\\tb"),

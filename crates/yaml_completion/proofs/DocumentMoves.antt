@@ -1,9 +1,9 @@
 -- Steps before and behind a document's node, to a place where something else stands.
-use Rattle.std.proofs.Common.{◌≡◌, ℕ, List, [], ◌∷◌, drop, Bool, true, false, cond, eqb, Ok, nat_eq, refl, sym, ap, ◌∙◌, inl, inr}
+use Rattle.std.proofs.Common.{◌≡◌, ℕ, List, [], ◌∷◌, drop, Bool, true, false, ◌||◌, cond, eqb, Ok, nat_eq, refl, sym, ap, ◌∙◌, inl, inr}
 use Rattle.std.specs.List.{starts_with}
 use Rattle.std.proofs.lemmas.Bool.{eqb-true}
 use Rattle.yaml_scan.specs.Bytes.{is_gap}
-use Rattle.yaml_scan.specs.Lines.{ends, is_dashes, is_dots}
+use Rattle.yaml_scan.specs.Lines.{ends, is_comment_line, is_dashes, is_dots}
 use Rattle.yaml_small.specs.declared.event.Event.TheVariants.{StreamEnd, DocumentStart, DocumentEnd}
 use Rattle.yaml_small.specs.declared.state.Mode.TheVariants.{Root, Last, Ended}
 use Rattle.yaml_small.specs.declared.state.Frame.{Frame}
@@ -98,4 +98,4 @@ moves_last k a nest =
     moves_if k (λ c. c ≡ the_end) is_end _ _ a
     (λ is. moves_ok k (λ c. (c ≡ the_end) × (is_end c ≡ true)) (λ c. transition StreamEnd c Ended (missing_transition c).change) a
     (λ d fits. record { at = d; like = (fits, ap is_end fits); along = stays a d; mode = Ended; same = same_mode Ended; is = refl }) (λ rest tie. absurd cc) (record { nest = nest; mode_matches = tt }))
-    (λ more. moves_err k _ (λ c. cond (at_dots c) Form NotCarried) a)
+    (λ more. moves_err k _ (λ c. cond (at_dots c || is_comment_line c.line) Form NotCarried) a)

@@ -35,7 +35,7 @@ abbrev pub size_behind : Option (List ℕ) → ℕ
 size_behind None = 0
 size_behind (Some text) = length text + 1
 
--- nothing, or a comment
+-- nothing, or a comment without control characters
 abbrev pub is_over : List ℕ → Bool
 is_over [] = true
 is_over (c ∷ cs) = c == hash && is_clean cs
@@ -53,10 +53,18 @@ ends (c ∷ cs) = is_white c && is_passed (c ∷ cs)
 abbrev pub is_white_line : List ℕ → Bool
 is_white_line line = whites line == length line
 
+-- a line that has a comment alone, whatever the comment holds
+abbrev pub is_comment : List ℕ → Bool
+is_comment [] = false
+is_comment (c ∷ cs) = c == hash
+
+abbrev pub is_comment_line : List ℕ → Bool
+is_comment_line line = is_comment (drop (whites line) line)
+
 -- the first line that is not of white space is there, and has more than a comment
 abbrev pub text_follows : List (List ℕ) → Bool
 text_follows [] = false
-text_follows (line ∷ lines) = if is_white_line line then text_follows lines else not (is_passed line)
+text_follows (line ∷ lines) = if is_white_line line then text_follows lines else not (is_comment_line line)
 
 -- the marks of a document's start and end
 abbrev pub is_dashes : List ℕ → Bool

@@ -14,6 +14,8 @@ pub use block::{Block, BlockError, Head, block_indent, block_scalar, is_deeper, 
 pub use bytes::{
     begins_flow_mark, is_clean, is_control, is_flow_mark, is_gap, is_white, spaces, whites,
 };
-pub use lines::{cut_line, ends, is_dashes, is_dots, is_passed, is_white_line, text_follows};
+pub use lines::{
+    cut_line, ends, is_comment_line, is_dashes, is_dots, is_passed, is_white_line, text_follows,
+};
 pub use plain::{begins_plain, plain_len};
 pub use quoted::{QuoteError, Quoted, double_quoted, single_quoted};

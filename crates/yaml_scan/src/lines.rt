@@ -31,7 +31,7 @@ fn without_return(line: &[u8]) -> &[u8]
     }
 }
 
-/// Whether the rest of a line is nothing or a comment.
+/// Whether the rest of a line is nothing, or a comment without control characters.
 fn is_over(rest: &[u8]) -> bool
     ensures { result ≡ spec.is_over rest.now }
 {
@@ -65,6 +65,16 @@ pub fn is_white_line(line: &[u8]) -> bool
     whites(line) == line.len()
 }
 
+/// Whether a line has a comment alone, whatever the comment holds.
+pub fn is_comment_line(line: &[u8]) -> bool
+    ensures { result ≡ spec.is_comment_line line.now }
+{
+    match &line[whites(line)..] {
+        [] => false,
+        [first, ..] => *first == b'#',
+    }
+}
+
 /// Whether the first line that is not of white space is there, and has more than a comment.
 pub fn text_follows(later: Option<&[u8]>) -> bool
     ensures { result ≡ spec.text_follows (spec.lines_behind (option_copied later.entry)) }
@@ -73,7 +83,7 @@ pub fn text_follows(later: Option<&[u8]>) -> bool
     while let Some(text) = rest {
         let (line, behind) = cut_line(text);
         if !is_white_line(line) {
-            return !is_passed(line);
+            return !is_comment_line(line);
         }
         rest = behind;
     }

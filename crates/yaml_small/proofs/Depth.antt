@@ -1,8 +1,8 @@
 -- At most 64 lists and maps are open.
-use Rattle.std.proofs.Common.{◌≡◌, ℕ, ◌-◌, ◌≤◌, List, [], ◌∷◌, ◌++◌, length, drop, Bool, true, false, not, cond, ◌&&◌, ltb, Option, Some, None, Result, Ok, Err, refl, sym, subst, arith, length-take}
+use Rattle.std.proofs.Common.{◌≡◌, ℕ, ◌-◌, ◌≤◌, List, [], ◌∷◌, ◌++◌, length, drop, Bool, true, false, not, ◌||◌, cond, ◌&&◌, ltb, Option, Some, None, Result, Ok, Err, refl, sym, subst, arith, length-take}
 use Rattle.std.proofs.lemmas.Bool.{ltb-true}
 use Rattle.warg_values.specs.Reading.{◌>>=◌}
-use Rattle.yaml_scan.specs.Lines.{ends}
+use Rattle.yaml_scan.specs.Lines.{ends, is_comment_line}
 use Rattle.yaml_small.specs.declared.event.Event.{Event}
 use Rattle.yaml_small.specs.declared.event.Event.TheVariants.{StreamStart, StreamEnd, DocumentStart, DocumentEnd, SequenceStart, SequenceEnd, MappingStart, MappingEnd}
 use Rattle.yaml_small.specs.declared.state.Mode.{Mode}
@@ -150,7 +150,7 @@ module _ (k : List Frame) (le : length k ≤ 64) where
 
   last : (a : At) → Room k (last_at a)
   unfolding last_at
-  last a = either (is_end a) _ _ (keeps StreamEnd a Ended) (fault (cond (at_dots a) Form NotCarried))
+  last a = either (is_end a) _ _ (keeps StreamEnd a Ended) (fault (cond (at_dots a || is_comment_line a.line) Form NotCarried))
 
   room : (m : Mode) (f : Option Frame) (a : At) → Room k (step_at m f (length k) a)
   unfolding step_at

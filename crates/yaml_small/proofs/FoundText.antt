@@ -1,6 +1,6 @@
 -- A run from a text's start to the stream's end emits a carried document.
-use Rattle.std.proofs.Common.{◌≡◌, ℕ, suc, ◌≤◌, List, [], ◌∷◌, drop, length, Bool, true, false, cond, Option, Some, None, Ok, refl, sym, ap, ◌∙◌, subst, inl, inr, arith}
-use Rattle.yaml_scan.specs.Lines.{ends}
+use Rattle.std.proofs.Common.{◌≡◌, ℕ, suc, ◌≤◌, List, [], ◌∷◌, drop, length, Bool, true, false, ◌||◌, cond, Option, Some, None, Ok, refl, sym, ap, ◌∙◌, subst, inl, inr, arith}
+use Rattle.yaml_scan.specs.Lines.{ends, is_comment_line}
 use Rattle.yaml_small.specs.declared.event.Event.{Event}
 use Rattle.yaml_small.specs.declared.event.Event.TheVariants.{StreamStart, StreamEnd, DocumentStart, DocumentEnd}
 use Rattle.yaml_small.specs.declared.state.Mode.{Mode}
@@ -55,7 +55,7 @@ unfolding step_at last_at
 last_found a es z fin runs =
     choose [] (is_end a) _ _ es z (step Last a es z (λ e. absurd cc) fin runs)
     (λ end h. record { end = end; tail = end_found a es z h })
-    (λ _ h. refused [] (cond (at_dots a) Form NotCarried) es z h)
+    (λ _ h. refused [] (cond (at_dots a || is_comment_line a.line) Form NotCarried) es z h)
 
 -- the document's end
 record ClosedFound (a : At) (es : List Event) : Type 0 where

@@ -2,7 +2,7 @@
 use Rattle.std.specs.Prelude.{ℕ, ◌-◌, List, [], ◌∷◌, take, drop, length, Bool, true, false, not, nat_le, ◌==◌, ◌&&◌, ◌||◌, if◌then◌else◌, Option, Some, None, Result, Ok, Err}
 use Rattle.warg_values.specs.Reading.{◌>>=◌}
 use Rattle.yaml_scan.specs.Bytes.{tab, exclamation_mark, double_quote, ampersand, single_quote, asterisk, plus, dash, digit_zero, digit_nine, greater_than, question_mark, vertical_bar, is_gap}
-use Rattle.yaml_scan.specs.Lines.{ends, is_white_line, text_follows}
+use Rattle.yaml_scan.specs.Lines.{ends, is_comment_line, is_white_line, text_follows}
 use Rattle.yaml_scan.specs.Plain.{begins_plain, plain_len}
 use Rattle.yaml_scan.specs.Quoted.{Open, Bad, Found, single_at, double_quoted_at}
 use Rattle.yaml_scan.specs.Block.{indent_of, block_lines, behind_block, all_clean, block_text}
@@ -30,11 +30,15 @@ scalar_token text style end = record { scalar = record { text = text; style = st
 abbrev pub begins_at : Bool → At → Bool
 begins_at flow a = not (at_mark a) && begins_plain flow a.line
 
+-- A tab indents more than a comment.
+abbrev pub is_tabbed : List ℕ → Bool
+is_tabbed line = begins tab line && not (is_comment_line line)
+
 -- Anchors, aliases, tags, `? ` and a tab as indentation are not carried.
 abbrev pub is_not_carried : List ℕ → Bool
 is_not_carried [] = false
 is_not_carried (c ∷ cs) =
-    c == ampersand || c == asterisk || c == exclamation_mark || c == tab || (c == question_mark && is_gap cs)
+    c == ampersand || c == asterisk || c == exclamation_mark || is_tabbed (c ∷ cs) || (c == question_mark && is_gap cs)
 
 -- why no node starts here
 abbrev pub start_fault : At → Fault

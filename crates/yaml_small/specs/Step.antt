@@ -1,8 +1,8 @@
 -- One step of a parser: from where it stands, the next event, or why no carried document goes on.
 use Rattle.std.specs.Prelude.{ℕ, drop, Bool, true, false, not, nat_lt, ◌==◌, ◌&&◌, ◌||◌, if◌then◌else◌, Option, Some, None, Result, Ok, Err}
 use Rattle.warg_values.specs.Reading.{◌>>=◌}
-use Rattle.yaml_scan.specs.Bytes.{tab, percent, comma, colon, left_bracket, right_bracket, left_brace, right_brace, spaces, whites, begins_flow_mark}
-use Rattle.yaml_scan.specs.Lines.{ends}
+use Rattle.yaml_scan.specs.Bytes.{percent, comma, colon, left_bracket, right_bracket, left_brace, right_brace, spaces, whites, begins_flow_mark}
+use Rattle.yaml_scan.specs.Lines.{ends, is_comment_line}
 use Rattle.yaml_small.specs.declared.event.Event.{Event}
 use Rattle.yaml_small.specs.declared.event.Event.TheVariants.{StreamStart, StreamEnd, DocumentStart, DocumentEnd, SequenceStart, SequenceEnd, MappingStart, MappingEnd}
 use Rattle.yaml_small.specs.declared.state.Mode.{Mode}
@@ -13,7 +13,7 @@ use Rattle.yaml_small.specs.declared.state.Change.{Change}
 use Rattle.yaml_small.specs.declared.state.Change.TheVariants.{Keep, Push, Pop}
 use Rattle.yaml_small.specs.Trees.{tilde, scalar_event}
 use Rattle.yaml_small.specs.Places.{At, past, over, next_at, flow_next, is_end, begins, at_dashes, at_dots, is_within, is_dash, at_dash, list_ends, map_ends}
-use Rattle.yaml_small.specs.Scalars.{Fault, Form, NotCarried, TooDeep, Cut, ScalarToken, scalar_token_at, key_at, is_key, block_at, begins_block, continues_below}
+use Rattle.yaml_small.specs.Scalars.{Fault, Form, NotCarried, TooDeep, Cut, ScalarToken, scalar_token_at, key_at, is_key, block_at, begins_block, is_tabbed, continues_below}
 use Rattle.yaml_small.specs.Grammar.{closes_value, is_flow_colon, is_quoted}
 
 -- the event, where the next step begins and what it looks for there, and what becomes of the open lists and maps
@@ -158,7 +158,7 @@ pairs_done inner continues a =
 
 -- Why a line doesn't belong here: a tab indents it, or a plain scalar would go on in it.
 abbrev pub line_fault : Bool → At → Fault
-line_fault continues a = if begins tab a.line || continues then NotCarried else Form
+line_fault continues a = if is_tabbed a.line || continues then NotCarried else Form
 
 -- the end of a block list or map before other content
 abbrev pub block_end : Event → At → Transition
@@ -200,9 +200,12 @@ document_at a =
     else if begins percent a.line then Err NotCarried
     else Ok (transition DocumentStart a (Root false) Keep)
 
--- Behind the document's end mark another one may not stand, and other content is a second document.
+-- Behind the document's end mark another one may not stand, nor a comment with a control character, and other content
+-- is a second document.
 unfoldable pub last_at : At → Result Transition Fault
-last_at a = if is_end a then Ok (transition StreamEnd a Ended Keep) else Err (if at_dots a then Form else NotCarried)
+last_at a =
+    if is_end a then Ok (transition StreamEnd a Ended Keep)
+    else Err (if at_dots a || is_comment_line a.line then Form else NotCarried)
 
 -- what is looked for, the innermost open list or map, how many are open, and the place
 unfoldable pub step_at : Mode → Option Frame → ℕ → At → Result Transition Fault

@@ -16,10 +16,10 @@ use crate::event::{Event, Marker};
 use crate::flow::{after_key_of, open_of, pairs_done, seq_done};
 use crate::node::{Step, explicit_of, item_of, node_of, value_of};
 use crate::place::Place;
-use crate::scalar::{ScalarToken, key_of, scalar_event};
+use crate::scalar::{ScalarToken, fault_mark, is_tabbed, key_of, scalar_event};
 use crate::state::{Change, Frame, Mode};
 use std::alloc::Global;
-use yaml_scan::ends;
+use yaml_scan::{ends, is_comment_line};
 
 /// A step that changes nothing of the open lists and maps.
 fn plain_step(event: Event, mark: Marker, place: Place<'_>, mode: Mode) -> Step<'_>
@@ -51,10 +51,10 @@ fn block_end(event: Event, place: Place<'_>) -> Step<'_>
 fn line_error(continues: bool, place: Place<'_>) -> ScanError
     ensures { FailsAs result (spec.line_fault continues (place_at place.entry)) }
 {
-    if begins(b'\t', place.line) || continues {
+    if is_tabbed(place.line) || continues {
         ScanError::NotCarried(place.mark)
     } else {
-        ScanError::Form(place.mark)
+        ScanError::Form(fault_mark(place))
     }
 }
 
@@ -120,7 +120,7 @@ fn dots_end(place: Place<'_>) -> Result<Step<'_>, ScanError>
 {
     let behind = past(place, 3);
     if !ends(behind.line) {
-        return Err(ScanError::Form(over(behind).mark));
+        return Err(ScanError::Form(fault_mark(over(behind))));
     }
     Ok(plain_step(
         Event::DocumentEnd,
@@ -197,8 +197,8 @@ fn last_of(place: Place<'_>) -> Result<Step<'_>, ScanError>
     if is_end(place) {
         return Ok(plain_step(Event::StreamEnd, place.mark, place, Mode::Ended));
     }
-    if at_dots(place) {
-        return Err(ScanError::Form(place.mark));
+    if at_dots(place) || is_comment_line(place.line) {
+        return Err(ScanError::Form(fault_mark(place)));
     }
     Err(ScanError::NotCarried(place.mark))
 }
@@ -225,7 +225,7 @@ pub fn step_of(
         Mode::Open => open_of(alloc, depth, frame, place),
         Mode::AfterKey(quoted, continues) => after_key_of(alloc, depth, quoted, continues, place),
         Mode::Done(continues) => done_of(alloc, depth, continues, frame, place),
-        Mode::Trailing => Err(ScanError::Form(place.mark)),
+        Mode::Trailing => Err(ScanError::Form(fault_mark(place))),
         Mode::Last => last_of(place),
         Mode::Ended => Ok(plain_step(Event::StreamEnd, place.mark, place, Mode::Ended)),
     }

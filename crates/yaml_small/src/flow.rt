@@ -13,7 +13,9 @@ use crate::error::ScanError;
 use crate::event::{Event, Marker};
 use crate::node::{Step, inline_of, missing_step, settled};
 use crate::place::Place;
-use crate::scalar::{ScalarToken, continues_below, is_plain, scalar_event, scalar_token_of};
+use crate::scalar::{
+    ScalarToken, continues_below, fault_mark, is_plain, scalar_event, scalar_token_of,
+};
 use crate::state::{Change, Frame, Mode};
 use std::alloc::Global;
 use yaml_scan::{begins_flow_mark, is_gap};
@@ -134,7 +136,7 @@ fn flow_error(continues: bool, place: Place<'_>) -> ScanError
     if continues && !begins_flow_mark(place.line) {
         return ScanError::NotCarried(place.mark);
     }
-    ScanError::Form(place.mark)
+    ScanError::Form(fault_mark(place))
 }
 
 /// The value of a flow map behind its key's colon.

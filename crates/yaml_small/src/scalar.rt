@@ -16,7 +16,8 @@ use std::alloc::Global;
 use warg_values::Text;
 use yaml_scan::{
     Block, BlockError, Head, QuoteError, Quoted, begins_plain, block_indent, block_scalar,
-    double_quoted, ends, is_gap, is_white_line, plain_len, single_quoted, text_follows,
+    double_quoted, ends, is_comment_line, is_control, is_gap, is_white_line, plain_len,
+    single_quoted, text_follows,
 };
 
 /// The text of a scalar: a part of the line, or bytes of its own.
@@ -64,6 +65,26 @@ fn begins_at(flow: bool, place: Place<'_>) -> bool
     !at_mark(place) && begins_plain(flow, place.line)
 }
 
+/// Whether a tab indents more than a comment.
+pub fn is_tabbed(line: &[u8]) -> bool
+    ensures { result ≡ spec.is_tabbed line.now }
+{
+    begins(b'\t', line) && !is_comment_line(line)
+}
+
+/// Where a fault stands: at the first control character of a comment, else at the place.
+pub fn fault_mark(place: Place<'_>) -> Marker {
+    if !is_comment_line(place.line) {
+        return place.mark;
+    }
+    for at in 0..place.line.len() {
+        if is_control(&place.line[at..]) {
+            return place.mark.after(&place.line[..at]);
+        }
+    }
+    place.mark
+}
+
 /// Whether an anchor, an alias, a tag, a `? ` or a tab stands where a node would start.
 fn is_not_carried(line: &[u8]) -> bool
     ensures { result ≡ spec.is_not_carried line.now }
@@ -74,7 +95,7 @@ fn is_not_carried(line: &[u8]) -> bool
             *first == b'&'
                 || *first == b'*'
                 || *first == b'!'
-                || *first == b'\t'
+                || is_tabbed(line)
                 || (*first == b'?' && is_gap(rest))
         }
     }
@@ -96,7 +117,7 @@ fn start_error(place: Place<'_>) -> ScanError
     if is_not_carried(place.line) {
         return ScanError::NotCarried(place.mark);
     }
-    ScanError::Form(place.mark)
+    ScanError::Form(fault_mark(place))
 }
 
 /// A plain scalar.
@@ -198,7 +219,7 @@ pub fn key_of(alloc: Global, place: Place<'_>) -> Result<ScalarToken<'_>, ScanEr
     } = scalar_token;
     let end = over(end);
     if !is_colon(end.line) {
-        return Err(ScanError::Form(end.mark));
+        return Err(ScanError::Form(fault_mark(end)));
     }
     Ok(ScalarToken {
         content,
@@ -311,11 +332,11 @@ fn headed(
         (lines_behind (option_copied place.entry.later))) }
 {
     if !ends(place.line) {
-        let mark = over(place).mark;
+        let behind = over(place);
         return Err(if is_indicator(place.line) {
-            ScanError::NotCarried(mark)
+            ScanError::NotCarried(behind.mark)
         } else {
-            ScanError::Form(mark)
+            ScanError::Form(fault_mark(behind))
         });
     }
     gathered(alloc, head, block_indent(parent, place.later), place)
