@@ -8,11 +8,12 @@ ghost use Rattle.compose_config.specs.Plan as plan;
 ghost use Rattle.compose_config.specs.View.{settings_of, instance_of};
 ghost use Rattle.compose_config.specs.PlanLaws as laws;
 
+use crate::copy::{copied_map, copied_names};
 use crate::index::index_map;
 use crate::parts::{Dependency, Instantiation};
 use indexmap::IndexMap;
 use std::alloc::Global;
-use warg_values::Text;
+use warg_values::{Memory, Text};
 use yaml_read::{DeError, MapFill, ReadYaml, YamlDeserializer, from_str};
 
 /// How a component is composed of others.
@@ -54,6 +55,23 @@ impl Config {
             dependencies: IndexMap::new(alloc),
             instantiations: IndexMap::new(alloc),
         }
+    }
+
+    /// A configuration of the same settings and folder.
+    pub fn try_clone(&self, alloc: Global) -> Result<Self, Memory>
+        ensures settings { IfOk result (λ copy. settings_of copy ≡ settings_of self.now) }
+        ensures dir { IfOk result (λ copy. copy.dir ≡ self.now.dir) }
+    {
+        Ok(Config {
+            dir: Text::copy_of(alloc, self.dir.as_str())?,
+            definitions: copied_names(alloc, &self.definitions)?,
+            search_paths: copied_names(alloc, &self.search_paths)?,
+            skip_validation: self.skip_validation,
+            import_components: self.import_components,
+            disallow_imports: self.disallow_imports,
+            dependencies: copied_map(alloc, &self.dependencies)?,
+            instantiations: copied_map(alloc, &self.instantiations)?,
+        })
     }
 
     /// The configuration that a text holds: one YAML document, a map of the fields.

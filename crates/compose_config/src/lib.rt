@@ -2,6 +2,7 @@
 #![tactic(auto)]
 
 mod config;
+mod copy;
 mod index;
 mod parts;
 

@@ -1,12 +1,14 @@
 //! Dependencies, instantiations and their arguments.
 
-ghost use Rattle.std.specs.Prelude.{ℕ, List, Option, Some};
+ghost use Rattle.std.specs.Prelude.{◌≡◌, ℕ, List, Option, Some, IfOk};
 ghost use Rattle.yaml_read.specs.Answers.{source_of, ReadGives};
 ghost use Rattle.yaml_read.specs.Collections as collections;
 ghost use Rattle.yaml_read.specs.Scalar as scalar;
 ghost use Rattle.compose_config.specs.Plan as plan;
+ghost use Rattle.compose_config.specs.View.{path_of, argument_of, instance_of};
 ghost use Rattle.compose_config.specs.PlanLaws as laws;
 
+use crate::copy::{Copied, copied_map, copied_name};
 use crate::index::{FromText, index_map};
 use indexmap::IndexMap;
 use std::alloc::Global;
@@ -36,6 +38,99 @@ pub struct Instantiation {
     pub dependency: Option<Text>,
     /// The arguments that are passed, by name.
     pub arguments: IndexMap<Text, InstantiationArg>,
+}
+
+impl Dependency {
+    /// The dependency whose file has this path.
+    pub fn new(path: Text) -> Self
+        ensures { path_of result ≡ path }
+    {
+        Dependency { path }
+    }
+
+    /// A dependency of the same path.
+    pub fn try_clone(&self, alloc: Global) -> Result<Self, Memory>
+        ensures { IfOk result (λ copy. path_of copy ≡ path_of self.now) }
+    {
+        Ok(Dependency {
+            path: Text::copy_of(alloc, self.path.as_str())?,
+        })
+    }
+}
+
+impl Copied for Dependency {
+    ghost Seen = { List ℕ };
+
+    ghost seen = { path_of };
+
+    fn copied(&self, alloc: Global) -> Result<Self, Memory> {
+        self.try_clone(alloc)
+    }
+}
+
+impl InstantiationArg {
+    /// The argument that passes an instance, or an export of it.
+    pub fn new(instance: Text, export: Option<Text>) -> Self
+        ensures { argument_of result ≡ record { instance = instance; export = export } }
+    {
+        InstantiationArg { instance, export }
+    }
+
+    /// An argument that passes the same.
+    pub fn try_clone(&self, alloc: Global) -> Result<Self, Memory>
+        ensures { IfOk result (λ copy. argument_of copy ≡ argument_of self.now) }
+    {
+        Ok(InstantiationArg {
+            instance: Text::copy_of(alloc, self.instance.as_str())?,
+            export: copied_name(alloc, &self.export)?,
+        })
+    }
+}
+
+impl Copied for InstantiationArg {
+    ghost use Rattle.compose_config.specs.Plan.{Argument};
+
+    ghost Seen = { Argument };
+
+    ghost seen = { argument_of };
+
+    fn copied(&self, alloc: Global) -> Result<Self, Memory> {
+        self.try_clone(alloc)
+    }
+}
+
+impl Instantiation {
+    /// An instantiation of the dependency of its own name, without arguments.
+    pub fn new(alloc: Global) -> Self
+        ensures { instance_of result ≡ plan.no_instance }
+    {
+        Instantiation {
+            dependency: None,
+            arguments: IndexMap::new(alloc),
+        }
+    }
+
+    /// An instantiation of the same dependency with the same arguments.
+    pub fn try_clone(&self, alloc: Global) -> Result<Self, Memory>
+        ensures { IfOk result (λ copy. instance_of copy ≡ instance_of self.now) }
+    {
+        Ok(Instantiation {
+            dependency: copied_name(alloc, &self.dependency)?,
+            arguments: copied_map(alloc, &self.arguments)?,
+        })
+    }
+}
+
+impl Copied for Instantiation {
+    ghost use Rattle.compose_config.specs.Plan.{Instance};
+
+    ghost Seen = { Instance };
+
+    ghost seen = { instance_of };
+
+    fn copied(&self, alloc: Global) -> Result<Self, Memory> {
+        self.try_clone(alloc)
+    }
 }
 
 /// The fields of a dependency so far.
@@ -195,7 +290,6 @@ impl FromText for InstantiationArg {
 }
 
 impl ReadYaml for Instantiation {
-    ghost use Rattle.compose_config.specs.View.{instance_of};
     ghost use Rattle.compose_config.specs.Plan.{Instance};
 
     ghost Seen = { Instance };
@@ -232,7 +326,6 @@ struct InstanceFill {
 }
 
 impl MapFill for InstanceFill {
-    ghost use Rattle.compose_config.specs.View.{instance_of};
     ghost use Rattle.compose_config.specs.Plan.{Instance};
 
     ghost Seen = { Instance };
