@@ -6,3 +6,4 @@ pub mod Returns
 pub mod ReturnLaws
 pub mod NodeReturns
 pub mod NodeReturnLaws
+pub mod SeenLaws

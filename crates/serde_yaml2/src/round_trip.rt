@@ -10,6 +10,10 @@ ghost use Rattle.serde_yaml2.specs.Returns.{IsBetween, EachReturns, OptionReturn
 ghost use Rattle.serde_yaml2.specs.NodeReturns.{DataReturns};
 ghost use Rattle.serde_yaml2.specs.ReturnLaws as laws;
 ghost use Rattle.serde_yaml2.specs.NodeReturnLaws as node_laws;
+ghost use Rattle.serde_yaml2.specs.SeenLaws as seen_laws;
+ghost use Rattle.serde_yaml2.specs.Nodes.{data_written};
+ghost use Rattle.serde_yaml2.specs.Values.{character_of};
+ghost use Rattle.yaml_text.specs.Written as spec;
 
 use crate::write::WriteYaml;
 use indexmap::IndexMap;
@@ -24,6 +28,9 @@ pub trait RoundTrip: ReadYaml + WriteYaml {
     /// What is written for a value that comes back is a text that reads as its tree.
     ghost reads_back: { (x : Self) → Returns x → ReadsBack (Self.written x) };
 
+    /// What is seen of a value decides what is written for it.
+    ghost written_alike: { (x y : Self) → Self.seen x ≡ Self.seen y → Self.written x ≡ Self.written y };
+
     /// That tree is read as the value.
     ghost comes_back: { (x : Self) → Returns x → Self.of_node (Some (tree_of (Self.written x))) ≡ Some (Self.seen x) };
 }
@@ -32,6 +39,8 @@ impl RoundTrip for bool {
     ghost Returns = { EachReturns };
 
     ghost reads_back = { λ b _. tt };
+
+    ghost written_alike = { λ a b e. seen_laws.alike spec.boolean a b e };
 
     ghost comes_back = { λ b _. laws.truth_comes_back b };
 }
@@ -42,6 +51,8 @@ impl RoundTrip for char {
 
     ghost reads_back = { λ c is. laws.character_reads_back c is };
 
+    ghost written_alike = { λ c d e. seen_laws.alike character_of c d e };
+
     ghost comes_back = { λ c is. laws.character_comes_back c is };
 }
 
@@ -49,6 +60,8 @@ impl RoundTrip for u8 {
     ghost Returns = { λ n. n ≤ 255 };
 
     ghost reads_back = { λ n le. laws.unsigned_reads_back 255 n (laws.below_u8) le };
+
+    ghost written_alike = { λ m n e. seen_laws.alike (λ k. spec.number (pos k)) m n e };
 
     ghost comes_back = { λ n le. laws.unsigned_comes_back 255 n (laws.below_u8) le };
 }
@@ -58,6 +71,8 @@ impl RoundTrip for u16 {
 
     ghost reads_back = { λ n le. laws.unsigned_reads_back 65535 n (laws.below_u16) le };
 
+    ghost written_alike = { λ m n e. seen_laws.alike (λ k. spec.number (pos k)) m n e };
+
     ghost comes_back = { λ n le. laws.unsigned_comes_back 65535 n (laws.below_u16) le };
 }
 
@@ -65,6 +80,8 @@ impl RoundTrip for u32 {
     ghost Returns = { λ n. n ≤ 4294967295 };
 
     ghost reads_back = { λ n le. laws.unsigned_reads_back 4294967295 n (laws.below_u32) le };
+
+    ghost written_alike = { λ m n e. seen_laws.alike (λ k. spec.number (pos k)) m n e };
 
     ghost comes_back = { λ n le. laws.unsigned_comes_back 4294967295 n (laws.below_u32) le };
 }
@@ -74,6 +91,8 @@ impl RoundTrip for u64 {
 
     ghost reads_back = { λ n le. laws.unsigned_reads_back 18446744073709551615 n (laws.below_u64) le };
 
+    ghost written_alike = { λ m n e. seen_laws.alike (λ k. spec.number (pos k)) m n e };
+
     ghost comes_back = { λ n le. laws.unsigned_comes_back 18446744073709551615 n (laws.below_u64) le };
 }
 
@@ -81,6 +100,8 @@ impl RoundTrip for i8 {
     ghost Returns = { IsBetween (negsuc 127) (pos 127) };
 
     ghost reads_back = { λ n h. laws.signed_reads_back (negsuc 127) (pos 127) n refl refl h };
+
+    ghost written_alike = { λ m n e. seen_laws.alike spec.number m n e };
 
     ghost comes_back = { λ n h. laws.signed_comes_back (negsuc 127) (pos 127) n refl refl h };
 }
@@ -90,6 +111,8 @@ impl RoundTrip for i16 {
 
     ghost reads_back = { λ n h. laws.signed_reads_back (negsuc 32767) (pos 32767) n refl refl h };
 
+    ghost written_alike = { λ m n e. seen_laws.alike spec.number m n e };
+
     ghost comes_back = { λ n h. laws.signed_comes_back (negsuc 32767) (pos 32767) n refl refl h };
 }
 
@@ -97,6 +120,8 @@ impl RoundTrip for i32 {
     ghost Returns = { IsBetween (negsuc 2147483647) (pos 2147483647) };
 
     ghost reads_back = { λ n h. laws.signed_reads_back (negsuc 2147483647) (pos 2147483647) n refl refl h };
+
+    ghost written_alike = { λ m n e. seen_laws.alike spec.number m n e };
 
     ghost comes_back = { λ n h. laws.signed_comes_back (negsuc 2147483647) (pos 2147483647) n refl refl h };
 }
@@ -106,6 +131,8 @@ impl RoundTrip for i64 {
 
     ghost reads_back = { λ n h. laws.signed_reads_back (negsuc 9223372036854775807) (pos 9223372036854775807) n refl refl h };
 
+    ghost written_alike = { λ m n e. seen_laws.alike spec.number m n e };
+
     ghost comes_back = { λ n h. laws.signed_comes_back (negsuc 9223372036854775807) (pos 9223372036854775807) n refl refl h };
 }
 
@@ -113,6 +140,8 @@ impl RoundTrip for Text {
     ghost Returns = { λ t. IsUtf8 t };
 
     ghost reads_back = { λ t utf8. utf8 };
+
+    ghost written_alike = { λ s t e. seen_laws.alike spec.text s t e };
 
     ghost comes_back = { λ t utf8. refl };
 }
@@ -122,6 +151,8 @@ impl RoundTrip for String {
 
     ghost reads_back = { λ t utf8. utf8 };
 
+    ghost written_alike = { λ s t e. seen_laws.alike spec.text (string_bytes s) (string_bytes t) e };
+
     ghost comes_back = { λ t utf8. refl };
 }
 
@@ -129,6 +160,8 @@ impl RoundTrip for () {
     ghost Returns = { EachReturns };
 
     ghost reads_back = { λ u _. tt };
+
+    ghost written_alike = { λ u v e. refl };
 
     ghost comes_back = { λ u _. refl };
 }
@@ -139,6 +172,8 @@ impl<T: RoundTrip> RoundTrip for Option<T> {
 
     ghost reads_back = { λ o h. laws.option_reads_back T.written T.Returns T.reads_back o h };
 
+    ghost written_alike = { λ x y e. seen_laws.option_alike T.written T.seen T.written_alike x y e };
+
     ghost comes_back = { λ o h. laws.option_comes_back T.written T.seen T.of_node T.Returns T.comes_back o h };
 }
 
@@ -146,6 +181,9 @@ impl<A: RoundTrip, B: RoundTrip> RoundTrip for (A, B) {
     ghost Returns = { λ p. A.Returns p.0 × B.Returns p.1 };
 
     ghost reads_back = { λ p h. (A.reads_back p.0 h.0, (B.reads_back p.1 h.1, tt)) };
+
+    ghost written_alike = { λ p q e. seen_laws.pair_alike
+        A.written B.written A.seen B.seen A.written_alike B.written_alike p q e };
 
     ghost comes_back = { λ p h. laws.pair_comes_back A.of_node B.of_node (A.written p.0) (B.written p.1) (A.seen p.0) (B.seen p.1)
         (A.comes_back p.0 h.0) (B.comes_back p.1 h.1) };
@@ -155,6 +193,9 @@ impl<A: RoundTrip, B: RoundTrip, C: RoundTrip> RoundTrip for (A, B, C) {
     ghost Returns = { λ p. A.Returns p.0 × B.Returns p.1 × C.Returns p.2 };
 
     ghost reads_back = { λ p h. (A.reads_back p.0 h.0, (B.reads_back p.1 h.1, (C.reads_back p.2 h.2, tt))) };
+
+    ghost written_alike = { λ p q e. seen_laws.triple_alike
+        A.written B.written C.written A.seen B.seen C.seen A.written_alike B.written_alike C.written_alike p q e };
 
     ghost comes_back = { λ p h. laws.triple_comes_back
         A.of_node B.of_node C.of_node (A.written p.0) (B.written p.1) (C.written p.2)
@@ -166,6 +207,8 @@ impl<T: RoundTrip> RoundTrip for Vec<T> {
 
     ghost reads_back = { λ v h. laws.list_reads_back T.written T.Returns T.reads_back v.items h };
 
+    ghost written_alike = { λ v w e. seen_laws.list_alike T.written T.seen T.written_alike v.items w.items e };
+
     ghost comes_back = { λ v h. laws.list_comes_back T.written T.seen T.of_node T.Returns T.comes_back v.items h };
 }
 
@@ -174,6 +217,8 @@ impl<V: RoundTrip> RoundTrip for IndexMap<Text, V> {
     ghost Returns = { λ m. MapReturns V.Returns m.entries };
 
     ghost reads_back = { λ m h. laws.map_reads_back V.written V.Returns V.reads_back m.entries h };
+
+    ghost written_alike = { λ m n e. seen_laws.map_alike V.written V.seen V.written_alike m.entries n.entries e };
 
     ghost comes_back = { λ m h. laws.map_comes_back V.written V.seen V.of_node V.Returns V.comes_back m.entries h };
 }
@@ -184,6 +229,8 @@ impl RoundTrip for YamlNodeWrapper {
     ghost Returns = { λ w. DataReturns (view (wrapped w)) };
 
     ghost reads_back = { λ w h. node_laws.data_reads_back (view (wrapped w)) h };
+
+    ghost written_alike = { λ v w e. seen_laws.alike data_written (view (wrapped v)) (view (wrapped w)) e };
 
     ghost comes_back = { λ w h. node_laws.data_comes_back (view (wrapped w)) h };
 }

@@ -38,3 +38,6 @@ choice_comes_back (count n) h = ap (option_map count) (unsigned_comes_back 18446
 choice_comes_back (tuple x y) h =
     ap (option_map as_tuple) (pair_comes_back (plain_node (signed least most)) (any_node Ok) (spec.number x) (spec.text y) x y (signed_comes_back least most x refl refl h.0) refl)
 choice_comes_back (both x y) h = ap (option_map as_both) (sample_comes_back x y h)
+
+pub choice_alike : (c d : Kind) → c ≡ d → written_choice c ≡ written_choice d
+choice_alike c d e = ap written_choice e

@@ -11,7 +11,7 @@ use Rattle.yaml_read.specs.Laws.{plain_reads, any_reads}
 use Rattle.yaml_read.specs.CollectionLaws.{map_reads}
 use Rattle.yaml_read.specs.PartLaws.{mapped_reads, checked_reads, choice_reads, refused_reads}
 use Rattle.serde_yaml2.specs.ReturnLaws.{signed_reads_back, signed_comes_back}
-use Rattle.yaml_example.specs.Fields.{Parts, seen_sample, no_parts, with_x, with_y, least, most, takes, fills, sample_of, sample_node, sample_at, written_sample, SampleReturns}
+use Rattle.yaml_example.specs.Fields.{Parts, Seen, seen_sample, no_parts, with_x, with_y, least, most, takes, fills, sample_of, sample_node, sample_at, written_sample, SampleReturns}
 
 pub fields_read : (p : Parts) (key : List ℕ) → Reads (takes p key) (fills p key)
 fields_read p key =
@@ -38,3 +38,6 @@ sample_comes_back x y h =
     (λ (o : Option ℤ). option_and_then (λ f. value_of (sample_of f))
     (option_and_then (λ p. map_as takes p (pairs_of (member (codes "y") (spec.text y) no_members))) (option_map (with_x no_parts) o)))
     (signed_comes_back least most x refl refl h.0)
+
+pub sample_alike : (x : ℤ) (y : List ℕ) (v : ℤ) (w : List ℕ) → seen_sample x y ≡ seen_sample v w → written_sample x y ≡ written_sample v w
+sample_alike x y v w e = ap (λ (s : Seen). written_sample s.x s.y) e

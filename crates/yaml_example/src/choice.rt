@@ -126,5 +126,7 @@ impl RoundTrip for Choice {
 
     ghost reads_back = { λ c h. laws.choice_reads_back (kind_of c) h };
 
+    ghost written_alike = { λ c d e. laws.choice_alike (kind_of c) (kind_of d) e };
+
     ghost comes_back = { λ c h. laws.choice_comes_back (kind_of c) h };
 }

@@ -131,5 +131,7 @@ impl RoundTrip for Sample {
 
     ghost reads_back = { λ s h. laws.sample_reads_back s.x s.y h };
 
+    ghost written_alike = { λ s r e. laws.sample_alike s.x s.y r.x r.y e };
+
     ghost comes_back = { λ s h. laws.sample_comes_back s.x s.y h };
 }
