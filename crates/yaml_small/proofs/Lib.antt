@@ -19,3 +19,4 @@ pub mod Fronts
 pub mod Ends
 pub mod Outcomes
 pub mod Depth
+pub mod DepthFaults

@@ -1,7 +1,8 @@
 -- A parser's state, and the events that it emits from there.
-use Rattle.std.specs.Prelude.{◌≡◌, ℕ, ◌-◌, List, [], ◌∷◌, ◌++◌, take, length, slice_get, Option, Result, Ok, Err, Bool, false, ◌==◌}
+use Rattle.std.specs.Prelude.{◌≡◌, ℕ, ◌-◌, List, [], ◌∷◌, ◌++◌, take, length, slice_get, Option, Result, Ok, Err, Bool, true, false, ◌==◌}
 use Rattle.yaml_scan.specs.Bytes.{carriage_return}
 use Rattle.yaml_small.specs.declared.event.Event.{Event}
+use Rattle.yaml_small.specs.declared.event.Event.TheVariants.{SequenceStart, MappingStart}
 use Rattle.yaml_small.specs.declared.state.Mode.{Mode}
 use Rattle.yaml_small.specs.declared.state.Mode.TheVariants.{Begin, Ended}
 use Rattle.yaml_small.specs.declared.state.Frame.{Frame}
@@ -67,3 +68,14 @@ abbrev pub ends_return : List ℕ → Bool
 ends_return [] = false
 ends_return (c ∷ []) = c == carriage_return
 ends_return (c ∷ d ∷ cs) = ends_return (d ∷ cs)
+
+-- a list or map begins
+abbrev pub begins_collection : Event → Bool
+begins_collection SequenceStart = true
+begins_collection MappingStart = true
+begins_collection event = false
+
+-- Were no list or map open, the step from here would begin one.
+abbrev pub WouldBegin : State → Type 0
+WouldBegin s =
+    (t : Transition) × (step_at s.mode (top_of s.frames) 0 s.at ≡ Ok t) × (begins_collection t.event ≡ true)

@@ -3,16 +3,16 @@
 //! A document is carried where its text stands in the relation of `specs/Grammar.antt` to a tree; the events of
 //! a tree are those of `specs/Trees.antt`; what `Parser::next_token` gives is `next` of `specs/Stream.antt`.
 
-ghost use Rattle.std.specs.Prelude.{◌≡◌, ◌≤◌, ◌++◌, ◌⊎◌, ℕ, List, [], Option, Ok, ◌∷◌, false, length};
+ghost use Rattle.std.specs.Prelude.{◌≡◌, ◌≤◌, ◌++◌, ◌⊎◌, ℕ, List, [], Option, Ok, Err, ◌∷◌, false, length};
 ghost use Rattle.yaml_scan.specs.Bytes.{line_feed};
 ghost use Rattle.yaml_scan.specs.Lines.{lines_of};
 ghost use Rattle.yaml_small.specs.declared.event.Event.{Event};
 ghost use Rattle.yaml_small.specs.declared.event.Event.TheVariants.{StreamEnd};
 ghost use Rattle.yaml_small.specs.declared.state.Mode.TheVariants.{Ended};
 ghost use Rattle.yaml_small.specs.Trees.{Tree, stream_emitted, ends_again};
-ghost use Rattle.yaml_small.specs.Scalars.{Fault};
+ghost use Rattle.yaml_small.specs.Scalars.{Fault, TooDeep};
 ghost use Rattle.yaml_small.specs.Grammar.{Carried, without_mark};
-ghost use Rattle.yaml_small.specs.Stream.{State, start, next, Runs, Emits, Refuses, IsFinal, ends_return};
+ghost use Rattle.yaml_small.specs.Stream.{State, start, next, Runs, Emits, Refuses, IsFinal, WouldBegin, ends_return};
 
 /// The events of a carried document are emitted: those of its tree, and then the stream's end, as often as it is
 /// asked for.
@@ -84,4 +84,11 @@ pub fn not_carried_is_refused()
 /// At no time are more than 64 lists and maps open.
 pub fn depth_is_bounded()
     ensures { (text : List ℕ) (events : List Event) (s : State) → Runs (start text) events s → length s.frames ≤ 64 }
+{}
+
+/// A text is refused as too deep only where 64 lists and maps are open, and the next step would begin one more.
+pub fn too_deep_is_the_65th()
+    ensures { (text : List ℕ) (events : List Event) (s : State) → Runs (start text) events s
+        → next s ≡ Err TooDeep
+        → (length s.frames ≡ 64) × WouldBegin s }
 {}
