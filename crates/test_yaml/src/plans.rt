@@ -1,6 +1,6 @@
 //! Configurations read from text.
 
-use compose_config::Config;
+use compose_config::{Config, Dependency, Instantiation, InstantiationArg};
 use std::alloc::Global;
 use std::test::Fail;
 use warg_values::Text;
@@ -160,5 +160,45 @@ fn a_field_that_is_missing_is_named(rt: HostRuntime) -> Result<(), Fail> {
 fn the_empty_text_is_no_plan(rt: HostRuntime) -> Result<(), Fail> {
     let refusal = refusal_of(rt.alloc(), "")?;
     assert_eq!(rt; matches!(&refusal, DeError::UnexpectedEvent(_, _, _)), true);
+    Ok(())
+}
+
+/// A configuration like another one.
+fn copy_of(alloc: Global, config: &Config) -> Result<Config, Fail> {
+    Ok(config.try_clone(alloc)?)
+}
+
+#[test]
+fn a_configuration_is_copied(rt: HostRuntime) -> Result<(), Fail> {
+    let alloc = rt.alloc();
+    let config = config_of(alloc, PLAN)?;
+    let copy = copy_of(alloc, &config)?;
+    assert_eq!(rt; copy.search_paths == config.search_paths, true);
+    assert_eq!(rt; copy.dependencies.len(), 2);
+    assert_eq!(rt; copy.instantiations.len(), 2);
+    assert_eq!(rt; copy.dependency_name("root"), "frontend");
+    let root = text(alloc, "root")?;
+    let arguments = &copy.instantiations.get(&root).ok_or("root")?.arguments;
+    let clock = arguments.get(&text(alloc, "clock")?).ok_or("clock")?;
+    assert_eq!(rt; clock.instance.as_str(), "time");
+    assert_eq!(rt; clock.export == Some(text(alloc, "monotonic")?), true);
+    Ok(())
+}
+
+/// The parts of a configuration that are made by hand: a path, an instance and how many arguments.
+fn made(alloc: Global) -> Result<(Text, Text, usize), Fail> {
+    let dependency = Dependency::new(Text::copy_of(alloc, "a.wasm")?);
+    let argument = InstantiationArg::new(Text::copy_of(alloc, "b")?, None);
+    let instantiation = Instantiation::new(alloc);
+    Ok((dependency.path, argument.instance, instantiation.arguments.len()))
+}
+
+#[test]
+fn parts_are_made(rt: HostRuntime) -> Result<(), Fail> {
+    let alloc = rt.alloc();
+    let (path, instance, arguments) = made(alloc)?;
+    assert_eq!(rt; path.as_str(), "a.wasm");
+    assert_eq!(rt; instance.as_str(), "b");
+    assert_eq!(rt; arguments, 0);
     Ok(())
 }
