@@ -7,6 +7,7 @@ use warg_values::Text;
 use yaml_read::DeError;
 use yaml_small::Marker;
 
+/// A plan with each form of dependency and argument.
 const PLAN: &str = "\
 # Nests two components, and passes the second's instance to the first.
 search-paths:

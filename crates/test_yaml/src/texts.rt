@@ -5,18 +5,21 @@ use std::test::Fail;
 use yaml_small::{Event, Parser, Style};
 use yaml_text::{push_indentation, push_key, push_text};
 
+/// A text, written at a level.
 fn written(alloc: Global, level: usize, text: &str) -> Result<String, Fail> {
     let mut out = String::new(alloc);
     push_text(&mut out, level, text)?;
     Ok(out)
 }
 
+/// A key.
 fn key(alloc: Global, text: &str) -> Result<String, Fail> {
     let mut out = String::new(alloc);
     push_key(&mut out, text)?;
     Ok(out)
 }
 
+/// The indentation of a level.
 fn indentation(alloc: Global, level: usize) -> Result<String, Fail> {
     let mut out = String::new(alloc);
     push_indentation(&mut out, level)?;
@@ -36,6 +39,7 @@ fn scalar(alloc: Global, document: &str) -> Result<Event, Fail> {
     }
 }
 
+/// Whether an event is a scalar of this text and style.
 fn is_scalar(event: &Event, text: &str, style: Style) -> bool {
     match event {
         Event::Scalar(found, how) => found.as_str() == text && *how == style,

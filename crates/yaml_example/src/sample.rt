@@ -96,7 +96,9 @@ impl ReadYaml for Sample {
 /// The fields of a sample, lent.
 #[derive(Drop)]
 pub struct SampleFields<'a> {
+    /// The number.
     pub x: i64,
+    /// The text.
     pub y: &'a Text,
 }
 

@@ -12,7 +12,9 @@ use std::alloc::{AllocError, AllocFailed, Global};
 /// The text of a block scalar, and the lines behind the block.
 #[derive(Debug, Drop)]
 pub struct Block<'a> {
+    /// The text, in bytes.
     pub text: Vec<u8>,
+    /// The text of the lines behind it, where there are any.
     pub later: Option<&'a [u8]>,
 }
 

@@ -57,6 +57,7 @@ pub fn is_control_at(first: u8, behind: &[u8]) -> bool
     }
 }
 
+/// Whether a byte is a control character of ASCII other than the tab.
 fn is_control_byte(byte: u8) -> bool
     ensures { result ≡ spec.is_control_byte byte }
 {

@@ -10,7 +10,9 @@ use std::alloc::{AllocError, AllocFailed, Global};
 /// A quoted scalar that was found: its text, and the rest of the line behind its closing quote.
 #[derive(Debug, Drop)]
 pub struct Quoted<'a> {
+    /// The text, in bytes.
     pub text: Vec<u8>,
+    /// The rest of the line behind the closing quote.
     pub rest: &'a [u8],
 }
 

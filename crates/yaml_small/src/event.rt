@@ -34,9 +34,11 @@ pub enum Event {
     DocumentEnd,
     /// A list; its entries follow, and then its end.
     SequenceStart,
+    /// The end of a list.
     SequenceEnd,
     /// A map; its keys follow, each with its value behind it, and then its end.
     MappingStart,
+    /// The end of a map.
     MappingEnd,
     /// A scalar's text and style. A node that is missing is the plain scalar `~`.
     Scalar(Text, Style),
@@ -110,6 +112,7 @@ impl Marker {
         place
     }
 
+    /// The place behind a byte, which may be a line feed.
     fn after_byte(self, byte: u8) -> Marker {
         if byte == b'\n' {
             return Marker {

@@ -22,10 +22,15 @@ use yaml_scan::{ends, spaces, whites};
 /// lists and maps.
 #[derive(Debug, Drop)]
 pub struct Step<'a> {
+    /// The event.
     pub event: Event,
+    /// Where it stands.
     pub mark: Marker,
+    /// Where the next step begins.
     pub place: Place<'a>,
+    /// What that step looks for.
     pub mode: Mode,
+    /// What becomes of the open lists and maps.
     pub change: Change,
 }
 

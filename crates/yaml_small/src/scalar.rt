@@ -23,15 +23,20 @@ use yaml_scan::{
 /// The text of a scalar: a part of the line, or bytes of its own.
 #[derive(Debug, Drop)]
 pub enum Content<'a> {
+    /// A part of the line.
     Lent(&'a [u8]),
+    /// Bytes of its own.
     Owned(Vec<u8>),
 }
 
 /// A scalar, and the place behind it.
 #[derive(Debug, Drop)]
 pub struct ScalarToken<'a> {
+    /// The text.
     pub content: Content<'a>,
+    /// How it is written.
     pub style: Style,
+    /// The place behind it.
     pub end: Place<'a>,
 }
 

@@ -46,7 +46,10 @@ pub enum Frame {
 /// What an event changes of the open lists and maps.
 #[derive(Clone, Copy, Debug)]
 pub enum Change {
+    /// Nothing.
     Keep,
+    /// One more is open, the innermost.
     Push(Frame),
+    /// The innermost is closed.
     Pop,
 }

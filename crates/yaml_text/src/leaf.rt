@@ -90,6 +90,7 @@ fn push_block_chars(out: &mut String, level: usize, text: &str) -> Result<(), Me
     Ok(())
 }
 
+/// A character of a block.
 fn push_block_char(out: &mut String, level: usize, c: char) -> Result<(), Memory>
     ensures { Writes result (string_bytes out.old) (spec.block_char level c) (string_bytes out.new) }
 {
@@ -110,6 +111,7 @@ fn push_quoted(out: &mut String, double: bool, text: &str) -> Result<(), Memory>
     Ok(out.push(quote)?)
 }
 
+/// The characters of a text, between its quotes.
 fn push_quoted_chars(out: &mut String, double: bool, text: &str) -> Result<(), Memory>
     ensures { Writes result (string_bytes out.old) (flat_map (spec.quoted_char double) (chars text.now))
         (string_bytes out.new) }
@@ -120,6 +122,7 @@ fn push_quoted_chars(out: &mut String, double: bool, text: &str) -> Result<(), M
     Ok(())
 }
 
+/// A character between quotes.
 fn push_quoted_char(out: &mut String, double: bool, c: char) -> Result<(), Memory>
     ensures { Writes result (string_bytes out.old) (spec.quoted_char double c) (string_bytes out.new) }
 {
@@ -196,6 +199,7 @@ fn push_hex_pair(out: &mut String, byte: u32) -> Result<(), Memory>
     Ok(out.push(hex_digit(byte % 16))?)
 }
 
+/// A hex digit in upper case.
 fn hex_digit(digit: u32) -> char
     requires { digit < 16 }
     ensures { result ≡ spec.hex_digit digit }
