@@ -54,10 +54,13 @@ copied_none [] i less h = omega arith
 copied_none (x ∷ es) zero less h = none_some x h
 copied_none (x ∷ es) (suc i) less h = copied_none es i (omega arith) h
 
+no_less : {n : ℕ} → suc n ≤ 0 → ⊥
+no_less le = omega arith
+
 pub copied_all : {V S : Type 0} (seen : V → S) (es : List (List ℕ × V)) (i : ℕ) → length es ≤ i → take i (map (seen_entry seen) es) ≡ map (seen_entry seen) es
 copied_all seen [] zero le = refl
 copied_all seen [] (suc i) le = refl
-copied_all seen (x ∷ es) zero le = omega arith
+copied_all seen (x ∷ es) zero le = absurd (no_less le)
 copied_all {V} {S} seen (x ∷ es) (suc i) le = ap (λ (ys : List (List ℕ × S)). (x.0, seen x.1) ∷ ys) (copied_all seen es i (omega arith))
 
 pub ruleset copied_map = (copied_next, copied_none, copied_all)

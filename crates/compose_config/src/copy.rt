@@ -26,12 +26,9 @@ pub fn copied_map<V: Copied>(
     alloc: Global,
     source: &IndexMap<Text, V>,
 ) -> Result<IndexMap<Text, V>, Memory>
-    ensures {
-        IfOk result (λ copy. map (seen_entry V.seen) copy.entries ≡ map (seen_entry V.seen) source.now.entries)
-    }
+    ensures { IfOk result (λ copy. map (seen_entry V.seen) copy.entries ≡ map (seen_entry V.seen) source.now.entries) }
 {
     let mut copy = IndexMap::<Text, V>::new(alloc);
-    let _ = source.iter();
     for index in 0..source.len() {
         if let Some((key, value)) = source.get_index(index) {
             let key = Text::copy_of(alloc, key.as_str())?;

@@ -39,42 +39,41 @@ module _ {X S : Type 0} (written : X → Written) (seen : X → S) (law : (x y :
   pub list_alike : (xs ys : List X) → map seen xs ≡ map seen ys → list_of written xs ≡ list_of written ys
   list_alike xs ys e = ap (λ (ws : List Written). spec.list (elements_of ws)) (items_alike xs ys e)
 
+  nil_cons : (p : List ℕ × S) (ps : List (List ℕ × S)) → [] ≡ p ∷ ps → ⊥
+  nil_cons p ps e = cc
+
+  entry_is : (p q : List ℕ × S) (ps qs : List (List ℕ × S)) → p ∷ ps ≡ q ∷ qs → p ≡ q
+  entry_is p q ps qs e = cc
+
+  others_are : (p q : List ℕ × S) (ps qs : List (List ℕ × S)) → p ∷ ps ≡ q ∷ qs → ps ≡ qs
+  others_are p q ps qs e = cc
+
   entries_alike : (es fs : List (List ℕ × X)) → map (seen_entry seen) es ≡ map (seen_entry seen) fs → map (seen_entry written) es ≡ map (seen_entry written) fs
   entries_alike [] [] e = refl
-  entries_alike [] (f ∷ fs) e = absurd cc
-  entries_alike (x ∷ es) [] e = absurd cc
+  entries_alike [] (y ∷ fs) e = absurd (nil_cons (y.0, seen y.1) (map (seen_entry seen) fs) e)
+  entries_alike (x ∷ es) [] e = absurd (nil_cons (x.0, seen x.1) (map (seen_entry seen) es) (sym e))
   entries_alike (x ∷ es) (y ∷ fs) e =
+      let p : List ℕ × S = seen_entry seen x in
+      let q : List ℕ × S = seen_entry seen y in
+      let same : p ≡ q = entry_is p q (map (seen_entry seen) es) (map (seen_entry seen) fs) e in
       ap₂ (λ (w : List ℕ × Written) (ws : List (List ℕ × Written)). w ∷ ws)
-      (ap₂ (λ (key : List ℕ) (w : Written). (key, w)) (keys (x.0) (y.0) (seen x.1) (seen y.1) _ _ e) (law x.1 y.1 (values (x.0) (y.0) (seen x.1) (seen y.1) _ _ e)))
-      (entries_alike es fs (rests (x.0) (y.0) (seen x.1) (seen y.1) _ _ e))
-    where
-      keys : (k l : List ℕ) (s t : S) (ss ts : List (List ℕ × S)) → (k, s) ∷ ss ≡ (l, t) ∷ ts → k ≡ l
-      keys k l s t ss ts e = cc
-
-      values : (k l : List ℕ) (s t : S) (ss ts : List (List ℕ × S)) → (k, s) ∷ ss ≡ (l, t) ∷ ts → s ≡ t
-      values k l s t ss ts e = cc
-
-      rests : (k l : List ℕ) (s t : S) (ss ts : List (List ℕ × S)) → (k, s) ∷ ss ≡ (l, t) ∷ ts → ss ≡ ts
-      rests k l s t ss ts e = cc
+      (ap₂ (λ (key : List ℕ) (w : Written). (key, w)) (ap (λ (r : List ℕ × S). r.0) same) (law x.1 y.1 (ap (λ (r : List ℕ × S). r.1) same)))
+      (entries_alike es fs (others_are p q (map (seen_entry seen) es) (map (seen_entry seen) fs) e))
 
   pub map_alike : (es fs : List (List ℕ × X)) → map (seen_entry seen) es ≡ map (seen_entry seen) fs → map_of written es ≡ map_of written fs
   map_alike es fs e = ap (λ (ws : List (List ℕ × Written)). spec.map (members_of ws)) (entries_alike es fs e)
 
 -- tuples, by their parts
-first_part : {A B : Type 0} (p q : A × B) → p ≡ q → p.0 ≡ q.0
-first_part {A} {B} p q e = ap (λ (r : A × B). r.0) e
-
-second_part : {A B : Type 0} (p q : A × B) → p ≡ q → p.1 ≡ q.1
-second_part {A} {B} p q e = ap (λ (r : A × B). r.1) e
-
 pub pair_alike : {A B S T : Type 0} (first : A → Written) (second : B → Written) (seen : A → S) (saw : B → T) → ((x y : A) → seen x ≡ seen y → first x ≡ first y) → ((x y : B) → saw x ≡ saw y → second x ≡ second y)
-    → (p q : A × B) → (seen p.0, saw p.1) ≡ (seen q.0, saw q.1) → pair_of (first p.0) (second p.1) ≡ pair_of (first q.0) (second q.1)
-pair_alike first second seen saw law rule p q e =
-    ap₂ pair_of (law p.0 q.0 (first_part (seen p.0, saw p.1) (seen q.0, saw q.1) e)) (rule p.1 q.1 (second_part (seen p.0, saw p.1) (seen q.0, saw q.1) e))
+    → (p q : A × B) → ◌≡◌ {A = S × T} (seen p.0, saw p.1) (seen q.0, saw q.1) → pair_of (first p.0) (second p.1) ≡ pair_of (first q.0) (second q.1)
+pair_alike {A} {B} {S} {T} first second seen saw law rule p q e =
+    ap₂ pair_of (law p.0 q.0 (ap (λ (r : S × T). r.0) e)) (rule p.1 q.1 (ap (λ (r : S × T). r.1) e))
 
 pub triple_alike : {A B C S T U : Type 0} (first : A → Written) (second : B → Written) (third : C → Written) (seen : A → S) (saw : B → T) (sees : C → U) → ((x y : A) → seen x ≡ seen y → first x ≡ first y)
     → ((x y : B) → saw x ≡ saw y → second x ≡ second y) → ((x y : C) → sees x ≡ sees y → third x ≡ third y)
-    → (p q : A × B × C) → (seen p.0, saw p.1, sees p.2) ≡ (seen q.0, saw q.1, sees q.2) → triple_of (first p.0) (second p.1) (third p.2) ≡ triple_of (first q.0) (second q.1) (third q.2)
+    → (p q : A × B × C) → ◌≡◌ {A = S × T × U} (seen p.0, saw p.1, sees p.2) (seen q.0, saw q.1, sees q.2) → triple_of (first p.0) (second p.1) (third p.2) ≡ triple_of (first q.0) (second q.1) (third q.2)
 triple_alike {A} {B} {C} {S} {T} {U} first second third seen saw sees law rule norm p q e =
-    ap₂ (λ (w : Written) (v : Written × Written). triple_of w v.0 v.1) (law p.0 q.0 (ap (λ (r : S × T × U). r.0) e))
-    (ap₂ (λ (v w : Written). (v, w)) (rule p.1 q.1 (ap (λ (r : S × T × U). r.1) e)) (norm p.2 q.2 (ap (λ (r : S × T × U). r.2) e)))
+    by_parts (first p.0) (first q.0) (second p.1) (second q.1) (third p.2) (third q.2) (law p.0 q.0 (ap (λ (r : S × T × U). r.0) e)) (rule p.1 q.1 (ap (λ (r : S × T × U). r.1) e)) (norm p.2 q.2 (ap (λ (r : S × T × U). r.2) e))
+  where
+    by_parts : (u v w x y z : Written) → u ≡ v → w ≡ x → y ≡ z → triple_of u w y ≡ triple_of v x z
+    by_parts u v w x y z e f g = ap (λ (a : Written). triple_of a w y) e ∙ ap (λ (a : Written). triple_of v a y) f ∙ ap (triple_of v x) g

@@ -527,15 +527,7 @@ const REFUSED: [(&str, &str); 26] = [
 ];
 
 /// Texts about which a reader may doubt, the events of their nodes, and the error where one comes.
-const CORNERS: [(&str, &str); 99] = [
-    ("---\ta", "!NotCarried 1:3"),
-    ("--- \ta", "!NotCarried 1:4"),
-    ("---\t# c\na", ":a"),
-    ("---\t\na: 1", "{ :a :1 }"),
-    ("---\t# \u{1}", "!Form 1:6"),
-    ("a\n...\t\n", ":a"),
-    ("...\t", "!Form 1:0"),
-    ("a\n---\tb", ":a !NotCarried 2:0"),
+const CORNERS: [(&str, &str); 91] = [
     ("# \u{1}", "!Form 1:2"),
     ("a # b\u{1}", ":a !Form 1:5"),
     ("a\n# b\u{1}\n", ":a !Form 2:3"),

@@ -191,7 +191,11 @@ fn made(alloc: Global) -> Result<(Text, Text, usize), Fail> {
     let dependency = Dependency::new(Text::copy_of(alloc, "a.wasm")?);
     let argument = InstantiationArg::new(Text::copy_of(alloc, "b")?, None);
     let instantiation = Instantiation::new(alloc);
-    Ok((dependency.path, argument.instance, instantiation.arguments.len()))
+    Ok((
+        dependency.path,
+        argument.instance,
+        instantiation.arguments.len(),
+    ))
 }
 
 #[test]

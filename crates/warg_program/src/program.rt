@@ -112,7 +112,7 @@ pub fn outcome<'a, F: Files, O: Out>(
 /// | 4 | `fault` | the files failed, or the output did at the line of status 0 |
 /// | 6 | `refused BadComponent` | ROOT is no component of the first form, or has no shape |
 /// | 6 | `refused TooLarge` | a length, a count or an index of OUT would be above 2^32 - 1 |
-/// | 7 | `memory` | no memory was left |
+/// | 7 | `memory` | no memory was left, or ROOT has more than 200 scopes open at one place |
 ///
 /// With the statuses 2, 3 and 6 no file changes. With 4 and 7 OUT is as it was, holds a front of the new bytes, or is
 /// written whole where its line was not printed. A line that tells of a stop and that the output does not take changes no

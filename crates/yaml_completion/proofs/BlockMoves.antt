@@ -11,7 +11,7 @@ use Rattle.yaml_small.specs.declared.state.Frame.{Frame}
 use Rattle.yaml_small.specs.declared.state.Frame.TheVariants.{InList, InMap, InSeq, InPairs}
 use Rattle.yaml_small.specs.Places.{At, past, over, next_at, begins, is_end, is_within, is_dash, at_dash, list_ends, map_ends}
 use Rattle.yaml_small.specs.Scalars.{Fault, NotCarried, is_scalar_token, is_key, begins_block}
-use Rattle.yaml_small.specs.Step.{Transition, list_start, map_start, inline_at, node_at, below, tabbed, item_at, under, value_at, behind_tab, explicit_at, key_step, line_fault, block_end, list_done, map_done}
+use Rattle.yaml_small.specs.Step.{Transition, list_start, map_start, inline_at, node_at, below, tabbed, item_at, under, value_at, explicit_at, key_step, line_fault, block_end, list_done, map_done}
 use Rattle.yaml_small.specs.Stream.{changed}
 use Rattle.yaml_small.proofs.Grows.{the_end}
 use Rattle.yaml_small.proofs.Runs.{popped}
@@ -146,7 +146,7 @@ moves_alike_inline k depth parent a flow nest good =
 
 -- behind a mark, with a node on its line or below
 behind_line : (a c : At) → c.line ≡ a.line → c.col ≡ a.col → Gap a c
-behind_line a c line col = record { col = col; gap = λ gap. ap is_gap line ∙ gap; mark = λ gap. ap is_break line ∙ gap }
+behind_line a c line col = record { col = col; gap = λ gap. ap is_gap line ∙ gap }
 
 pub moves_item : (k : List Frame) (depth col : ℕ) (a : At) → in_flow false k ≡ false → nested false k ≡ true → Moves k (Gap a) (item_at depth col) a
 unfolding item_at tabbed
@@ -184,13 +184,8 @@ moves_explicit k depth a flow nest =
     moves_if k (Gap a) (λ c. ends c.line) _ _ a
     (λ is. moves_next k (Next (next_at a.later)) (λ c. Gap a c × (ends c.line ≡ true)) (below depth None) a (moves_below k depth None (next_at a.later) flow nest) (ready (next_at a.later))
     (λ c line col. (behind_line a c line col, ap ends line ∙ is)))
-    (λ more.
-    moves_if k (λ c. Gap a c × (ends c.line ≡ false)) (λ c. eqb (spaces c.line) (whites c.line)) _ _ a
-    (λ is. moves_over k (Alike (over a)) (λ c. (Gap a c × (ends c.line ≡ false)) × (eqb (spaces c.line) (whites c.line) ≡ true)) (inline_at false depth None) a (moves_inline k depth None (over a) flow nest) (λ c alike. alike.instead)
-    (λ s c alike.
-    let solid = alike.instead.other in
-    ((gap_over a s c more, not_ended s.front c.line s.all solid), same_white a s c.line (solid_white c.line solid) ∙ is)))
-    (λ is. moves_err k _ behind_tab a))
+    (λ more. moves_over k (Alike (over a)) (λ c. Gap a c × (ends c.line ≡ false)) (inline_at false depth None) a (moves_inline k depth None (over a) flow nest) (λ c alike. alike.instead)
+    (λ s c alike. (gap_over a s c more, not_ended s.front c.line s.all alike.instead.other)))
 
 pub moves_key_step : (k : List Frame) (a : At) → in_flow false k ≡ false → nested false k ≡ true → Moves k (Alike a) key_step a
 unfolding key_step

@@ -219,13 +219,13 @@ low_there false e = absurd cc
 pub ending : (m : Mode) (k : List Frame) (a : At) → is_tied m (in_flow false k) (begins_low a.line) ≡ false → Consistent m k a → EndingAt m k a
 ending Begin k a e consistent = blank_end Begin k a the_end refl (record { either = inl refl }) refl refl (at_begin k)
 ending Document k a e consistent = blank_end Document k a the_end refl (record { either = inl refl }) refl refl (at_document k)
-ending (Root true) k a e consistent = blank_end (Root true) k a (place a.col [] []) refl (record { col = refl; gap = λ gap. refl; mark = λ gap. refl }) refl refl (at_explicit k a.col consistent.mode_matches consistent.nest)
+ending (Root true) k a e consistent = blank_end (Root true) k a (place a.col [] []) refl (record { col = refl; gap = λ gap. refl }) refl refl (at_explicit k a.col consistent.mode_matches consistent.nest)
 ending (Root false) k a e consistent =
     blank_end (Root false) k a (place a.col (39 ∷ 39 ∷ []) []) refl
     (record { instead = record { col = refl; some = consistent.mode_matches.1; other = refl }; dashes = λ none. and_false (a.col == 0); percent = λ none. refl }) refl refl (at_node k a.col consistent.mode_matches.0 consistent.nest)
-ending (Item col) k a e consistent = blank_end (Item col) k a (place a.col [] []) refl (record { col = refl; gap = λ gap. refl; mark = λ gap. refl }) refl refl (at_item k col a.col consistent.mode_matches consistent.nest)
+ending (Item col) k a e consistent = blank_end (Item col) k a (place a.col [] []) refl (record { col = refl; gap = λ gap. refl }) refl refl (at_item k col a.col consistent.mode_matches consistent.nest)
 ending Key k a e consistent = blank_end Key k a (place a.col (39 ∷ 39 ∷ 58 ∷ []) []) refl (record { col = refl; key = key_there a.col }) refl refl (at_key k a.col consistent.mode_matches consistent.nest)
-ending (Value col) k a e consistent = blank_end (Value col) k a (place a.col [] []) refl (record { col = refl; gap = λ gap. refl; mark = λ gap. refl }) refl refl (at_value k col a.col consistent.mode_matches consistent.nest)
+ending (Value col) k a e consistent = blank_end (Value col) k a (place a.col [] []) refl (record { col = refl; gap = λ gap. refl }) refl refl (at_value k col a.col consistent.mode_matches consistent.nest)
 ending Open k a e consistent =
     elim ((innermost k).either) [
       | inl none ↦ absurd (off (sym (ap (in_flow false) none) ∙ consistent.mode_matches))

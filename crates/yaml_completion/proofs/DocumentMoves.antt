@@ -2,7 +2,8 @@
 use Rattle.std.proofs.Common.{◌≡◌, ℕ, List, [], ◌∷◌, drop, Bool, true, false, ◌||◌, cond, eqb, Ok, nat_eq, refl, sym, ap, ◌∙◌, inl, inr}
 use Rattle.std.specs.List.{starts_with}
 use Rattle.std.proofs.lemmas.Bool.{eqb-true}
-use Rattle.yaml_scan.specs.Lines.{ends, is_break, is_comment_line, is_dashes, is_dots}
+use Rattle.yaml_scan.specs.Bytes.{is_gap}
+use Rattle.yaml_scan.specs.Lines.{ends, is_comment_line, is_dashes, is_dots}
 use Rattle.yaml_small.specs.declared.event.Event.TheVariants.{StreamEnd, DocumentStart, DocumentEnd}
 use Rattle.yaml_small.specs.declared.state.Mode.TheVariants.{Root, Last, Ended}
 use Rattle.yaml_small.specs.declared.state.Frame.{Frame}
@@ -26,10 +27,10 @@ dots_solid [] e = absurd cc
 dots_solid (c ∷ cs) e = ap (λ (x : ℕ). is_solid (x ∷ cs)) (sym (eqb-true 46 c (and_parts (eqb 46 c) _ (and_parts (starts_with nat_eq (c ∷ cs) (46 ∷ 46 ∷ 46 ∷ [])) _ e).0).0))
 
 dashes_line : (line : List ℕ) → is_dashes line ≡ true → line ≡ 45 ∷ 45 ∷ 45 ∷ drop 3 line
-dashes_line line e = three 45 45 45 line (and_parts (starts_with nat_eq line (45 ∷ 45 ∷ 45 ∷ [])) (is_break (drop 3 line)) e).0
+dashes_line line e = three 45 45 45 line (and_parts (starts_with nat_eq line (45 ∷ 45 ∷ 45 ∷ [])) (is_gap (drop 3 line)) e).0
 
-dashes_break : (line : List ℕ) → is_dashes line ≡ true → is_break (drop 3 line) ≡ true
-dashes_break line e = (and_parts (starts_with nat_eq line (45 ∷ 45 ∷ 45 ∷ [])) (is_break (drop 3 line)) e).1
+dashes_gap : (line : List ℕ) → is_dashes line ≡ true → is_gap (drop 3 line) ≡ true
+dashes_gap line e = (and_parts (starts_with nat_eq line (45 ∷ 45 ∷ 45 ∷ [])) (is_gap (drop 3 line)) e).1
 
 at_end : (a : At) → Moves [] (λ c. c ≡ the_end) (λ c. Ok (transition DocumentEnd c Last (missing_transition c).change)) a
 at_end a = moves_ok [] (λ c. c ≡ the_end) (λ c. transition DocumentEnd c Last (missing_transition c).change) a
@@ -67,7 +68,7 @@ moves_document k a flow nest =
     let p = and_parts (eqb a.col 0) (is_dashes a.line) dashes in
     moves_ok k (λ c. (Ready a c × (is_end c ≡ false)) × (at_dashes c ≡ true)) (λ c. transition DocumentStart (past 3 c) (Root true) (missing_transition c).change) a
     (λ d fits.
-    let gap = fits.mark (dashes_break a.line p.1) in
+    let gap = fits.gap (dashes_gap a.line p.1) in
     let c = place a.col (45 ∷ 45 ∷ 45 ∷ d.line) d.later in
     record {
       at = c;

@@ -3,7 +3,6 @@ use Rattle.std.proofs.Common.{◌≡◌, ℕ, List, Bool, true, false, not, ◌&
 use Rattle.std.proofs.lemmas.Bool.{cases_Bool}
 use Rattle.warg_values.specs.Reading.{◌>>=◌}
 use Rattle.yaml_scan.specs.Bytes.{is_gap}
-use Rattle.yaml_scan.specs.Lines.{is_break}
 use Rattle.yaml_scan.specs.Plain.{parts}
 use Rattle.yaml_small.specs.declared.state.Mode.{Mode}
 use Rattle.yaml_small.specs.declared.state.Mode.TheVariants.{Begin, Document, Root, Item, Key, Value, Open, AfterKey, Done, Trailing, Last, Ended}
@@ -27,7 +26,6 @@ use Rattle.yaml_completion.proofs.Frames.{in_flow, in_pairs, nested}
 pub record Gap (a d : At) : Type 0 where
   pub col : d.col ≡ a.col
   pub gap : is_gap a.line ≡ true → is_gap d.line ≡ true
-  pub mark : is_break a.line ≡ true → is_break d.line ≡ true
 
 -- where a key stands, and where a document begins without dashes
 pub record Keyed (a d : At) : Type 0 where

@@ -5,7 +5,7 @@ use Rattle.std.specs.Char.{digit_value, is_digit}
 use lib.Utf8.{scalar}
 use Rattle.std.proofs.lemmas.Bool.{eqb-true}
 use Rattle.yaml_scan.specs.Bytes.{is_space, is_white, is_gap, is_control, is_flow_mark}
-use Rattle.yaml_scan.specs.Lines.{is_break, is_dashes, is_dots}
+use Rattle.yaml_scan.specs.Lines.{is_dashes, is_dots}
 use Rattle.yaml_scan.specs.Plain.{is_indicator, parts, ends_plain, with_byte, plain_len, begins_plain}
 use Rattle.yaml_scan.specs.Quoted.{Found, Open, Bad, with_text, single_at, Turn, text_turn, escape_turn, hex_turn, digit_turn, digits_wanted, escaped, turn_at, continued, closes, double_at, double_quoted_at}
 use Rattle.yaml_small.specs.Places.{begins}
@@ -141,7 +141,7 @@ near_far flow (c ∷ u) r t n = near_of flow (c ∷ (u ++ r)) (c ∷ (u ++ t)) (
 
 -- a byte that ends a plain scalar, and is no part of a document's mark
 no_mark : (mark c : ℕ) (r t : List ℕ) → eqb mark c ≡ false → (u : List ℕ)
-    → starts_with nat_eq (u ++ (c ∷ t)) (mark ∷ mark ∷ mark ∷ []) && is_break (drop 3 (u ++ (c ∷ t))) ≡ starts_with nat_eq (u ++ (c ∷ r)) (mark ∷ mark ∷ mark ∷ []) && is_break (drop 3 (u ++ (c ∷ r)))
+    → starts_with nat_eq (u ++ (c ∷ t)) (mark ∷ mark ∷ mark ∷ []) && is_gap (drop 3 (u ++ (c ∷ t))) ≡ starts_with nat_eq (u ++ (c ∷ r)) (mark ∷ mark ∷ mark ∷ []) && is_gap (drop 3 (u ++ (c ∷ r)))
 no_mark mark c r t e [] = rw e refl
 no_mark mark c r t e (x ∷ []) = rw e (none (eqb mark x) _ _)
   where
@@ -150,7 +150,7 @@ no_mark mark c r t e (x ∷ []) = rw e (none (eqb mark x) _ _)
     none false p q = refl
 no_mark mark c r t e (x ∷ y ∷ []) = rw e (none (eqb mark x) (eqb mark y))
   where
-    none : (a b : Bool) → (a && (b && false)) && is_break t ≡ (a && (b && false)) && is_break r
+    none : (a b : Bool) → (a && (b && false)) && is_gap t ≡ (a && (b && false)) && is_gap r
     none true true = refl
     none true false = refl
     none false b = refl

@@ -1,14 +1,14 @@
 -- Steps that first go to the next content, over white space or to the next token.
-use Rattle.std.proofs.Common.{◌≡◌, ℕ, ◌+◌, List, [], ◌∷◌, ◌++◌, drop, Bool, true, false, not, cond, ◌&&◌, eqb, Result, refl, sym, ap, ◌∙◌, subst}
+use Rattle.std.proofs.Common.{◌≡◌, ℕ, ◌+◌, List, [], ◌∷◌, ◌++◌, drop, Bool, true, false, cond, ◌&&◌, eqb, Result, refl, sym, ap, ◌∙◌, subst}
 use Rattle.yaml_scan.specs.Bytes.{is_space, is_white, is_gap, spaces, whites}
-use Rattle.yaml_scan.specs.Lines.{ends, is_break}
+use Rattle.yaml_scan.specs.Lines.{ends}
 use Rattle.yaml_small.specs.declared.state.Frame.{Frame}
 use Rattle.yaml_small.specs.Places.{At, over, next_at, flow_next, begins, is_end, at_dots, is_dash}
 use Rattle.yaml_small.specs.Scalars.{Fault}
 use Rattle.yaml_small.specs.Step.{Transition}
 use Rattle.std.proofs.lemmas.Bool.{eqb-true}
 use Rattle.yaml_scan.specs.Lines.{is_dashes}
-use Rattle.yaml_small.proofs.Marks.{and_parts, both}
+use Rattle.yaml_small.proofs.Marks.{and_parts}
 use Rattle.yaml_completion.proofs.Along.{ahead, further, all_of, stops, counted, is_solid, solid_white, white_space, gone_over}
 use Rattle.yaml_completion.proofs.Contents.{Instead, Ready, place, next_below, Spaced, spaced_at}
 use Rattle.yaml_completion.proofs.ScalarTokens.{ScalarTokenPlace, head_line}
@@ -76,16 +76,10 @@ white_gap [] (c ∷ cs) t all stop more gap =
     off e = absurd cc
 white_gap (c ∷ v) r t all stop more gap = gap
 
-white_break : (v r t : List ℕ) → all_of is_white v ≡ true → stops is_white r ≡ true → ends (v ++ r) ≡ false → is_break (v ++ r) ≡ true → is_break (v ++ t) ≡ true
-white_break [] [] t all stop more gap = absurd cc
-white_break [] (c ∷ cs) t all stop more gap = absurd (both (not (is_white c)) stop (ap not gap))
-white_break (c ∷ v) r t all stop more gap = gap
-
 pub gap_over : (a : At) (s : Spaced a) (c : At) → ends a.line ≡ false → Gap a (place a.col (s.front ++ c.line) c.later)
 gap_over a s c more = record {
   col = refl;
   gap = λ gap. white_gap s.front (over a).line c.line s.all s.stop (sym (ap ends s.line) ∙ more) (sym (ap is_gap s.line) ∙ gap);
-  mark = λ gap. white_break s.front (over a).line c.line s.all s.stop (sym (ap ends s.line) ∙ more) (sym (ap is_break s.line) ∙ gap);
 }
 
 white_spaces : (v r t : List ℕ) → all_of is_white v ≡ true → stops is_white r ≡ true → stops is_white t ≡ true → spaces (v ++ t) ≡ spaces (v ++ r)

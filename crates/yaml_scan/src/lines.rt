@@ -3,7 +3,7 @@
 ghost use Rattle.std.specs.Prelude.{◌≡◌, ◌∷◌, ◌≤◌, ◌<◌, length, option_copied, IfSome};
 ghost use Rattle.yaml_scan.specs.Lines as spec;
 
-use crate::bytes::{is_clean, is_white, whites};
+use crate::bytes::{is_clean, is_gap, is_white, whites};
 use memchr::memchr;
 
 /// The first line of a text, and what stands behind its end, which is a line feed or a carriage return and a
@@ -90,26 +90,16 @@ pub fn text_follows(later: Option<&[u8]>) -> bool
     false
 }
 
-/// Whether what stands before this can be a document's mark: white space follows, or the line ends.
-fn is_break(line: &[u8]) -> bool
-    ensures { result ≡ spec.is_break line.now }
-{
-    match line {
-        [] => true,
-        [first, ..] => is_white(*first),
-    }
-}
-
-/// Whether a line begins with `---` as a mark: before white space or the line's end.
+/// Whether a line begins with `---` as a mark: before a space or the line's end.
 pub fn is_dashes(line: &[u8]) -> bool
     ensures { result ≡ spec.is_dashes line.now }
 {
-    line.starts_with(b"---") && is_break(&line[3..])
+    line.starts_with(b"---") && is_gap(&line[3..])
 }
 
-/// Whether a line begins with `...` as a mark: before white space or the line's end.
+/// Whether a line begins with `...` as a mark: before a space or the line's end.
 pub fn is_dots(line: &[u8]) -> bool
     ensures { result ≡ spec.is_dots line.now }
 {
-    line.starts_with(b"...") && is_break(&line[3..])
+    line.starts_with(b"...") && is_gap(&line[3..])
 }

@@ -15,9 +15,10 @@ use Rattle.yaml_small.specs.declared.state.Mode.TheVariants.{Begin, Document, Ro
 use Rattle.yaml_small.specs.declared.state.Mode.TheVariants as modes
 use Rattle.yaml_small.specs.declared.state.Frame.{Frame}
 use Rattle.yaml_small.specs.declared.state.Frame.TheVariants.{InList, InMap, InSeq, InPairs}
+use Rattle.yaml_small.specs.declared.state.Change.TheVariants.{Push}
 use Rattle.yaml_small.specs.Places.{At, past, over, next_at, flow_next, is_end, begins, at_dashes, at_dots, is_within, is_dash, at_dash, is_colon}
 use Rattle.yaml_small.specs.Scalars.{Fault, Form, NotCarried, TooDeep, Cut, ScalarToken, begins_at, is_not_carried, is_tabbed, start_fault, plain_at, open_fault, quoted_at, scalar_token_at, colon_behind, key_at, is_key, begins_block, is_indicator, gathered, headed, block_at}
-use Rattle.yaml_small.specs.Step.{Transition, opened, list_start, map_start, settled, scalar_token_transition, block_transition, missing_transition, inline_at, node_at, below, tabbed, item_at, under, value_at, behind_tab, explicit_at, key_transition, key_step, closed, seq_entry, flow_key, pairs_entry, open_at, flow_fault, flow_value, after_key_at, seq_fault, seq_done, pairs_done, line_fault, block_end, list_done, map_done, dots_end, root_done, done_at, document_at, last_at, step_at}
+use Rattle.yaml_small.specs.Step.{Transition, transition, opened, list_start, map_start, settled, scalar_token_transition, block_transition, missing_transition, inline_at, node_at, below, tabbed, item_at, under, value_at, explicit_at, key_transition, key_step, closed, seq_entry, flow_key, pairs_entry, open_at, flow_fault, flow_value, after_key_at, seq_fault, seq_done, pairs_done, line_fault, block_end, list_done, map_done, dots_end, root_done, done_at, document_at, last_at, step_at}
 use Rattle.yaml_small.specs.Stream.{State, top_of, start, Runs, next, moved, begins_collection, WouldBegin}
 use Rattle.yaml_small.proofs.Depth.{always_within}
 
@@ -94,7 +95,8 @@ headed_shallow folded strip parent l ls =
 
 block_shallow : (parent : Option ℕ) (a : At) → shallow (block_at parent a) ≡ true
 unfolding block_at
-block_shallow parent a = shallow_either (begins 45 (drop 1 a.line)) _ _ (headed_shallow _ _ _ _ _) (headed_shallow _ _ _ _ _)
+block_shallow parent a = shallow_either (begins 45 (drop 1 a.line)) _ _ (headed_shallow (begins 62 a.line) true parent (drop 1 (drop 1 a.line)) a.later)
+    (headed_shallow (begins 62 a.line) false parent (drop 1 a.line) a.later)
 
 -- what begins a list or map
 record Begun (o : Result Transition Fault) : Type 0 where
@@ -102,9 +104,23 @@ record Begun (o : Result Transition Fault) : Type 0 where
   is : o ≡ Ok step
   begins : begins_collection step.event ≡ true
 
+abbrev depth_of : Result Transition Fault → Bool
+depth_of (Ok g) = false
+depth_of (Err f) = is_deep f
+
+depth_same : (x y : Result Transition Fault) → x ≡ y → depth_of x ≡ depth_of y
+depth_same x y e = ap depth_of e
+
+false_true : false ≡ true → ⊥
+false_true e = cc
+
+not_so : (b : Bool) → not b ≡ true → b ≡ false
+not_so true e = absurd cc
+not_so false e = refl
+
 -- a step with this many open, beside the same step where none is
 record Deep (k : List Frame) (r o : Result Transition Fault) : Type 0 where
-  open : r ≡ Err TooDeep → 64 ≤ length k
+  full : r ≡ Err TooDeep → 64 ≤ length k
   begun : r ≡ Err TooDeep → Begun o
 
 module _ (k : List Frame) where
@@ -113,36 +129,27 @@ module _ (k : List Frame) where
   either false x y u v p q = q
 
   event : (g : Transition) (o : Result Transition Fault) → Deep k (Ok g) o
-  event g o = record { open = λ e. absurd cc; begun = λ e. absurd cc }
+  event g o = record { full = λ e. absurd cc; begun = λ e. absurd cc }
 
   fault : (f : Fault) (o : Result Transition Fault) → is_deep f ≡ false → Deep k (Err f) o
-  fault f o shallow = record { open = λ e. absurd (other e); begun = λ e. absurd (other e) }
-    where
-      fault_of : Result Transition Fault → Bool
-      fault_of (Ok g) = false
-      fault_of (Err x) = is_deep x
+  fault f o safe = record { full = λ e. absurd (false_true (sym safe ∙ depth_same (Err f) (Err TooDeep) e)); begun = λ e. absurd (false_true (sym safe ∙ depth_same (Err f) (Err TooDeep) e)) }
 
-      false_true : false ≡ true → ⊥
-      false_true e = cc
-
-      other : Err f ≡ Err TooDeep → ⊥
-      other e = false_true (sym shallow ∙ ap fault_of e)
+  -- the same beside any step
+  split : (b : Bool) (x y o : Result Transition Fault) → Deep k x o → Deep k y o → Deep k (cond b x y) o
+  split true x y o p q = p
+  split false x y o p q = q
 
   read : (r : Result ScalarToken Fault) (f : ScalarToken → Transition) (o : Result Transition Fault) → shallow r ≡ true → Deep k (r >>= λ w. Ok (f w)) o
   read (Ok w) f o p = event (f w) o
   read (Err x) f o p = fault x o (not_so (is_deep x) p)
-    where
-      not_so : (b : Bool) → not b ≡ true → b ≡ false
-      not_so true e = absurd cc
-      not_so false e = refl
+
+  limited : (b : Bool) (g : Transition) → ltb (length k) 64 ≡ b → begins_collection g.event ≡ true → Deep k (cond b (Ok g) (Err TooDeep)) (Ok g)
+  limited true g is starts = event g (Ok g)
+  limited false g is starts = record { full = λ _. omega (arith, ltb-false (length k) 64 is); begun = λ _. record { step = g; is = refl; begins = starts } }
 
   opens : (e : Event) (a : At) (m : Mode) (f : Frame) → begins_collection e ≡ true → Deep k (opened (length k) e a m f) (opened 0 e a m f)
   unfolding opened
-  opens e a m f starts = from (ltb (length k) 64) refl
-    where
-      from : (b : Bool) → ltb (length k) 64 ≡ b → Deep k (cond b (Ok _) (Err TooDeep)) (Ok _)
-      from true is = event _ _
-      from false is = record { open = λ _. omega (arith, ltb-false (length k) 64 is); begun = λ _. record { step = _; is = refl; begins = starts } }
+  opens e a m f starts = limited (ltb (length k) 64) (transition e a m (Push f)) refl starts
 
   inline : (fl : Bool) (parent : Option ℕ) (a : At) → Deep k (inline_at fl (length k) parent a) (inline_at fl 0 parent a)
   unfolding inline_at
@@ -177,8 +184,7 @@ module _ (k : List Frame) where
 
   explicit : (a : At) → Deep k (explicit_at (length k) a) (explicit_at 0 a)
   unfolding explicit_at
-  explicit a =
-      either (ends a.line) _ _ _ _ (lower _ _) (either (eqb (spaces a.line) (whites a.line)) _ _ _ _ (inline _ _ _) (fault (behind_tab a) _ (fault_either (is_comment_line a.line) _ _ refl refl)))
+  explicit a = either (ends a.line) _ _ _ _ (lower _ _) (inline _ _ _)
 
   key : (a : At) (o : Result Transition Fault) → Deep k (key_step a) o
   unfolding key_step
@@ -190,11 +196,7 @@ module _ (k : List Frame) where
 
   pairs : (fl : Bool) (a : At) (o : Result Transition Fault) → Deep k (pairs_entry fl a) o
   unfolding pairs_entry
-  pairs fl a o = one (begins 125 a.line)
-    where
-      one : (b : Bool) → Deep k (cond b (Ok _) (scalar_token_at true a >>= λ w. Ok (flow_key w))) o
-      one true = event _ o
-      one false = read (scalar_token_at true a) flow_key o (token_shallow true a)
+  pairs fl a o = split (begins 125 a.line) _ _ o (event _ o) (read (scalar_token_at true a) flow_key o (token_shallow true a))
 
   opening : (f : Option Frame) (a : At) → Deep k (open_at (length k) f a) (open_at 0 f a)
   unfolding open_at
@@ -210,13 +212,9 @@ module _ (k : List Frame) where
 
   root : (g : Bool) (a : At) (o : Result Transition Fault) → Deep k (root_done g a) o
   unfolding root_done dots_end
-  root g a o = ended (is_end a) (at_dots a) (ends (drop 3 a.line)) (fault_either (at_dashes a) _ _ refl (line_shallow g a))
-    where
-      ended : (b c d : Bool) → is_deep (cond (at_dashes a) NotCarried (line_fault g a)) ≡ false → Deep k (cond b (Ok _) (cond c (cond d (Ok _) (Err Form)) (Err (cond (at_dashes a) NotCarried (line_fault g a))))) o
-      ended true c d s = event _ o
-      ended false true true s = event _ o
-      ended false true false s = fault Form o refl
-      ended false false d s = fault _ o s
+  root g a o =
+      split (is_end a) _ _ o (event _ o) (split (at_dots a) _ _ o (split (ends (drop 3 a.line)) _ _ o (event _ o) (fault Form o refl))
+      (fault _ o (fault_either (at_dashes a) _ _ refl (line_shallow g a))))
 
   done : (g : Bool) (f : Option Frame) (a : At) → Deep k (done_at (length k) g f a) (done_at 0 g f a)
   unfolding done_at list_done map_done seq_done pairs_done
@@ -228,21 +226,12 @@ module _ (k : List Frame) where
 
   document : (a : At) (o : Result Transition Fault) → Deep k (document_at a) o
   unfolding document_at
-  document a o = begun (is_end a) (at_dashes a) (begins 37 a.line)
-    where
-      begun : (b c d : Bool) → Deep k (cond b (Ok _) (cond c (Ok _) (cond d (Err NotCarried) (Ok _)))) o
-      begun true c d = event _ o
-      begun false true d = event _ o
-      begun false false true = fault NotCarried o refl
-      begun false false false = event _ o
+  document a o =
+      split (is_end a) _ _ o (event _ o) (split (at_dashes a) _ _ o (event _ o) (split (begins 37 a.line) _ _ o (fault NotCarried o refl) (event _ o)))
 
   last : (a : At) (o : Result Transition Fault) → Deep k (last_at a) o
   unfolding last_at
-  last a o = ended (is_end a)
-    where
-      ended : (b : Bool) → Deep k (cond b (Ok _) (Err (cond (at_dots a || is_comment_line a.line) Form NotCarried))) o
-      ended true = event _ o
-      ended false = fault _ o (fault_either (at_dots a || is_comment_line a.line) _ _ refl refl)
+  last a o = split (is_end a) _ _ o (event _ o) (fault _ o (fault_either (at_dots a || is_comment_line a.line) _ _ refl refl))
 
   deep : (m : Mode) (f : Option Frame) (a : At) → Deep k (step_at m f (length k) a) (step_at m f 0 a)
   unfolding step_at
@@ -278,6 +267,6 @@ deep_only_here text events s runs e =
     let le : length s.frames ≤ 64 = always_within text events s runs in
     let d = deep s.frames s.mode (top_of s.frames) s.at in
     let h = step_deep s e in
-    let ge : 64 ≤ length s.frames = d.open h in
+    let ge : 64 ≤ length s.frames = d.full h in
     let b = d.begun h in
     (omega (arith, le, ge), (b.step, b.is, b.begins))

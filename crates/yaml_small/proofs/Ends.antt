@@ -18,7 +18,7 @@ use Rattle.yaml_small.specs.Trees.{scalar_event}
 use Rattle.yaml_small.specs.Places.{At, past, over, next_at, flow_next, is_end, begins, at_dashes, at_dots, is_within, is_dash, is_colon, at_dash, list_ends, map_ends}
 use Rattle.yaml_small.specs.Scalars.{Fault, Form, NotCarried, TooDeep, ScalarToken, begins_at, start_fault, plain_at, quoted_at, scalar_token_at, colon_behind, key_at, is_key, gathered, is_indicator, headed, block_at, begins_block, continues_below}
 use Rattle.yaml_small.specs.Grammar.{closes_value, is_flow_colon}
-use Rattle.yaml_small.specs.Step.{Transition, transition, opened, list_start, map_start, settled, scalar_token_transition, block_transition, missing_transition, inline_at, node_at, below, tabbed, item_at, under, value_at, behind_tab, explicit_at, key_transition, key_step, seq_entry, flow_key, pairs_entry, open_at, flow_fault, flow_value, after_key_at, seq_fault, seq_done, pairs_done, line_fault, list_done, map_done, dots_end, root_done, done_at, document_at, last_at, step_at}
+use Rattle.yaml_small.specs.Step.{Transition, transition, opened, list_start, map_start, settled, scalar_token_transition, block_transition, missing_transition, inline_at, node_at, below, tabbed, item_at, under, value_at, explicit_at, key_transition, key_step, seq_entry, flow_key, pairs_entry, open_at, flow_fault, flow_value, after_key_at, seq_fault, seq_done, pairs_done, line_fault, list_done, map_done, dots_end, root_done, done_at, document_at, last_at, step_at}
 use Rattle.yaml_small.specs.Stream.{State, top_of, changed, behind, moved, start, next, Runs}
 use Rattle.yaml_small.proofs.Runs.{step_of, length_pushed, pair_is}
 use Rattle.yaml_small.proofs.Found.{transition_is}
@@ -310,8 +310,7 @@ value limit p d col a lt =
 explicit : (limit : ℕ) (p : Bool) (d : ℕ) (a : At) → 8 * left a + 6 < limit → Falls limit p (explicit_at d a)
 unfolding explicit_at
 explicit limit p d a lt =
-    f_either limit p (ends a.line) _ _ (λ _. lower limit p d None (next_at a.later) (omega (arith, below-left a)))
-    (λ _. f_either limit p (eqb (spaces a.line) (whites a.line)) _ _ (λ _. inline limit p false d None (over a) (omega (arith, over-left a))) (λ _. f_err limit p (behind_tab a)))
+    f_either limit p (ends a.line) _ _ (λ _. lower limit p d None (next_at a.later) (omega (arith, below-left a))) (λ _. inline limit p false d None (over a) (omega (arith, over-left a)))
 
 key : (limit : ℕ) (p : Bool) (a : At) → 8 * left a < limit → Falls limit p (key_step a)
 unfolding key_step

@@ -1,6 +1,5 @@
 -- A run from a text's start to the stream's end emits a carried document.
-use Rattle.std.proofs.Common.{◌≡◌, ℕ, suc, ◌≤◌, List, [], ◌∷◌, drop, length, Bool, true, false, ◌||◌, cond, eqb, Option, Some, None, Ok, refl, sym, ap, ◌∙◌, subst, inl, inr, arith}
-use Rattle.yaml_scan.specs.Bytes.{spaces, whites}
+use Rattle.std.proofs.Common.{◌≡◌, ℕ, suc, ◌≤◌, List, [], ◌∷◌, drop, length, Bool, true, false, ◌||◌, cond, Option, Some, None, Ok, refl, sym, ap, ◌∙◌, subst, inl, inr, arith}
 use Rattle.yaml_scan.specs.Lines.{ends, is_comment_line}
 use Rattle.yaml_small.specs.declared.event.Event.{Event}
 use Rattle.yaml_small.specs.declared.event.Event.TheVariants.{StreamStart, StreamEnd, DocumentStart, DocumentEnd}
@@ -11,7 +10,7 @@ use Rattle.yaml_small.specs.Trees.{Tree, depth, emitted, stream_emitted, ends_ag
 use Rattle.yaml_small.specs.Places.{At, past, over, next_at, is_end, begins, at_dashes, at_dots}
 use Rattle.yaml_small.specs.Scalars.{Form, NotCarried}
 use Rattle.yaml_small.specs.Grammar.{Closed, Below, Inline, Node, Explicit, Document as ADocument, first_at, Carried}
-use Rattle.yaml_small.specs.Step.{transition, behind_tab, explicit_at, document_at, dots_end, root_done, last_at, line_fault, done_at, step_at}
+use Rattle.yaml_small.specs.Step.{transition, explicit_at, document_at, dots_end, root_done, last_at, line_fault, done_at, step_at}
 use Rattle.yaml_small.specs.Stream.{State, Runs, Emits}
 use Rattle.yaml_small.proofs.Runs.{From, state, done, from_of}
 use Rattle.yaml_small.proofs.Found.{choose, refused, went, continues_below_from}
@@ -87,9 +86,7 @@ explicit_found a es z fin h =
     choose [] (ends a.line) _ _ es z h
     (λ end h. found_as (λ t. Below (Node None t) None t) Explicit [] (next_at a.later) a es z (λ t c form. inl (end, form))
     (below_found (length es) (node_law (length es)) [] None (next_at a.later) es z (omega arith) fin (omega arith) h))
-    (λ end h. choose [] (eqb (spaces a.line) (whites a.line)) _ _ es z h
-    (λ white h. found_as (Inline None) Explicit [] (over a) a es z (λ t c form. inr (end, white, form)) (inline_found None [] (over a) es z fin (omega arith) h))
-    (λ _ h. refused [] (behind_tab a) es z h))
+    (λ end h. found_as (Inline None) Explicit [] (over a) a es z (λ t c form. inr (end, form)) (inline_found None [] (over a) es z fin (omega arith) h))
 
 -- a document from its first content on
 record Whole (text : List ℕ) (es : List Event) : Type 0 where

@@ -13,7 +13,9 @@ use crate::error::ScanError;
 use crate::event::{Event, Marker};
 use crate::node::{Step, inline_of, missing_step, settled};
 use crate::place::Place;
-use crate::scalar::{ScalarToken, continues_below, fault_mark, is_plain, scalar_event, scalar_token_of};
+use crate::scalar::{
+    ScalarToken, continues_below, fault_mark, is_plain, scalar_event, scalar_token_of,
+};
 use crate::state::{Change, Frame, Mode};
 use std::alloc::Global;
 use yaml_scan::{begins_flow_mark, is_gap};

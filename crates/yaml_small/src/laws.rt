@@ -88,9 +88,7 @@ pub fn depth_is_bounded()
 
 /// A text is refused as too deep only where 64 lists and maps are open, and the next step would begin one more.
 pub fn too_deep_is_the_65th()
-    ensures {
-        (text : List ℕ) (events : List Event) (s : State) → Runs (start text) events s
+    ensures { (text : List ℕ) (events : List Event) (s : State) → Runs (start text) events s
         → next s ≡ Err TooDeep
-        → (length s.frames ≡ 64) × WouldBegin s
-    }
+        → (length s.frames ≡ 64) × WouldBegin s }
 {}

@@ -11,13 +11,12 @@ use crate::error::ScanError;
 use crate::event::{Event, Marker};
 use crate::place::Place;
 use crate::scalar::{
-    ScalarToken, begins_block, block_of, continues_below, fault_mark, is_key, scalar_event,
-    scalar_token_of,
+    ScalarToken, begins_block, block_of, continues_below, is_key, scalar_event, scalar_token_of,
 };
 use crate::state::{Change, Frame, Mode};
 use std::alloc::Global;
 use warg_values::Text;
-use yaml_scan::{ends, is_comment_line, spaces, whites};
+use yaml_scan::{ends, spaces, whites};
 
 /// An event and its mark; where the next step begins, and what it looks for there; and what becomes of the open
 /// lists and maps.
@@ -355,19 +354,5 @@ pub fn explicit_of(alloc: Global, depth: usize, place: Place<'_>) -> Result<Step
     if ends(place.line) {
         return below(alloc, depth, None, place.mark, next_content(place));
     }
-    if spaces(place.line) == whites(place.line) {
-        return inline_of(alloc, false, depth, None, over(place));
-    }
-    Err(tab_error(place))
-}
-
-/// Why no content stands behind three dashes and a tab.
-fn tab_error(place: Place<'_>) -> ScanError
-    ensures { FailsAs result (spec.behind_tab (place_at place.entry)) }
-{
-    if is_comment_line(place.line) {
-        ScanError::Form(fault_mark(place))
-    } else {
-        ScanError::NotCarried(past(place, spaces(place.line)).mark)
-    }
+    inline_of(alloc, false, depth, None, over(place))
 }

@@ -16,7 +16,8 @@ use std::alloc::Global;
 use warg_values::Text;
 use yaml_scan::{
     Block, BlockError, Head, QuoteError, Quoted, begins_plain, block_indent, block_scalar,
-    double_quoted, ends, is_comment_line, is_control, is_gap, is_white_line, plain_len, single_quoted, text_follows,
+    double_quoted, ends, is_comment_line, is_control, is_gap, is_white_line, plain_len,
+    single_quoted, text_follows,
 };
 
 /// The text of a scalar: a part of the line, or bytes of its own.
