@@ -29,13 +29,13 @@ instantiations:
 const EXAMPLE: &str = "\
 # Which packages are put together, and what is passed to them.
 #
-# `root` is the instance whose exports the composed component has. An instance is made of the package that its
-# `dependency` names; where it names none, its own name is that of the package.
+# `root` is the instance whose exports the composed component is to have. An instance is made of the package that its
+# `dependency` names; where it names none, its own name is that of the package. `Config::from_text` reads this file;
+# no command composes by it yet.
 instantiations:
   root:
     dependency: demo:app
-    # Each import of demo:app that is given here, and the instance that is passed for it. What is not given is
-    # looked for in the registry, or stays an import of the composed component.
+    # Each import of demo:app that is given here, and the instance that is to be passed for it.
     arguments:
       demo:log/sink@1.0.0: log
   log:
