@@ -195,11 +195,12 @@ pub fn read_component(alloc: Global, bytes: &[u8]) -> Result<(Vec<Item<'_>>, Sha
 
 /// The shape of a component of the first form.
 ///
-/// `Form` and `NotCarried` are those of [`read_items`]. `NotBuilt` is answered exactly where that reads the bytes, and a
-/// section is no vector of primitive types and tuples of these, and no vector of exports of types without a description,
-/// with the place of the first such section's id. `Index` is answered exactly where the component is of the first form,
-/// and an export names a type whose index is not there yet, or has the name of an earlier one, ASCII letter case set
-/// aside, with the place of that export (`Explainer.md`, "Index Spaces" and "Import and Export Definitions").
+/// `Form` and `NotCarried` are those of [`read_items`]. `NotBuilt` is answered exactly where that reads the bytes, and
+/// a section is no vector of primitive types and tuples of these, and no vector of exports of types without a
+/// description, with the place of the first such section's id. `Index` is answered exactly where the component is of
+/// the first form, and an export names a type whose index is not there yet, or has the name of an earlier one, ASCII
+/// letter case set aside, with the place of that export (`Explainer.md`, "Index Spaces" and "Import and Export
+/// Definitions").
 pub fn read_shape(alloc: Global, bytes: &[u8]) -> Result<Shape, ShapeError>
     ensures found { IfOk result
         (λ s. (items : List ItemTree) × InFirstForm bytes.now items × (shape items ≡ Some (shape_tree s))) }
