@@ -1,6 +1,6 @@
--- The bytes that the builder writes: each length, count and index in its shortest spelling, and neighbouring items of one
--- kind in one section. Core types, instances, aliases, types, imports and exports share a section; every other item has
--- its own, as has a section that was given as its bytes.
+-- The bytes that the builder writes: each length, count and index in its shortest spelling, and neighbouring items of
+-- one kind in one section. Core types, instances, aliases, types, imports and exports share a section; every other item
+-- has its own, as has a section that was given as its bytes.
 use Rattle.std.specs.Prelude.{◌≡◌, ℕ, ◌<◌, ◌^◌, Bool, false, List, [], ◌∷◌, ◌++◌, length, Option, Some, None, is_none, unwrap_or, ◌==◌, ◌&&◌, ◌||◌, ◌⊎◌, ◌≤◌, if◌then◌else◌, count_by, Contains}
 use Rattle.std.specs.List.{flat_map}
 use Rattle.comp_format.specs.declared.types.CoreSort.TheVariants as core

@@ -279,8 +279,8 @@ impl ComponentBuilder {
 
     /// Adds a type of values, and gives its index.
     ///
-    /// `TooLarge` has the largest length, count or index in the type, or the number of types with this one, where that is
-    /// above 2^32 - 1.
+    /// `TooLarge` has the largest length, count or index in the type, or the number of types with this one, where that
+    /// is above 2^32 - 1.
     pub fn type_defined(&mut self, alloc: Global, ty: &DefinedType) -> Result<u32, EncodeError>
         requires { IsDefined ty.now }
         ensures index { IfOk result (λ i. i ≡ next_index sort.Ty (entries_of self.old)) }
@@ -300,8 +300,8 @@ impl ComponentBuilder {
 
     /// Adds a type of functions, and gives its index.
     ///
-    /// `TooLarge` has the largest length, count or index in the type, or the number of types with this one, where that is
-    /// above 2^32 - 1.
+    /// `TooLarge` has the largest length, count or index in the type, or the number of types with this one, where that
+    /// is above 2^32 - 1.
     pub fn type_function(&mut self, alloc: Global, ty: &FuncType) -> Result<u32, EncodeError>
         requires { IsFunc ty.now }
         ensures index { IfOk result (λ i. i ≡ next_index sort.Ty (entries_of self.old)) }
@@ -320,8 +320,8 @@ impl ComponentBuilder {
 
     /// Adds a type of instances, and gives its index.
     ///
-    /// `TooLarge` has the largest length, count or index in the type, or the number of types with this one, where that is
-    /// above 2^32 - 1.
+    /// `TooLarge` has the largest length, count or index in the type, or the number of types with this one, where that
+    /// is above 2^32 - 1.
     pub fn type_instance(&mut self, alloc: Global, ty: &InstanceType) -> Result<u32, EncodeError>
         requires { AreDecls false (instance_type_tree ty.now) }
         ensures index { IfOk result (λ i. i ≡ next_index sort.Ty (entries_of self.old)) }
@@ -345,8 +345,8 @@ impl ComponentBuilder {
 
     /// Adds a type of components, and gives its index.
     ///
-    /// `TooLarge` has the largest length, count or index in the type, or the number of types with this one, where that is
-    /// above 2^32 - 1.
+    /// `TooLarge` has the largest length, count or index in the type, or the number of types with this one, where that
+    /// is above 2^32 - 1.
     pub fn type_component(&mut self, alloc: Global, ty: &ComponentType) -> Result<u32, EncodeError>
         requires { AreDecls true (component_type_tree ty.now) }
         ensures index { IfOk result (λ i. i ≡ next_index sort.Ty (entries_of self.old)) }
@@ -388,8 +388,8 @@ impl ComponentBuilder {
 
     /// Adds a type of core modules, and gives its index.
     ///
-    /// `TooLarge` has the largest length, count or index in the type, or the number of core types with this one, where that is
-    /// above 2^32 - 1.
+    /// `TooLarge` has the largest length, count or index in the type, or the number of core types with this one, where
+    /// that is above 2^32 - 1.
     pub fn core_type_module(&mut self, alloc: Global, ty: &ModuleType) -> Result<u32, EncodeError>
         requires { AreModuleDecls (module_tree ty.now) }
         ensures index { IfOk result (λ i. i ≡ next_index (sort.Core core_sort.Ty) (entries_of self.old)) }
@@ -414,7 +414,8 @@ impl ComponentBuilder {
     /// Adds the section of this id and content, with the items that it holds, in order. It is written as it is.
     ///
     /// `TooLarge` has the length of `content`, or the number of items that an index space would have with these, where
-    /// that is above 2^32 - 1. `Memory` is also answered where more than 200 scopes are open in the section at one place.
+    /// that is above 2^32 - 1. `Memory` is also answered where more than 200 scopes are open in the section at one
+    /// place.
     pub fn raw_section(&mut self, alloc: Global, id: u8, content: &[u8]) -> Result<(), EncodeError>
         requires { IsContent id content.now }
         ensures added { (items : List ItemTree) → IsContentOf items id content.now

@@ -1,4 +1,5 @@
--- Sorts, descriptions, aliases and instances: what is read is a form, each form is read so, and what is written is a form.
+-- Sorts, descriptions, aliases and instances: what is read is a form, each form is read so, and what is written is a
+-- form.
 use Rattle.std.proofs.Common.{◌≡◌, ℕ, List, ◌∷◌, ◌++◌, Some, Ok, refl, sym, ap, subst, ◌∙◌, append_assoc, inl, inr}
 use Rattle.std.proofs.lemmas.List.Elements.{recursion_from_All}
 use Rattle.warg_values.specs.ReadingLaws.{bind_ok, ok_is, wanted_ok, pick}

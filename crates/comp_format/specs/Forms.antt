@@ -1,6 +1,6 @@
--- What a type has to be to have a written form, whatever its lengths: names that are not empty where the format asks so,
--- labels that differ, at least one part, at most 32 flags, and declarations that may stand where they do (Component Model,
--- Binary.md, "Type Definitions" and "Core Type Definitions").
+-- What a type has to be to have a written form, whatever its lengths: names that are not empty where the format asks
+-- so, labels that differ, at least one part, at most 32 flags, and declarations that may stand where they do (Component
+-- Model, Binary.md, "Type Definitions" and "Core Type Definitions").
 use Rattle.std.specs.Prelude.{◌≡◌, ℕ, ◌<◌, ◌≤◌, Bool, true, false, List, length, map, All}
 use Rattle.std.specs.List.{IsDistinct}
 use Rattle.std.specs.Str.{bytes_eq}

@@ -24,7 +24,8 @@ header = 0x00 ∷ 0x61 ∷ 0x73 ∷ 0x6d ∷ 0x0d ∷ 0x00 ∷ 0x01 ∷ 0x00 ∷
 abbrev pub core_header : List ℕ
 core_header = 0x00 ∷ 0x61 ∷ 0x73 ∷ 0x6d ∷ 0x01 ∷ 0x00 ∷ 0x00 ∷ 0x00 ∷ []
 
--- a section with what it holds: a custom section; a core module; a nested component, its bytes and its sections; or items of one kind
+-- a section with what it holds: a custom section; a core module; a nested component, its bytes and its sections; or
+-- items of one kind
 mutual
   pub data Section : Type 0 where
     Named : List ℕ → List ℕ → Section

@@ -32,7 +32,8 @@ ValueFirst One xs number content behind item =
     (first values : List ℕ) × Number (length xs) content first × Many One (take number xs) first values × Many One (drop number xs) values [] × (item ≡ values ++ behind)
 
 -- A section's item of this number stands at the front of these bytes, where the bytes from the section on, its content
--- and the bytes behind it are these. A custom section, a core module and a nested component stand where the section does.
+-- and the bytes behind it are these. A custom section, a core module and a nested component stand where the section
+-- does.
 abbrev pub ItemFirst : Section → ℕ → List ℕ → List ℕ → List ℕ → List ℕ → Type 0
 ItemFirst (Named name bytes) number section content behind item = item ≡ section
 ItemFirst (CoreModules bytes) number section content behind item = item ≡ section
@@ -46,8 +47,8 @@ ItemFirst (Canons items) number section content behind item = ValueFirst CanonFo
 ItemFirst (Imports items) number section content behind item = ValueFirst ImportForm items number content behind item
 ItemFirst (Exports items) number section content behind item = ValueFirst ExportForm items number content behind item
 
--- The bytes are a component, and its item of this number stands there: so many bytes are in front of its section, and in
--- front of itself.
+-- The bytes are a component, and its item of this number stands there: so many bytes are in front of its section, and
+-- in front of itself.
 pub record StandsAt (number : ℕ) (bytes : List ℕ) (place : ItemPlace) : Type 0 where
   pub this : Section
   pub within : ℕ

@@ -75,14 +75,14 @@ fn count_of(id: u8, content: &[u8]) -> Result<usize, Refusal>
     Ok(count as usize)
 }
 
-/// The section that has the item of this number among the items of sections: the item's number in it, and the bytes from
-/// its id on.
+/// The section that has the item of this number among the items of sections: the item's number in it, and the bytes
+/// from its id on.
 fn section_of(sections: &[u8], number: usize) -> Result<Option<(usize, &[u8])>, Refusal>
     ensures found { (this : Section) (within : ℕ) (section behind : List ℕ)
         → InSection number sections.now this within section
         → SectionForm this section behind
         → MatchResult result (λ found. MatchOption found ⊥ (λ x. (x.0 ≡ within) × (x.1.now ≡ section)))
-            (λ e. e ≡ Refusal.Memory) }
+        (λ e. e ≡ Refusal.Memory) }
     ensures behind { (ss : Sections) → SectionsForm ss sections.now
         → length (items_in ss) ≤ number
         → MatchResult result (λ found. MatchOption found (Unit {0}) (λ x. ⊥)) (λ e. e ≡ Refusal.Memory) }

@@ -1,4 +1,5 @@
--- The first section that is not of the first form, from the first one whose id is not, and the first one whose items are not.
+-- The first section that is not of the first form, from the first one whose id is not, and the first one whose items
+-- are not.
 use Rattle.std.proofs.Common.{◌≡◌, ℕ, ◌+◌, ◌&&◌, ◌<◌, ◌≤◌, ◌-◌, min, Bool, true, false, List, [], ◌∷◌, ◌++◌, length, take, drop, Ok, refl, sym, ap, subst, ◌∙◌, arith, length-append, inl, inr}
 use Rattle.std.specs.List.{flat_map, list_all}
 use Rattle.std.proofs.lemmas.Bool.{cases_lt}

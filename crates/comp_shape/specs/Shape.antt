@@ -85,7 +85,8 @@ nothing_known = record { types = []; exports = [] }
 abbrev pub shape : List ItemTree → Option ShapeTree
 shape items = option_map (λ k. record { imports = []; exports = k.exports }) (after_all nothing_known items)
 
--- The item of this number is the first that breaks a rule: of what is known after those in front of it, nothing follows.
+-- The item of this number is the first that breaks a rule: of what is known after those in front of it, nothing
+-- follows.
 pub record BreaksFirst (items : List ItemTree) (number : ℕ) : Type 0 where
   pub item : ItemTree
   pub so_far : SpaceTree

@@ -81,9 +81,9 @@ fn other_place(
     requires { Reads bytes.now (map item_tree items.now) }
     ensures found { IfOk result
         (λ found.
-            MatchOption found (list_all is_plain_item (map item_tree items.now) ≡ true)
-                (λ place.
-                    (number : ℕ) × IsFirstOther (map item_tree items.now) number × StandsAt number bytes.now place)) }
+        MatchOption found (list_all is_plain_item (map item_tree items.now) ≡ true)
+        (λ place.
+        (number : ℕ) × IsFirstOther (map item_tree items.now) number × StandsAt number bytes.now place)) }
     ensures only { IfErr result (λ e. e ≡ ShapeError.Memory) }
 {
     match other_item(items) {

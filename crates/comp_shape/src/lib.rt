@@ -1,7 +1,7 @@
 //! The shape of a WebAssembly component: what it imports and what it exports, as types with all indices followed.
 //!
-//! The binary format is that of the Component Model's `Binary.md`. Items are read of all components. Shapes are those of
-//! components of the first form: sections of primitive types and tuples of these, and of exports of types without a
+//! The binary format is that of the Component Model's `Binary.md`. Items are read of all components. Shapes are those
+//! of components of the first form: sections of primitive types and tuples of these, and of exports of types without a
 //! description.
 #![tactic(auto)]
 

@@ -54,10 +54,10 @@ fn add_export(
     ensures plain { OnOk result (ArePlain space.new) }
     ensures added { OnOk result
         (after (known space.old) (Export (record { name = name.now; sort = sort.Ty; index = index; ty = None }))
-            ≡ Some (known space.new)) }
+        ≡ Some (known space.new)) }
     ensures index { (at : ℕ) → result ≡ Err (Broken.Item at)
         → after (known space.old) (Export (record { name = name.now; sort = sort.Ty; index = index; ty = None }))
-            ≡ None }
+        ≡ None }
     ensures numbered { (at : ℕ) → result ≡ Err (Broken.Item at) → at ≡ number }
 {
     let Some(ty) = type_at(&space.types, index) else {
@@ -131,7 +131,7 @@ fn shape_of<'a>(alloc: Global, bytes: &[u8], items: &'a [Item<'a>]) -> Result<Sh
     requires { Reads bytes.now (map item_tree items.now) }
     ensures found { IfOk result
         (λ s.
-            InFirstForm bytes.now (map item_tree items.now) × (shape (map item_tree items.now) ≡ Some (shape_tree s))) }
+        InFirstForm bytes.now (map item_tree items.now) × (shape (map item_tree items.now) ≡ Some (shape_tree s))) }
     ensures named { IfOk result (λ s. All (λ e. 0 < length e.0) s.exports.items) }
     ensures not_built { (at : ℕ) → result ≡ Err (ShapeError.NotBuilt at)
         → (others : List ItemTree)
@@ -171,16 +171,16 @@ fn shape_of<'a>(alloc: Global, bytes: &[u8], items: &'a [Item<'a>]) -> Result<Sh
 pub fn read_component(alloc: Global, bytes: &[u8]) -> Result<(Vec<Item<'_>>, Shape), ShapeError>
     ensures found { IfOk result
         (λ read.
-            InFirstForm bytes.now (map item_tree read.0.items)
-                × (shape (map item_tree read.0.items) ≡ Some (shape_tree read.1))) }
+        InFirstForm bytes.now (map item_tree read.0.items)
+        × (shape (map item_tree read.0.items) ≡ Some (shape_tree read.1))) }
     ensures named { IfOk result (λ read. All (λ e. 0 < length e.0) read.1.exports.items) }
     ensures form { (at : ℕ) → result ≡ Err (ShapeError.Form at) → component_at 200 bytes.now ≡ Err no_form }
     ensures not_carried { (at : ℕ) → result ≡ Err (ShapeError.NotCarried at)
         → component_at 200 bytes.now ≡ Err not_carried }
     ensures not_built { (at : ℕ) → result ≡ Err (ShapeError.NotBuilt at)
         → (items : List ItemTree) × Reads bytes.now items
-            × ((others : List ItemTree) → InFirstForm bytes.now others → ⊥)
-            × StandsFirstOther bytes.now at }
+        × ((others : List ItemTree) → InFirstForm bytes.now others → ⊥)
+        × StandsFirstOther bytes.now at }
     ensures index { (at : ℕ) → result ≡ Err (ShapeError.Index at)
         → (items : List ItemTree) × InFirstForm bytes.now items × (shape items ≡ None) × BreaksAt bytes.now items at }
 {
@@ -195,11 +195,12 @@ pub fn read_component(alloc: Global, bytes: &[u8]) -> Result<(Vec<Item<'_>>, Sha
 
 /// The shape of a component of the first form.
 ///
-/// `Form` and `NotCarried` are those of [`read_items`]. `NotBuilt` is answered exactly where that reads the bytes, and a
-/// section is no vector of primitive types and tuples of these, and no vector of exports of types without a description,
-/// with the place of the first such section's id. `Index` is answered exactly where the component is of the first form,
-/// and an export names a type whose index is not there yet, or has the name of an earlier one, ASCII letter case set
-/// aside, with the place of that export (`Explainer.md`, "Index Spaces" and "Import and Export Definitions").
+/// `Form` and `NotCarried` are those of [`read_items`]. `NotBuilt` is answered exactly where that reads the bytes, and
+/// a section is no vector of primitive types and tuples of these, and no vector of exports of types without a
+/// description, with the place of the first such section's id. `Index` is answered exactly where the component is of
+/// the first form, and an export names a type whose index is not there yet, or has the name of an earlier one, ASCII
+/// letter case set aside, with the place of that export (`Explainer.md`, "Index Spaces" and "Import and Export
+/// Definitions").
 pub fn read_shape(alloc: Global, bytes: &[u8]) -> Result<Shape, ShapeError>
     ensures found { IfOk result
         (λ s. (items : List ItemTree) × InFirstForm bytes.now items × (shape items ≡ Some (shape_tree s))) }
@@ -209,8 +210,8 @@ pub fn read_shape(alloc: Global, bytes: &[u8]) -> Result<Shape, ShapeError>
         → component_at 200 bytes.now ≡ Err not_carried }
     ensures not_built { (at : ℕ) → result ≡ Err (ShapeError.NotBuilt at)
         → (items : List ItemTree) × Reads bytes.now items
-            × ((others : List ItemTree) → InFirstForm bytes.now others → ⊥)
-            × StandsFirstOther bytes.now at }
+        × ((others : List ItemTree) → InFirstForm bytes.now others → ⊥)
+        × StandsFirstOther bytes.now at }
     ensures index { (at : ℕ) → result ≡ Err (ShapeError.Index at)
         → (items : List ItemTree) × InFirstForm bytes.now items × (shape items ≡ None) × BreaksAt bytes.now items at }
 {

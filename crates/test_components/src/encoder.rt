@@ -272,6 +272,23 @@ fn two_names(alloc: Global) -> Result<DefinedType, Memory>
     Ok(DefinedType::EnumOf(labels))
 }
 
+/// A type of instances with an alias of what an instance exports.
+fn alias_type(alloc: Global) -> Result<InstanceType, EncodeError>
+    ensures { IfOk result (λ ty. AreDecls false (instance_type_tree ty)) }
+{
+    let mut ty = InstanceType::new(alloc);
+    let (sort, instance, name) = (Sort::Ty, 2, Text::copy_of(alloc, "t")?);
+    ty.alias(
+        alloc,
+        Alias::Export {
+            sort,
+            instance,
+            name,
+        },
+    )?;
+    Ok(ty)
+}
+
 /// A type of core modules with a memory, a table and a global that does not change.
 fn memory_type(alloc: Global) -> Result<ModuleType, EncodeError>
     ensures { IfOk result (λ ty. AreModuleDecls (module_tree ty)) }
@@ -335,16 +352,17 @@ fn labels_are_written_with_what_stands_behind_them(rt: HostRuntime) -> Result<()
 }
 
 #[test]
-fn empty_types_are_written(rt: HostRuntime) -> Result<(), Fail> {
+fn types_without_declarations_and_aliases_are_written(rt: HostRuntime) -> Result<(), Fail> {
     let alloc = rt.alloc();
     let mut builder = ComponentBuilder::new(alloc);
     builder.type_component(alloc, &ComponentType::new(alloc))?;
     builder.type_instance(alloc, &InstanceType::new(alloc))?;
+    builder.type_instance(alloc, &alias_type(alloc)?)?;
     builder.core_type_module(alloc, &memory_type(alloc)?)?;
     let written = sections(alloc, builder)?;
     assert_eq!(rt;
         written.as_str(),
-        "07050241004200031901500303016d02010102000161016201700001030167037c00"
+        "070d03410042004201020300020174031901500303016d02010102000161016201700001030167037c00"
     );
     Ok(())
 }

@@ -153,6 +153,6 @@ fn finds_where_items_stand(rt: HostRuntime) -> Result<(), Fail> {
         assert_eq!(rt; place, Ok(ItemPlace { section, item }));
     }
     let cut = item_place(rt.alloc(), &PLACED[..29], 3);
-    assert_eq!(rt; cut, Err(ReadError::Form(23)));
+    assert_eq!(rt; cut, Err(ReadError::Form(22)));
     Ok(())
 }

@@ -45,8 +45,8 @@ impl<'a> Component<'a> {
 
     /// The component of these bytes, under a name.
     ///
-    /// `BadName` is answered exactly for the empty name, and `BadComponent` exactly where [`read_component`] refuses the
-    /// bytes.
+    /// `BadName` is answered exactly for the empty name, and `BadComponent` exactly where [`read_component`] refuses
+    /// the bytes.
     pub fn from_bytes(
         alloc: Global,
         name: &str,
@@ -127,8 +127,8 @@ impl<'a> Component<'a> {
 
     /// The component of the file at `path`, under a name.
     ///
-    /// `BadName` is answered exactly for the empty name, and then no file is touched. `File` tells that the file is missing
-    /// or could not be read, and `BadComponent` is answered exactly where [`read_component`] refuses its bytes.
+    /// `BadName` is answered exactly for the empty name, and then no file is touched. `File` tells that the file is
+    /// missing or could not be read, and `BadComponent` is answered exactly where [`read_component`] refuses its bytes.
     pub fn from_file<F: Files>(
         alloc: Global,
         files: &mut F,

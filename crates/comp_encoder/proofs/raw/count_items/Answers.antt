@@ -1,12 +1,10 @@
-use Rattle.std.proofs.Common.{◌≡◌, ◌+◌, ◌≤◌, ◌^◌, ℕ, ◌<◌, List, ◌∷◌, ◌++◌, [], Some, None, Result, Err, cond, length, get_or, map, take, drop, refl, sym, ap, ◌∙◌, arith}
+use Rattle.std.proofs.Common.{◌≡◌, ◌+◌, ◌≤◌, ◌^◌, ℕ, ◌<◌, List, Some, None, Result, Err, cond, length, map, refl, sym, ap, ◌∙◌, arith}
 use Rattle.std.specs.Prelude.{slice_index, slice_set}
 use Rattle.std.proofs.lemmas.Bool.{eq-eqb}
-use Rattle.std.proofs.lemmas.List.{take_more, map_push, map-append, take-append-drop}
 use Rattle.std.proofs.Math.ListN.{length-set}
 use Rattle.comp_format.specs.declared.error.EncodeError.{EncodeError}
 use Rattle.comp_format.specs.declared.error.EncodeError.TheVariants as encode_error
 use Rattle.comp_format.specs.declared.types.Sort.{Sort}
-use Rattle.comp_format.specs.declared.types.Item.{Item}
 use Rattle.comp_format.specs.Items.{item_tree}
 use Rattle.comp_format.specs.Spaces.{space_of}
 use Rattle.comp_encoder.specs.Writing.{item_sort, numbers, numbered}
