@@ -47,9 +47,13 @@ fn text(alloc: Global, text: &str) -> Result<Text, Fail> {
     Ok(Text::copy_of(alloc, text)?)
 }
 
-/// The configuration of a text.
-fn config_of(alloc: Global, text: &str) -> Result<Config, Fail> {
-    Ok(Config::from_text(alloc, text)?)
+/// The configuration of a text, or a copy of it.
+fn config_of(alloc: Global, text: &str, copied: bool) -> Result<Config, Fail> {
+    let config = Config::from_text(alloc, text)?;
+    if copied {
+        return Ok(config.try_clone(alloc)?);
+    }
+    Ok(config)
 }
 
 /// Why a text is refused.
@@ -57,59 +61,115 @@ fn refusal_of(alloc: Global, text: &str) -> Result<DeError, Fail> {
     Ok(Config::from_text(alloc, text).err().ok_or("read")?)
 }
 
-#[test]
-fn the_example_plan_is_read(rt: HostRuntime) -> Result<(), Fail> {
-    let alloc = rt.alloc();
-    let config = config_of(alloc, EXAMPLE)?;
-    assert_eq!(rt; config.instantiations.len(), 2);
-    assert_eq!(rt; config.dependencies.len(), 0);
-    assert_eq!(rt; config.dependency_name("root"), "demo:app");
-    assert_eq!(rt; config.dependency_name("log"), "demo:log");
+/// How many search paths, dependencies and instantiations a plan has, and whether validation is skipped.
+fn counts(alloc: Global, plan: &str, copied: bool) -> Result<(usize, usize, usize, bool), Fail> {
+    let config = config_of(alloc, plan, copied)?;
+    Ok((
+        config.search_paths.len(),
+        config.dependencies.len(),
+        config.instantiations.len(),
+        config.skip_validation,
+    ))
+}
+
+/// The name of the dependency that an instance of a plan is made of.
+fn dependency(alloc: Global, plan: &str, copied: bool, instance: &str) -> Result<Text, Fail> {
+    let config = config_of(alloc, plan, copied)?;
+    text(alloc, config.dependency_name(instance))
+}
+
+/// The path of a dependency of a plan.
+fn path(alloc: Global, plan: &str, copied: bool, name: &str) -> Result<Text, Fail> {
+    let name = text(alloc, name)?;
+    let config = config_of(alloc, plan, copied)?;
+    let found = config.dependencies.get(&name).ok_or("no dependency")?;
+    text(alloc, found.path.as_str())
+}
+
+/// An argument of the instance `root` of a plan: the instance that is passed, a slash, and the export of it.
+fn argument(alloc: Global, plan: &str, copied: bool, name: &str) -> Result<String, Fail> {
     let root = text(alloc, "root")?;
-    let arguments = &config.instantiations.get(&root).ok_or("root")?.arguments;
-    assert_eq!(rt; arguments.len(), 1);
-    let sink = arguments
-        .get(&text(alloc, "demo:log/sink@1.0.0")?)
-        .ok_or("sink")?;
-    assert_eq!(rt; sink.instance.as_str(), "log");
-    assert_eq!(rt; sink.export.is_none(), true);
+    let name = text(alloc, name)?;
+    let config = config_of(alloc, plan, copied)?;
+    let instantiation = config.instantiations.get(&root).ok_or("no root")?;
+    let argument = instantiation.arguments.get(&name).ok_or("no argument")?;
+    shown(alloc, argument)
+}
+
+/// The instance that an argument passes, a slash, and the export of it.
+fn shown(alloc: Global, argument: &InstantiationArg) -> Result<String, Fail> {
+    let mut out = String::from_str(alloc, argument.instance.as_str())?;
+    out.push_str("/")?;
+    if let Some(export) = &argument.export {
+        out.push_str(export.as_str())?;
+    }
+    Ok(out)
+}
+
+/// A plan in which an argument stands twice.
+const REPEATED: &str = "\
+instantiations:
+  root:
+    arguments:
+      a: b
+      a: {instance: c}
+";
+
+#[test]
+fn plans_have_their_parts_and_so_have_copies(rt: HostRuntime) -> Result<(), Fail> {
+    for copied in [false, true] {
+        for (plan, parts) in [
+            (PLAN, (1, 2, 2, false)),
+            (EXAMPLE, (0, 0, 2, false)),
+            (REPEATED, (0, 0, 1, false)),
+        ] {
+            assert_eq!(rt; counts(rt.alloc(), plan, copied)?, parts);
+        }
+    }
     Ok(())
 }
 
 #[test]
-fn a_plan_is_read(rt: HostRuntime) -> Result<(), Fail> {
-    let alloc = rt.alloc();
-    let config = config_of(alloc, PLAN)?;
-    assert_eq!(rt; config.search_paths.len(), 1);
-    assert_eq!(rt; config.skip_validation, false);
-    let frontend = text(alloc, "frontend")?;
-    let found = config.dependencies.get(&frontend).ok_or("frontend")?;
-    assert_eq!(rt; found.path.as_str(), "web/front.wasm");
-    let backend = text(alloc, "backend")?;
-    let found = config.dependencies.get(&backend).ok_or("backend")?;
-    assert_eq!(rt; found.path.as_str(), "store.wasm");
-    let root = text(alloc, "root")?;
-    let arguments = &config.instantiations.get(&root).ok_or("root")?.arguments;
-    let clock = arguments.get(&text(alloc, "clock")?).ok_or("clock")?;
-    assert_eq!(rt; clock.instance.as_str(), "time");
-    assert_eq!(rt; clock.export.is_some(), true);
-    assert_eq!(rt; config.dependency_name("root"), "frontend");
-    assert_eq!(rt; config.dependency_name("time"), "time");
+fn instances_are_made_of_dependencies(rt: HostRuntime) -> Result<(), Fail> {
+    for (plan, copied, instance, name) in [
+        (EXAMPLE, false, "root", "demo:app"),
+        (EXAMPLE, false, "log", "demo:log"),
+        (PLAN, false, "root", "frontend"),
+        (PLAN, true, "root", "frontend"),
+        (PLAN, false, "time", "time"),
+    ] {
+        assert_eq!(rt;
+            dependency(rt.alloc(), plan, copied, instance)?.as_str(),
+            name
+        );
+    }
     Ok(())
 }
 
 #[test]
-fn a_repeated_argument_has_its_last_value(rt: HostRuntime) -> Result<(), Fail> {
-    let alloc = rt.alloc();
-    let plan = "instantiations:\n  root:\n    arguments:\n      a: b\n      a: {instance: c}\n";
-    let config = config_of(alloc, plan)?;
-    assert_eq!(rt; config.instantiations.len(), 1);
-    let root = text(alloc, "root")?;
-    let arguments = &config.instantiations.get(&root).ok_or("root")?.arguments;
-    assert_eq!(rt; arguments.len(), 1);
-    let argument = arguments.get(&text(alloc, "a")?).ok_or("a")?;
-    assert_eq!(rt; argument.instance.as_str(), "c");
-    assert_eq!(rt; argument.export.is_none(), true);
+fn dependencies_have_paths(rt: HostRuntime) -> Result<(), Fail> {
+    for (copied, name, file) in [
+        (false, "frontend", "web/front.wasm"),
+        (false, "backend", "store.wasm"),
+        (true, "backend", "store.wasm"),
+    ] {
+        assert_eq!(rt; path(rt.alloc(), PLAN, copied, name)?.as_str(), file);
+    }
+    Ok(())
+}
+
+#[test]
+fn arguments_pass_instances(rt: HostRuntime) -> Result<(), Fail> {
+    for (plan, copied, name, passed) in [
+        (EXAMPLE, false, "demo:log/sink@1.0.0", "log/"),
+        (PLAN, false, "clock", "time/monotonic"),
+        (PLAN, true, "clock", "time/monotonic"),
+        (PLAN, true, "store", "data/"),
+        // Of a repeated argument the last value counts.
+        (REPEATED, false, "a", "c/"),
+    ] {
+        assert_eq!(rt; argument(rt.alloc(), plan, copied, name)?.as_str(), passed);
+    }
     Ok(())
 }
 
@@ -161,28 +221,6 @@ fn a_field_that_is_missing_is_named(rt: HostRuntime) -> Result<(), Fail> {
 fn the_empty_text_is_no_plan(rt: HostRuntime) -> Result<(), Fail> {
     let refusal = refusal_of(rt.alloc(), "")?;
     assert_eq!(rt; matches!(&refusal, DeError::UnexpectedEvent(_, _, _)), true);
-    Ok(())
-}
-
-/// A configuration like another one.
-fn copy_of(alloc: Global, config: &Config) -> Result<Config, Fail> {
-    Ok(config.try_clone(alloc)?)
-}
-
-#[test]
-fn a_configuration_is_copied(rt: HostRuntime) -> Result<(), Fail> {
-    let alloc = rt.alloc();
-    let config = config_of(alloc, PLAN)?;
-    let copy = copy_of(alloc, &config)?;
-    assert_eq!(rt; copy.search_paths == config.search_paths, true);
-    assert_eq!(rt; copy.dependencies.len(), 2);
-    assert_eq!(rt; copy.instantiations.len(), 2);
-    assert_eq!(rt; copy.dependency_name("root"), "frontend");
-    let root = text(alloc, "root")?;
-    let arguments = &copy.instantiations.get(&root).ok_or("root")?.arguments;
-    let clock = arguments.get(&text(alloc, "clock")?).ok_or("clock")?;
-    assert_eq!(rt; clock.instance.as_str(), "time");
-    assert_eq!(rt; clock.export == Some(text(alloc, "monotonic")?), true);
     Ok(())
 }
 

@@ -1,7 +1,7 @@
 //! What people read: places, events and errors as texts.
 
 use compose_config::Config;
-use serde_yaml2::{Errors, to_string};
+use serde_yaml2::Errors;
 use std::alloc::Global;
 use std::test::Fail;
 use warg_values::Text;
@@ -31,28 +31,42 @@ fn places_count_lines_and_columns_from_one(rt: HostRuntime) -> Result<(), Fail> 
     Ok(())
 }
 
-/// An event as a text.
-fn printed(alloc: Global, event: Event) -> Result<String, Fail> {
+/// The event of a number.
+fn event_at(alloc: Global, number: usize) -> Result<Event, Fail> {
+    match number {
+        0 => Ok(Event::StreamStart),
+        1 => Ok(Event::StreamEnd),
+        2 => Ok(Event::DocumentStart),
+        3 => Ok(Event::DocumentEnd),
+        4 => Ok(Event::SequenceStart),
+        5 => Ok(Event::SequenceEnd),
+        6 => Ok(Event::MappingStart),
+        7 => Ok(Event::MappingEnd),
+        _ => Ok(Event::Scalar(text_of(alloc, "a b")?, Style::Plain)),
+    }
+}
+
+/// The event of a number, as a text.
+fn printed(alloc: Global, number: usize) -> Result<String, Fail> {
+    let event = event_at(alloc, number)?;
     Ok(format!(in alloc; "{event}")?)
 }
 
 #[test]
 fn events_are_named(rt: HostRuntime) -> Result<(), Fail> {
-    let alloc = rt.alloc();
-    for (event, text) in [
-        (Event::StreamStart, "the start of the text"),
-        (Event::StreamEnd, "the end of the text"),
-        (Event::DocumentStart, "the start of the document"),
-        (Event::DocumentEnd, "the end of the document"),
-        (Event::SequenceStart, "a list"),
-        (Event::SequenceEnd, "the end of a list"),
-        (Event::MappingStart, "a map"),
-        (Event::MappingEnd, "the end of a map"),
+    for (number, text) in [
+        (0, "the start of the text"),
+        (1, "the end of the text"),
+        (2, "the start of the document"),
+        (3, "the end of the document"),
+        (4, "a list"),
+        (5, "the end of a list"),
+        (6, "a map"),
+        (7, "the end of a map"),
+        (8, "the scalar `a b`"),
     ] {
-        assert_eq!(rt; printed(alloc, event)?.as_str(), text);
+        assert_eq!(rt; printed(rt.alloc(), number)?.as_str(), text);
     }
-    let scalar = Event::Scalar(text_of(alloc, "a b")?, Style::Plain);
-    assert_eq!(rt; printed(alloc, scalar)?.as_str(), "the scalar `a b`");
     Ok(())
 }
 
@@ -69,134 +83,154 @@ fn scan_error(alloc: Global, text: &str) -> Result<String, Fail> {
     Err(Fail::from("no end"))
 }
 
-/// A flow list within lists, so many of them, and no ends.
-fn opened(alloc: Global, depth: usize) -> Result<String, Fail> {
-    let mut out = String::new(alloc);
-    for _ in 0..depth {
-        out.push_str("[")?;
-    }
-    Ok(out)
-}
+/// A text of 65 opening brackets.
+const DEEP: &str = "[[[[[[[[[[[[[[[[[[[[[[[[[[[[[[[[[[[[[[[[[[[[[[[[[[[[[[[[[[[[[[[[[";
 
 #[test]
 fn errors_of_texts_say_where_and_what_to_do(rt: HostRuntime) -> Result<(), Fail> {
-    let alloc = rt.alloc();
-    assert_eq!(rt;
-        scan_error(alloc, "- a\n- ]")?.as_str(),
-        "the text is not well-formed YAML at line 2, column 3; correct it there"
-    );
-    assert_eq!(rt;
-        scan_error(alloc, "a: &b c")?.as_str(),
-        "the form of YAML at line 1, column 4 is not supported; write it in another way"
-    );
-    let deep = opened(alloc, 65)?;
-    assert_eq!(rt;
-        scan_error(alloc, deep.as_str())?.as_str(),
-        "lists and maps are nested more than 64 deep at line 1, column 65; nest them less deep"
-    );
+    for (text, error) in [
+        (
+            "- a\n- ]",
+            "the text is not well-formed YAML at line 2, column 3; correct it there",
+        ),
+        (
+            "a: &b c",
+            "the form of YAML at line 1, column 4 is not supported; write it in another way",
+        ),
+        (
+            DEEP,
+            "lists and maps are nested more than 64 deep at line 1, column 65; nest them less deep",
+        ),
+    ] {
+        assert_eq!(rt; scan_error(rt.alloc(), text)?.as_str(), error);
+    }
     Ok(())
 }
 
-/// An error of a read as a text.
-fn read_error(alloc: Global, error: Option<DeError>) -> Result<String, Fail> {
-    let error = error.ok_or("read")?;
+/// What a text is read as.
+#[derive(Clone, Copy)]
+enum Kind {
+    /// A list of two truth values.
+    Pair,
+    /// A number of eight bits.
+    Byte,
+    /// A value of any kind.
+    Value,
+    /// A configuration.
+    Plan,
+    /// Nothing: the error that this number stands for.
+    Other(usize),
+}
+
+/// An error that no text gives.
+fn error_at(number: usize) -> DeError {
+    match number {
+        0 => DeError::Unsupported,
+        1 => DeError::NotEnded(Marker {
+            line: 2,
+            col: 0,
+            index: 4,
+        }),
+        _ => DeError::Memory,
+    }
+}
+
+/// Why a text is not read.
+fn error_of(alloc: Global, kind: Kind, text: &str) -> Option<DeError> {
+    match kind {
+        Kind::Pair => from_str::<(bool, bool)>(alloc, text).err(),
+        Kind::Byte => from_str::<u8>(alloc, text).err(),
+        Kind::Value => from_str::<YamlNodeWrapper>(alloc, text).err(),
+        Kind::Plan => Config::from_text(alloc, text).err(),
+        Kind::Other(number) => Some(error_at(number)),
+    }
+}
+
+/// Why a text is not read, as a text.
+fn read_error(alloc: Global, kind: Kind, text: &str) -> Result<String, Fail> {
+    let error = error_of(alloc, kind, text).ok_or("read")?;
     Ok(format!(in alloc; "{error}")?)
-}
-
-/// Why a text is no list of two truth values.
-fn pair_error(alloc: Global, text: &str) -> Option<DeError> {
-    from_str::<(bool, bool)>(alloc, text).err()
-}
-
-/// Why a text is no number of eight bits.
-fn byte_error(alloc: Global, text: &str) -> Option<DeError> {
-    from_str::<u8>(alloc, text).err()
-}
-
-/// Why a text is no value of any kind.
-fn value_error(alloc: Global, text: &str) -> Option<DeError> {
-    from_str::<YamlNodeWrapper>(alloc, text).err()
-}
-
-/// Why a text is no configuration.
-fn plan_error(alloc: Global, text: &str) -> Option<DeError> {
-    Config::from_text(alloc, text).err()
 }
 
 #[test]
 fn errors_of_reads_say_where_and_what_to_do(rt: HostRuntime) -> Result<(), Fail> {
-    let alloc = rt.alloc();
-    for (error, text) in [
+    for (kind, text, error) in [
         (
-            pair_error(alloc, "[true,\n yes]"),
+            Kind::Pair,
+            "[true,\n yes]",
             "expected `true` or `false`, and `yes` stands at line 2, column 2; correct it",
         ),
         (
-            pair_error(alloc, "[true,\n []]"),
+            Kind::Pair,
+            "[true,\n []]",
             "expected a plain scalar, and a list stands at line 2, column 2; correct it",
         ),
         (
-            pair_error(alloc, "[true,\n &a true]"),
+            Kind::Pair,
+            "[true,\n &a true]",
             "the form of YAML at line 2, column 2 is not supported; write it in another way",
         ),
         (
-            byte_error(alloc, "256"),
+            Kind::Byte,
+            "256",
             "`256` is no number that fits here; correct it",
         ),
         (
-            value_error(alloc, "- 1\n- 1.5"),
+            Kind::Value,
+            "- 1\n- 1.5",
             "the real number at line 2, column 3 is not supported; write an integer",
         ),
         (
-            plan_error(alloc, "colour: 1"),
+            Kind::Plan,
+            "colour: 1",
             "there is no field `colour`; correct its name or remove it",
         ),
         (
-            plan_error(alloc, "dependencies: {a: {}}"),
+            Kind::Plan,
+            "dependencies: {a: {}}",
             "the field `path` is missing; add it",
         ),
         (
-            Some(DeError::Unsupported),
+            Kind::Other(0),
+            "",
             "this kind of value is not supported; read an owned text",
         ),
         (
-            Some(DeError::NotEnded(Marker {
-                line: 2,
-                col: 0,
-                index: 4,
-            })),
+            Kind::Other(1),
+            "",
             "the text continues behind the value at line 2, column 1; remove what stands there",
         ),
         (
-            Some(DeError::Memory),
+            Kind::Other(2),
+            "",
             "out of memory: free some, or give the program more, and try again",
         ),
     ] {
-        assert_eq!(rt; read_error(alloc, error)?.as_str(), text);
+        assert_eq!(rt; read_error(rt.alloc(), kind, text)?.as_str(), error);
     }
     Ok(())
 }
 
-/// An error of a write as a text.
-fn write_error(alloc: Global, error: Errors) -> Result<String, Fail> {
+/// An error of a write as a text: that of depth, or that of bytes.
+fn write_error(alloc: Global, deep: bool) -> Result<String, Fail> {
+    let error = if deep {
+        Errors::FormArgsError
+    } else {
+        Errors::UnsupportedSerializationError(text_of(alloc, "bytes")?)
+    };
     Ok(format!(in alloc; "{error}")?)
 }
 
 #[test]
 fn errors_of_writes_say_what_to_do(rt: HostRuntime) -> Result<(), Fail> {
-    let alloc = rt.alloc();
-    assert_eq!(rt;
-        write_error(alloc, Errors::FormArgsError)?.as_str(),
-        "lists and maps are nested more than 64 deep; nest them less deep"
-    );
-    assert_eq!(rt;
-        write_error(
-            alloc,
-            Errors::UnsupportedSerializationError(text_of(alloc, "bytes")?)
-        )?
-        .as_str(),
-        "bytes are not supported; write them as a text"
-    );
-    assert_eq!(rt; to_string(alloc, &7u8)?.as_str(), "7");
+    for (deep, error) in [
+        (
+            true,
+            "lists and maps are nested more than 64 deep; nest them less deep",
+        ),
+        (false, "bytes are not supported; write them as a text"),
+    ] {
+        assert_eq!(rt; write_error(rt.alloc(), deep)?.as_str(), error);
+    }
     Ok(())
 }

@@ -240,21 +240,18 @@ fn each_number_is_read_up_to_its_limits(rt: HostRuntime) -> Result<(), Fail> {
     Ok(())
 }
 
-/// What a deserializer answers where a lent value is asked for.
-fn lent(alloc: Global) -> Result<[Option<DeError>; 3], Fail> {
+/// Whether a deserializer answers `Unsupported` wherever a lent value is asked for.
+fn lends_nothing(alloc: Global) -> Result<bool, Fail> {
     let mut de = YamlDeserializer::from_str(alloc, "a")?;
-    Ok([
-        de.read_str().err(),
-        de.read_bytes().err(),
-        de.read_byte_buf().err(),
-    ])
+    let text = matches!(de.read_str(), Err(DeError::Unsupported));
+    let bytes = matches!(de.read_bytes(), Err(DeError::Unsupported));
+    let owned = matches!(de.read_byte_buf(), Err(DeError::Unsupported));
+    Ok(text && bytes && owned)
 }
 
 #[test]
 fn lent_values_are_not_supported(rt: HostRuntime) -> Result<(), Fail> {
-    for error in lent(rt.alloc())? {
-        assert_eq!(rt; error, Some(DeError::Unsupported));
-    }
+    assert_eq!(rt; lends_nothing(rt.alloc())?, true);
     Ok(())
 }
 
@@ -279,19 +276,32 @@ fn place_of_more(alloc: Global, text: &str) -> Result<Option<(u64, u64, u64)>, F
     Ok(place_of(de.finish(alloc).err()))
 }
 
+/// The place of the error of a text that is no list of truth values.
+fn list_place(alloc: Global, text: &str) -> Option<(u64, u64, u64)> {
+    place_of(from_str::<Vec<bool>>(alloc, text).err())
+}
+
 #[test]
-fn errors_name_their_places(rt: HostRuntime) -> Result<(), Fail> {
+fn errors_of_lists_name_their_places(rt: HostRuntime) {
+    for (text, place) in [
+        ("- true\n- é\n", (2, 2, 9)),
+        ("- true\n-  [a]\n", (2, 3, 10)),
+        ("- true\n- ]\n", (2, 2, 9)),
+        ("- true\n- &a true\n", (2, 2, 9)),
+    ] {
+        assert_eq!(rt; list_place(rt.alloc(), text), Some(place), "{text:?}");
+    }
+}
+
+/// The place of the real number in a text.
+fn real_place(alloc: Global, text: &str) -> Option<(u64, u64, u64)> {
+    place_of(from_str::<YamlNodeWrapper>(alloc, text).err())
+}
+
+#[test]
+fn other_errors_name_their_places(rt: HostRuntime) -> Result<(), Fail> {
     let alloc = rt.alloc();
-    let scalar = error_of::<Vec<bool>>(alloc, "- true\n- é\n")?;
-    assert_eq!(rt; place_of(scalar), Some((2, 2, 9)));
-    let event = error_of::<Vec<bool>>(alloc, "- true\n-  [a]\n")?;
-    assert_eq!(rt; place_of(event), Some((2, 3, 10)));
-    let real = error_of::<YamlNodeWrapper>(alloc, "é: a\nb: 1.5\n")?;
-    assert_eq!(rt; place_of(real), Some((2, 3, 8)));
-    let form = error_of::<Vec<bool>>(alloc, "- true\n- ]\n")?;
-    assert_eq!(rt; place_of(form), Some((2, 2, 9)));
-    let anchor = error_of::<Vec<bool>>(alloc, "- true\n- &a true\n")?;
-    assert_eq!(rt; place_of(anchor), Some((2, 2, 9)));
+    assert_eq!(rt; real_place(alloc, "é: a\nb: 1.5\n"), Some((2, 3, 8)));
     assert_eq!(rt; place_of_more(alloc, "# c\n- a\n")?, Some((2, 0, 4)));
     Ok(())
 }
