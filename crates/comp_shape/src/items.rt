@@ -13,9 +13,9 @@ use std::alloc::Global;
 /// are slices of `bytes`; nested components are read too, to any depth (`Binary.md`, "Component Definitions").
 ///
 /// `NotCarried` is answered where the first field in reading order that has no form here is of a form that is not
-/// carried, and `Form` where it is of no form at all, each with the place of that field in bytes from the start. At
-/// most 200 scopes are followed at one place: components, and types of components, instances and modules. Where more
-/// are open, `Memory` is answered, so that no bytes exhaust the stack.
+/// carried, and `Form` where it is of no form at all, each with the place of that field in bytes from the start. The id
+/// of a section is its first field. At most 200 scopes are followed at one place: components, and types of components,
+/// instances and modules. Where more are open, `Memory` is answered: each takes some of the machine's stack.
 pub fn read_items(alloc: Global, bytes: &[u8]) -> Result<Vec<Item<'_>>, ShapeError>
     ensures found { IfOk result (λ items. Reads bytes.now (map item_tree items.items)) }
     ensures only { (items : List ItemTree) → Reads bytes.now items
