@@ -30,6 +30,8 @@ use warg_record::{Envelope, PublicKey, Record};
 use warg_values::Memory;
 
 /// What the accepted records of a log say.
+///
+/// A state is not copied: it is made again, by `replay` of copies of its records.
 #[derive(Debug, Drop)]
 pub struct LogState<E> {
     pub(crate) head: Option<Head>,
