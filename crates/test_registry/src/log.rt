@@ -346,8 +346,14 @@ fn the_rules_of_entries_are_checked(rt: HostRuntime) -> Result<(), Fail> {
     let alloc = rt.alloc();
     assert_eq!(rt; second_answer(alloc, grant(alloc)?)?, "accepted");
     assert_eq!(rt; second_answer(alloc, init(alloc, "sha256")?)?, "InitAgain");
-    assert_eq!(rt; second_answer(alloc, release(alloc, "1.1.0")?)?, "ReleaseAgain");
-    assert_eq!(rt; second_answer(alloc, yank(alloc, "2.0.0")?)?, "YankUnreleased");
+    assert_eq!(rt;
+        second_answer(alloc, release(alloc, "1.1.0")?)?,
+        "ReleaseAgain"
+    );
+    assert_eq!(rt;
+        second_answer(alloc, yank(alloc, "2.0.0")?)?,
+        "YankUnreleased"
+    );
     assert_eq!(rt; second_answer(alloc, yank(alloc, "1.1.0")?)?, "YankYanked");
     Ok(())
 }
