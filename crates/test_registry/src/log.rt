@@ -338,7 +338,12 @@ fn the_rules_of_a_record_against_the_head_are_checked(rt: HostRuntime) -> Result
 
 /// What is answered of a record of one entry after the first one, at the same time.
 fn second_answer(alloc: Global, entry: PackageEntry) -> Result<&'static str, Fail> {
-    answer(alloc, second(alloc)?, entry)
+    let prev = Some(RecordId::from_text(alloc, FIRST_ID)?);
+    let draft = Draft {
+        prev,
+        ..Draft::first()
+    };
+    answer(alloc, draft, entry)
 }
 
 #[test]
