@@ -336,21 +336,30 @@ fn the_rules_of_a_record_against_the_head_are_checked(rt: HostRuntime) -> Result
     Ok(())
 }
 
+/// What is answered of a record of one entry after the first one, at the same time.
+fn second_answer(alloc: Global, entry: PackageEntry) -> Result<&'static str, Fail> {
+    let prev = Some(RecordId::from_text(alloc, FIRST_ID)?);
+    let draft = Draft {
+        prev,
+        ..Draft::first()
+    };
+    answer(alloc, draft, entry)
+}
+
 #[test]
 fn the_rules_of_entries_are_checked(rt: HostRuntime) -> Result<(), Fail> {
     let alloc = rt.alloc();
-    let draft = second(alloc)?;
-    assert_eq!(rt; answer(alloc, draft, grant(alloc)?)?, "accepted");
-    assert_eq!(rt; answer(alloc, draft, init(alloc, "sha256")?)?, "InitAgain");
+    assert_eq!(rt; second_answer(alloc, grant(alloc)?)?, "accepted");
+    assert_eq!(rt; second_answer(alloc, init(alloc, "sha256")?)?, "InitAgain");
     assert_eq!(rt;
-        answer(alloc, draft, release(alloc, "1.1.0")?)?,
+        second_answer(alloc, release(alloc, "1.1.0")?)?,
         "ReleaseAgain"
     );
     assert_eq!(rt;
-        answer(alloc, draft, yank(alloc, "2.0.0")?)?,
+        second_answer(alloc, yank(alloc, "2.0.0")?)?,
         "YankUnreleased"
     );
-    assert_eq!(rt; answer(alloc, draft, yank(alloc, "1.1.0")?)?, "YankYanked");
+    assert_eq!(rt; second_answer(alloc, yank(alloc, "1.1.0")?)?, "YankYanked");
     Ok(())
 }
 

@@ -34,3 +34,11 @@ pub fn is_root(alloc: Global, leaves: &[LogLeaf], found: &AnyHash) -> Result<boo
 {
     Ok(log_root(alloc, leaves)? == *found)
 }
+
+/// Writes the bundle that some bytes are: the very bytes.
+pub fn rewritten(alloc: Global, bytes: &[u8]) -> Result<Vec<u8>, ProofFault>
+    ensures { IfOk result (λ again. again.items ≡ bytes.now) }
+{
+    let proofs = LogBundle::decode(alloc, bytes)?;
+    Ok(proofs.encode(alloc)?)
+}

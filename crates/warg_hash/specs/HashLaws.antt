@@ -6,10 +6,10 @@ use Rattle.std.specs.declared.cmp.Ordering.{Ordering}
 use Rattle.std.specs.declared.cmp.Ordering.TheVariants.{Less, Equal, Greater}
 use Rattle.std.specs.Cmp.{nat_cmp_is}
 use Rattle.std.specs.Cmp.Lexicographic.{slice_cmp}
-use Rattle.std.proofs.lemmas.Bool.{and_parts, cases_lt, cases_eq, eqb-true, lt-ltb, le-ltb}
+use Rattle.std.proofs.lemmas.Bool.{and_parts, cases_lt, eqb-true, lt-ltb, le-ltb}
 use Rattle.std.proofs.lemmas.Option.{cond_some, none-some}
 use Rattle.std.proofs.lemmas.Slice.Eq.{bytes_eq-Decides}
-use Rattle.hex.specs.Hex.{IsBytes, decode_sized, encode_lower, encode_with, lower_digits}
+use Rattle.hex.specs.Hex.{IsBytes, decode_sized, encode_with, lower_digits}
 use Rattle.hex.specs.declared.error.FromHexError.{FromHexError}
 use Rattle.hex.proofs.HexLemmas.{length-encode_with, decode_sized-encode_lower, decode_sized-ok, decode_sized-twice, decode_of-ok}
 use Rattle.warg_hash.specs.Hash.{IsDigest, IsHashText, hash_text, digest_with_text, digest_of}

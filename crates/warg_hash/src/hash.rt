@@ -15,7 +15,8 @@ use warg_values::{Memory, Text};
 
 /// A SHA-256 digest (FIPS 180-4), written as `sha256:` and 64 lower-case hex digits.
 ///
-/// A clause sees a hash as its 32 bytes, by which hashes are equal, are ordered and hash. Their texts are ordered alike.
+/// A clause sees a hash as its 32 bytes, by which hashes are equal, are ordered and hash. Their texts are ordered
+/// alike.
 #[derive(Clone, Copy, Debug, PartialEq, Eq, PartialOrd, Ord, Hash)]
 pub struct AnyHash {
     digest: [u8; 32],

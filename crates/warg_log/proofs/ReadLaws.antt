@@ -2,7 +2,7 @@
 use Rattle.std.proofs.Common.{◌≡◌, ◌<◌, ◌^◌, ◌++◌, ℕ, List, [], ◌∷◌, length, map, refl, sym, ap, subst, ◌∙◌}
 use Rattle.warg_record.specs.Envelope.{Signed, IsMessageOf}
 use Rattle.warg_record.specs.Record.{Kind, PlainRecord}
-use Rattle.warg_log.specs.Lawful.{IsRead, AreRead}
+use Rattle.warg_log.specs.Lawful.{AreRead}
 use Rattle.warg_log.specs.Rules.{entries_of}
 
 -- contents are the message of one record at most

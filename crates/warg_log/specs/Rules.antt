@@ -5,7 +5,7 @@ use Rattle.std.specs.List.{flat_map}
 use Rattle.warg_values.specs.declared.moment.Moment.{Moment}
 use Rattle.semver.specs.Parse.{Parts}
 use Rattle.sha2.specs.Sha256.{sha256}
-use Rattle.warg_record.specs.Record.{Kind, Package, Operator, PlainEntry, Init, GrantFlat, RevokeFlat, Release, Yank, DefineNamespace, ImportNamespace, PlainRecord}
+use Rattle.warg_record.specs.Record.{Kind, Package, Operator, PlainEntry, Init, GrantFlat, RevokeFlat, Release, Yank, DefineNamespace, ImportNamespace}
 use Rattle.warg_record.specs.Envelope.{Signed}
 use Rattle.warg_log.specs.declared.head.Head.{Head}
 use Rattle.warg_log.specs.History.{key_with, has_id, holds, is_released, is_yanked, namespace_of, last_or}

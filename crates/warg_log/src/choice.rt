@@ -102,7 +102,8 @@ fn better<'a, T: ReleaseTest>(
     release: &'a Release,
 ) -> Option<&'a Release>
     ensures { option_map release_view (option_copied result)
-        ≡ better_of (T.passing test.now) (option_map release_view (option_copied best.entry)) (release_view release.now) }
+        ≡ better_of (T.passing test.now) (option_map release_view (option_copied best.entry))
+        (release_view release.now) }
 {
     if !test.passes(release) {
         return best;

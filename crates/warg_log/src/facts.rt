@@ -192,7 +192,8 @@ impl Facts {
 
     /// A version that is yanked.
     pub fn enter_yank(&mut self, signer: &KeyId, version: &Version) -> Result<Undo, ValidationError>
-        ensures ok { OnOk result (known_breach signer.now false (known_by self.old) (Yank (parts_of version.now)) ≡ None) }
+        ensures ok { OnOk result (known_breach signer.now false (known_by self.old) (Yank (parts_of version.now))
+            ≡ None) }
         ensures after { OnOk result (known_by self.new ≡ yanked_in (parts_of version.now) (known_by self.old)) }
         ensures undo { IfOk result (λ u. undone u (known_by self.new) ≡ known_by self.old) }
         ensures can { IfOk result (λ u. CanUndo u (known_by self.new)) }

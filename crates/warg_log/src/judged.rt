@@ -156,9 +156,10 @@ fn enter_each<E: JudgedEntry>(
     undos: &mut Vec<Undo>,
 ) -> Result<(), ValidationError>
     requires { CanUndoAll undos.old.items (known_by facts.old) }
-    ensures ok { OnOk result (known_entries_breach E.kind signer.now opens (known_by facts.old) (map E.plain entries.now)
-        ≡ None) }
-    ensures after { OnOk result (known_by facts.new ≡ known_steps E.kind (known_by facts.old) (map E.plain entries.now)) }
+    ensures ok { OnOk result (known_entries_breach E.kind signer.now opens (known_by facts.old)
+        (map E.plain entries.now) ≡ None) }
+    ensures after { OnOk result (known_by facts.new
+        ≡ known_steps E.kind (known_by facts.old) (map E.plain entries.now)) }
     ensures err { IfErr result (λ e. IsBreach e (known_entries_breach E.kind signer.now opens (known_by facts.old)
         (map E.plain entries.now))) }
     ensures undo { undone_all undos.new.items (known_by facts.new) ≡ undone_all undos.old.items (known_by facts.old) }
@@ -184,9 +185,10 @@ pub fn enter_all<E: JudgedEntry>(
     opens: bool,
     entries: &[E],
 ) -> Result<(), ValidationError>
-    ensures ok { OnOk result (known_entries_breach E.kind signer.now opens (known_by facts.old) (map E.plain entries.now)
-        ≡ None) }
-    ensures after { OnOk result (known_by facts.new ≡ known_steps E.kind (known_by facts.old) (map E.plain entries.now)) }
+    ensures ok { OnOk result (known_entries_breach E.kind signer.now opens (known_by facts.old)
+        (map E.plain entries.now) ≡ None) }
+    ensures after { OnOk result (known_by facts.new
+        ≡ known_steps E.kind (known_by facts.old) (map E.plain entries.now)) }
     ensures err { IfErr result (λ e. IsBreach e (known_entries_breach E.kind signer.now opens (known_by facts.old)
         (map E.plain entries.now))) }
     ensures same { OnErr result (known_by facts.new ≡ known_by facts.old) }

@@ -30,6 +30,8 @@ use warg_record::{Envelope, PublicKey, Record};
 use warg_values::Memory;
 
 /// What the accepted records of a log say.
+///
+/// A state is not copied: it is made again, by `replay` of copies of its records.
 #[derive(Debug, Drop)]
 pub struct LogState<E> {
     pub(crate) head: Option<Head>,
@@ -42,7 +44,8 @@ fn check_head<E: JudgedEntry>(
     head: &Option<Head>,
     env: &Envelope<Record<E>>,
 ) -> Result<(), ValidationError>
-    ensures ok { OnOk result ((next : Option Breach) → head_rules head.now (envelope_view E.plain env.now) next ≡ next) }
+    ensures ok { OnOk result ((next : Option Breach) → head_rules head.now (envelope_view E.plain env.now) next
+        ≡ next) }
     ensures err { IfErr result (λ e. (next : Option Breach)
         → IsBreach e (head_rules head.now (envelope_view E.plain env.now) next)) }
 {
@@ -83,7 +86,8 @@ fn signer_of<'a, E: JudgedEntry>(
     env: &'a Envelope<Record<E>>,
 ) -> Result<&'a PublicKey, ValidationError>
     ensures lacks { IfOk result (λ key. lacks_opening head.now (envelope_view E.plain env.now) ≡ false) }
-    ensures key { IfOk result (λ key. signer_by head.now (known_by facts.now) (envelope_view E.plain env.now) ≡ Some key.now) }
+    ensures key { IfOk result (λ key. signer_by head.now (known_by facts.now) (envelope_view E.plain env.now)
+        ≡ Some key.now) }
     ensures err { IfErr result (λ e. (accepts : Accepts)
         → IsBreach e (broken (lacks_opening head.now (envelope_view E.plain env.now)) FirstEntryNotInit
         (signature_breach E.kind accepts (envelope_view E.plain env.now) (signer_by head.now (known_by facts.now)

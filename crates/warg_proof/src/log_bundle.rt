@@ -1,6 +1,6 @@
 //! Bundles of proofs over a log.
 
-ghost use Rattle.std.specs.Prelude.{◌≡◌, ◌≢◌, ◌↔◌, ◌⊎◌, ◌<◌, List, ℕ, length, IfOk, IfErr, IsOk, IsSome, IsSomeAnd, Err, None, MatchResult};
+ghost use Rattle.std.specs.Prelude.{◌≡◌, ◌≢◌, ◌↔◌, ◌⊎◌, ◌<◌, ◌^◌, List, ℕ, length, IfOk, IfErr, IsOk, IsSome, IsSomeAnd, Err, None, MatchResult};
 ghost use Rattle.warg_proof.specs.LogProofs.{LogProofs, bundle_of, IsOfOtherLength, IsOfOtherLeaf, log_text, IsLogBundle, numbered as numbered_proof, only_one as only_proof, asked_inclusion, inclusion_path, AsksInclusion, ProvesInclusion, asked_consistency, consistency_hashes, AsksConsistency, ProvesConsistency, IsOtherRoot};
 ghost use Rattle.warg_proof.specs.Reading.{GivesOrForm, log_at, log_rest_at};
 ghost use Rattle.warg_proof.specs.Judging.{inclusion_verdict, consistency_verdict};
@@ -115,6 +115,27 @@ impl LogBundle {
         push_counted(&mut bytes, self.nodes.as_slice())?;
         push_counted(&mut bytes, self.consistencies.as_slice())?;
         push_counted(&mut bytes, self.inclusions.as_slice())?;
+        Ok(bytes)
+    }
+
+    /// The bytes of a bundle of these nodes, consistencies and inclusions, which `decode` reads where the nodes ascend.
+    pub fn write(
+        alloc: Global,
+        nodes: &[Node],
+        consistencies: &[Consistency],
+        inclusions: &[Inclusion],
+    ) -> Result<Vec<u8>, Memory>
+        requires few_nodes { length nodes.now < 2 ^ 32 }
+        requires few_consistencies { length consistencies.now < 2 ^ 32 }
+        requires few_inclusions { length inclusions.now < 2 ^ 32 }
+        ensures { IfOk result (λ bytes.
+            bytes.items ≡ log_text (bundle_of nodes.now consistencies.now inclusions.now)) }
+    {
+        let mut bytes = Vec::new(alloc);
+        bytes.push(0)?;
+        push_counted(&mut bytes, nodes)?;
+        push_counted(&mut bytes, consistencies)?;
+        push_counted(&mut bytes, inclusions)?;
         Ok(bytes)
     }
 

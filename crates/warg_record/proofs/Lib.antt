@@ -7,3 +7,4 @@ pub mod WireLaws
 pub mod FieldsLaws
 pub mod EntryLaws
 pub mod RecordLaws
+pub mod ValidLaws

@@ -10,6 +10,7 @@ pub mod laws;
 pub mod operator;
 pub mod package;
 mod record;
+mod version;
 mod wire;
 mod writing;
 
@@ -20,3 +21,4 @@ pub use key::{PublicKey, Signature};
 pub use operator::OperatorEntry;
 pub use package::PackageEntry;
 pub use record::{OperatorRecord, PackageRecord, Record};
+pub use version::is_valid_version;

@@ -107,7 +107,8 @@ fn each_entry<E: LogEntry>(alloc: Global, bytes: &[u8]) -> Result<Vec<E>, Envelo
 /// One entry or more.
 #[tactic(auto, unfolding(crate::specs::Reading::some_fields))]
 fn some_entries<E: LogEntry>(alloc: Global, bytes: &[u8]) -> Result<Vec<E>, EnvelopeError>
-    ensures { GivesOrForm (λ es. map E.plain es.items) result (reading.some_fields (reading.entry_at E.kind) 4 bytes.now) }
+    ensures { GivesOrForm (λ es. map E.plain es.items) result
+        (reading.some_fields (reading.entry_at E.kind) 4 bytes.now) }
 {
     if bytes.is_empty() {
         return Err(EnvelopeError::Form);

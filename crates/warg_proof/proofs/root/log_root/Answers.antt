@@ -1,4 +1,4 @@
-use Rattle.std.proofs.Common.{List, ℕ, arith, sym, ap, ◌∙◌}
+use Rattle.std.proofs.Common.{arith, ap, ◌∙◌}
 use Rattle.warg_proof.specs.HashedTree.{hashed_within}
 use Rattle.warg_proof.proofs.HashedLaws.{hashed-leaves}
 use Rattle.warg_proof.proofs.root.log_root.Goals as goal

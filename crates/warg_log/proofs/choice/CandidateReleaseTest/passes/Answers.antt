@@ -1,4 +1,4 @@
-use Rattle.std.proofs.Common.{Some, map, refl, ◌∙◌}
+use Rattle.std.proofs.Common.{Some, refl, ◌∙◌}
 use Rattle.semver.proofs.EvalViews.{matches_all-views}
 use Rattle.semver.specs.Identifiers.{parts_of}
 use Rattle.warg_log.proofs.choice.CandidateReleaseTest.passes.Goals as goal

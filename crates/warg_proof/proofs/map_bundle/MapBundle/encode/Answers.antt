@@ -1,6 +1,6 @@
-use Rattle.std.proofs.Common.{◌∷◌, ◌++◌, [], ℕ, List, map, ap, ◌∙◌}
+use Rattle.std.proofs.Common.{◌∷◌, ◌++◌, [], ℕ, List, ap, ◌∙◌}
 use Rattle.warg_proof.specs.LogProofs.{counted}
-use Rattle.warg_proof.specs.MapProofs.{MapPath, path_text, map_text}
+use Rattle.warg_proof.specs.MapProofs.{path_text, map_text}
 use Rattle.warg_proof.specs.declared.map_bundle.SiblingPath.{SiblingPath}
 use Rattle.warg_proof.proofs.MapVerdicts.{seen}
 use Rattle.warg_proof.proofs.WrittenLaws.{counted_seen}
