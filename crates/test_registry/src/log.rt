@@ -214,6 +214,39 @@ fn the_greatest_open_release_is_chosen(rt: HostRuntime) -> Result<(), Fail> {
     Ok(())
 }
 
+/// The release of 1.0.0, 1.0.0+1 and 1.1.0 that has this version and the digest of this version's text, where they are
+/// given; empty where there is none.
+fn found(alloc: Global, exact: Option<&str>, content: Option<&str>) -> Result<String, Fail> {
+    let mut state = LogState::new(alloc);
+    let first = record_of(alloc, &["1.0.0", "1.0.0+1", "1.1.0"], &[])?;
+    state.validate(alloc, &EverySignature, &first)?;
+    let any = VersionReq::parse(alloc, "*")?;
+    let exact = match exact {
+        Some(text) => Some(Version::parse(alloc, text)?),
+        None => None,
+    };
+    let digest = content.map(|text| AnyHash::sha256_of(text.as_bytes()));
+    match state.find_release(&any, exact.as_ref(), digest.as_ref()) {
+        Some(found) => Ok(format!(in alloc; "{}", found.version)?),
+        None => Ok(String::new(alloc)),
+    }
+}
+
+#[test]
+fn a_release_is_found_by_its_version_and_its_digest(rt: HostRuntime) -> Result<(), Fail> {
+    for (exact, content, version) in [
+        (None, None, "1.1.0"),
+        (Some("1.0.0"), None, "1.0.0"),
+        (Some("1.0.0+1"), None, "1.0.0+1"),
+        (None, Some("1.0.0"), "1.0.0"),
+        (Some("1.0.0"), Some("1.0.0+1"), ""),
+        (Some("1.2.0"), None, ""),
+    ] {
+        assert_eq!(rt; found(rt.alloc(), exact, content)?.as_str(), version);
+    }
+    Ok(())
+}
+
 /// The name of an error.
 fn name_of(error: &ValidationError) -> &'static str {
     match error {

@@ -5,7 +5,7 @@ use sha2::{Digest, Sha256};
 use std::alloc::Global;
 use std::test::Fail;
 use warg_hash::{AnyHash, LogId, PackageName, RecordId};
-use warg_proof::{LogBundle, LogLeaf, MapBundle, MapLeaf, ProofFault};
+use warg_proof::{LogBundle, LogLeaf, MapBundle, MapLeaf, ProofFault, log_root};
 
 /// The entries of the reference tree.
 const ENTRIES: [&[u8]; 8] = [
@@ -364,5 +364,65 @@ fn an_entry_of_the_log_is_written_with_both_ids(rt: HostRuntime) -> Result<(), F
         sha256:0db9178aabc877b42f03a038bf453ee53f08e3c8c55fab916043428078596bfb:\
         sha256:e00d4616051cce59f50090fafabb0d9b5172e50b72037a7a85c603b117257648"
     );
+    Ok(())
+}
+
+/// Whether a log bundle and a map bundle are written again as they were read.
+fn are_written_again(alloc: Global) -> Result<(bool, bool), Fail> {
+    let bytes = bundle(alloc, &INCLUSION, &[], &[(7, 0), (7, 1)])?;
+    let log = LogBundle::decode(alloc, &bytes)?.encode(alloc)?;
+    let map = map_bundle(alloc)?.encode(alloc)?;
+    let again = MapBundle::decode(alloc, &map)?.encode(alloc)?;
+    Ok((
+        log.as_slice() == bytes.as_slice(),
+        map.len() == 133 && again.as_slice() == map.as_slice(),
+    ))
+}
+
+#[test]
+fn bundles_are_written_as_they_were_read(rt: HostRuntime) -> Result<(), Fail> {
+    assert_eq!(rt; are_written_again(rt.alloc())?, (true, true));
+    Ok(())
+}
+
+/// The roots of logs whose records are of the texts `record 0` and so on, by their length.
+const LOG_ROOTS: [&str; 6] = [
+    "sha256:e3b0c44298fc1c149afbf4c8996fb92427ae41e4649b934ca495991b7852b855",
+    "sha256:156c5b694f309bba6e42780262a65fab90b8d344396be326790c051a5562504d",
+    "sha256:2a371a2b6987ace493dfe0a9ec422849d9f2c34b38e1bfc1aca03a1ea2a2301e",
+    "sha256:ba054ed16f65512750c23ec9a3d09f30af34ef46d92c3755750aff80c027a33f",
+    "sha256:53a19563df9e7f48a0c1c9700a6f55665ccaf0292220335a5e121fead10f38cf",
+    "sha256:91b369e84e12682fb7c3baf213919d799f8c9d8ad2310ca5e498bcee2a63fa91",
+];
+
+/// The text of the root of a log of the first records.
+fn root_text(alloc: Global, records: &[&str]) -> Result<String, Fail> {
+    let mut leaves = Vec::new(alloc);
+    for record in records {
+        leaves.push(LogLeaf {
+            log_id: LogId::operator_log(),
+            record_id: RecordId::of(record.as_bytes()),
+        })?;
+    }
+    Ok(format!(in alloc; "{}", log_root(alloc, &leaves)?)?)
+}
+
+#[test]
+fn roots_of_logs_are_those_of_another_program(rt: HostRuntime) -> Result<(), Fail> {
+    let alloc = rt.alloc();
+    assert_eq!(rt; root_text(alloc, &[])?.as_str(), LOG_ROOTS[0]);
+    assert_eq!(rt; root_text(alloc, &["record 0"])?.as_str(), LOG_ROOTS[1]);
+    assert_eq!(rt;
+        root_text(alloc, &["record 0", "record 1"])?.as_str(),
+        LOG_ROOTS[2]
+    );
+    assert_eq!(rt;
+        root_text(alloc, &["record 0", "record 1", "record 2"])?.as_str(),
+        LOG_ROOTS[3]
+    );
+    let four = ["record 0", "record 1", "record 2", "record 3"];
+    assert_eq!(rt; root_text(alloc, &four)?.as_str(), LOG_ROOTS[4]);
+    let five = ["record 0", "record 1", "record 2", "record 3", "record 4"];
+    assert_eq!(rt; root_text(alloc, &five)?.as_str(), LOG_ROOTS[5]);
     Ok(())
 }

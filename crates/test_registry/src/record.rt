@@ -172,6 +172,25 @@ fn keys_and_signatures_are_a_kind_and_canonical_base64(rt: HostRuntime) -> Resul
     Ok(())
 }
 
+/// What is written of a copy of an envelope's record, and the text of the copy's signature.
+fn copied<E: LogEntry>(alloc: Global, contents: &[u8]) -> Result<(Vec<u8>, Signature), Fail> {
+    let env: Envelope<Record<E>> = Envelope::read(alloc, contents, ID, "k:BA==")?;
+    let copy = env.try_clone(alloc)?;
+    Ok((Envelope::write(alloc, &copy.rec)?, copy.signature))
+}
+
+#[test]
+fn envelopes_are_copied_whole(rt: HostRuntime) -> Result<(), Fail> {
+    let (first, signature) = copied::<PackageEntry>(rt.alloc(), FIRST)?;
+    assert_eq!(rt; first.as_slice(), FIRST);
+    assert_eq!(rt; signature.as_str(), "k:BA==");
+    let (later, _) = copied::<PackageEntry>(rt.alloc(), RELEASE_AND_YANK)?;
+    assert_eq!(rt; later.as_slice(), RELEASE_AND_YANK);
+    let (operator, _) = copied::<OperatorEntry>(rt.alloc(), KEYS_AND_NAMESPACES)?;
+    assert_eq!(rt; operator.as_slice(), KEYS_AND_NAMESPACES);
+    Ok(())
+}
+
 /// A copy of a key.
 fn copy_of(alloc: Global, text: &str) -> Result<PublicKey, Fail> {
     Ok(PublicKey::new(alloc, text)?.try_clone(alloc)?)

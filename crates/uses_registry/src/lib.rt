@@ -1,0 +1,8 @@
+//! Callers of the registry's crates, each proved from the crates' public contracts alone.
+#![tactic(auto)]
+
+pub mod hash;
+pub mod log;
+pub mod proof;
+pub mod record;
+pub mod values;
