@@ -1,0 +1,6 @@
+pub mod Cut
+pub mod Grammar
+pub mod Import
+pub mod Mark
+pub mod Texts
+pub mod View
