@@ -3,4 +3,5 @@ pub mod Grammar
 pub mod Import
 pub mod Mark
 pub mod Texts
+pub mod Tree
 pub mod View

@@ -1,5 +1,5 @@
 -- Texts of locked packages, of requirements, and of the nodes of a tree.
-use Rattle.std.specs.Prelude.{ℕ, List, [], ◌∷◌, ◌++◌, codes, map, Option, Some, None}
+use Rattle.std.specs.Prelude.{ℕ, Bool, true, false, if◌then◌else◌, List, [], ◌∷◌, ◌++◌, codes, Option, Some, None}
 use Rattle.std.specs.Fmt.{decimal}
 use Rattle.semver.specs.Parse.{Parts, Held}
 use Rattle.semver.specs.Identifiers.{parts_text}
@@ -62,11 +62,15 @@ abbrev pub versioned_text : List ℕ → List Held → List ℕ
 versioned_text name [] = name
 versioned_text name (c ∷ cs) = versioned_name name (braced (c ∷ cs))
 
+abbrev pub is_exact : Op → Bool
+is_exact op.Exact = true
+is_exact _ = false
+
 -- a requirement: a star where any release meets it, the comparator where it is one version, and else comparators in braces
 abbrev pub requirement_text : List Held → List ℕ
 requirement_text [] = codes "*"
-requirement_text ((op.Exact, rest) ∷ []) = comparator_text (op.Exact, rest)
-requirement_text (c ∷ cs) = braced (c ∷ cs)
+requirement_text (c ∷ []) = if is_exact c.0 then comparator_text c else braced (c ∷ [])
+requirement_text (c ∷ d ∷ cs) = braced (c ∷ d ∷ cs)
 
 -- ---- a name without its kind
 

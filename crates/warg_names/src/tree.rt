@@ -3,6 +3,7 @@
 ghost use Rattle.std.specs.Prelude.{◌≡◌, ◌++◌, [], codes, string_bytes, IfOk};
 ghost use Rattle.semver.specs.Identifiers.{version_text};
 ghost use Rattle.warg_names.specs.Texts.{versioned_name};
+ghost use Rattle.warg_names.specs.Tree.{Node, tree_view};
 
 use semver::Version;
 use std::alloc::Global;
@@ -20,8 +21,7 @@ pub struct TreeBuilder {
 impl TreeBuilder {
     /// A node with nothing below it.
     fn leaf(alloc: Global, text: String) -> Self
-        ensures text { result.text ≡ string_bytes text }
-        ensures children { result.children.items ≡ [] }
+        ensures { tree_view result ≡ Node (string_bytes text) [] }
     {
         TreeBuilder {
             text: Text::new(text),
@@ -37,9 +37,8 @@ pub fn new_tree(
     name: &str,
     version: &Version,
 ) -> Result<TreeBuilder, Memory>
-    ensures text { IfOk result (λ tree. tree.text
-        ≡ namespace.now ++ (codes ":" ++ versioned_name name.now (version_text version.now))) }
-    ensures children { IfOk result (λ tree. tree.children.items ≡ []) }
+    ensures { IfOk result (λ tree. tree_view tree
+        ≡ Node (namespace.now ++ (codes ":" ++ versioned_name name.now (version_text version.now))) []) }
 {
     let text = format!(in alloc; "{namespace}:{name}@{version}")?;
     Ok(TreeBuilder::leaf(alloc, text))
