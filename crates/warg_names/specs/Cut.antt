@@ -1,5 +1,6 @@
 -- Cuts of texts: behind a front, at a byte, before an end.
-use Rattle.std.specs.Prelude.{◌≡◌, ℕ, ◌==◌, ◌&&◌, not, Bool, true, if◌then◌else◌, List, [], ◌∷◌, length, Option, Some, None, option_map, option_and_then}
+use Rattle.std.specs.Prelude.{ℕ, ◌==◌, not, Bool, if◌then◌else◌, List, [], ◌∷◌, length, Option, Some, None, option_map, option_and_then}
+use Rattle.std.specs.List.{list_all}
 use Rattle.std.specs.Option.{option_or}
 
 -- whether a list is empty
@@ -7,9 +8,8 @@ abbrev pub is_empty : List ℕ → Bool
 is_empty text = length text == 0
 
 -- whether no byte of a text is c
-unfoldable pub lacks : ℕ → List ℕ → Bool
-lacks c [] = true
-lacks c (b ∷ text) = not (b == c) && lacks c text
+abbrev pub lacks : ℕ → List ℕ → Bool
+lacks c text = list_all (λ b. not (b == c)) text
 
 -- what stands behind a front, where the text begins with it
 unfoldable pub behind : List ℕ → List ℕ → Option (List ℕ)

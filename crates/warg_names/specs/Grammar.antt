@@ -9,14 +9,17 @@ use Rattle.warg_hash.specs.Name.{IsPackageName}
 use Rattle.warg_names.specs.Cut.{lacks}
 use Rattle.warg_names.specs.Import.{ImportTree, compared, dependency, locked, interface, unlocked_mark, locked_mark, at_sign, angle}
 
--- Which releases of a package a dependency asks for: any, without or with a star; those from a version on; those below
--- one; or both.
+-- Bounds of versions: those from one on, those below one, or both.
+pub data Bounds : Type 0 where
+  From : Parts → Bounds
+  Below : Parts → Bounds
+  Between : Parts → Parts → Bounds
+
+-- Which releases of a package a dependency asks for: any, without or with a star, or those within bounds.
 pub data Range : Type 0 where
   Plain : Range
   Star : Range
-  From : Parts → Range
-  Below : Parts → Range
-  Between : Parts → Parts → Range
+  Within : Bounds → Range
 
 -- A name: a dependency on a package, a locked release with its version and its integrity, or an interface with its version.
 pub data ImportName : Type 0 where
@@ -26,12 +29,15 @@ pub data ImportName : Type 0 where
 
 -- ---- how it is written
 
+abbrev pub bounds_text : Bounds → List ℕ
+bounds_text (From low) = codes ">=" ++ parts_text low
+bounds_text (Below high) = codes "<" ++ parts_text high
+bounds_text (Between low high) = (codes ">=" ++ parts_text low) ++ (codes " <" ++ parts_text high)
+
 abbrev pub range_text : Range → List ℕ
 range_text Plain = []
 range_text Star = codes "@*"
-range_text (From low) = codes "@{>=" ++ (parts_text low ++ codes "}")
-range_text (Below high) = codes "@{<" ++ (parts_text high ++ codes "}")
-range_text (Between low high) = codes "@{>=" ++ (parts_text low ++ (codes " <" ++ (parts_text high ++ codes "}")))
+range_text (Within bounds) = codes "@{" ++ (bounds_text bounds ++ codes "}")
 
 -- a version behind an `@`, where there is one
 abbrev pub version_part : Option Parts → List ℕ
@@ -50,12 +56,15 @@ name_text (InterfaceName name version) = name ++ version_part version
 
 -- ---- what it is
 
+abbrev pub AreBounds : Bounds → Type 0
+AreBounds (From low) = IsValid low
+AreBounds (Below high) = IsValid high
+AreBounds (Between low high) = IsValid low × IsValid high
+
 abbrev pub IsRange : Range → Type 0
 IsRange Plain = ⊤
 IsRange Star = ⊤
-IsRange (From low) = IsValid low
-IsRange (Below high) = IsValid high
-IsRange (Between low high) = IsValid low × IsValid high
+IsRange (Within bounds) = AreBounds bounds
 
 -- a text that is not empty and holds no `>`
 abbrev pub IsIntegrity : List ℕ → Type 0
@@ -75,13 +84,16 @@ IsImportName (InterfaceName name version) = (lacks at_sign name ≡ true) × IfS
 
 -- ---- what it asks for
 
--- what a range requires. Build metadata is no part of it.
+-- what bounds require. Build metadata is no part of it.
+abbrev pub bounds_requirement : Bounds → List Held
+bounds_requirement (From low) = compared GreaterEq low ∷ []
+bounds_requirement (Below high) = compared Less high ∷ []
+bounds_requirement (Between low high) = compared GreaterEq low ∷ compared Less high ∷ []
+
 abbrev pub range_requirement : Range → List Held
 range_requirement Plain = []
 range_requirement Star = []
-range_requirement (From low) = compared GreaterEq low ∷ []
-range_requirement (Below high) = compared Less high ∷ []
-range_requirement (Between low high) = compared GreaterEq low ∷ compared Less high ∷ []
+range_requirement (Within bounds) = bounds_requirement bounds
 
 abbrev pub asked : ImportName → ImportTree
 asked (DependencyName package range) = dependency (range_requirement range) package

@@ -127,12 +127,12 @@ release_at text (Some cut) = option_and_then (λ name. option_map (λ version. (
 unfoldable pub release_of : List ℕ → Option (List ℕ × Option Parts)
 release_of text = release_at text (cut_first at_sign text)
 
--- what stands behind `locked-dep=<`
 abbrev pub locked_at : List ℕ × List ℕ → Option ImportTree
 locked_at cut = option_and_then (λ release. option_map (locked release.0 release.1) (integrity_of cut.1)) (release_of cut.0)
 
+-- what stands behind `locked-dep=`
 unfoldable pub locked_of : List ℕ → Option ImportTree
-locked_of text = option_and_then locked_at (cut_first angle text)
+locked_of text = option_and_then locked_at (option_and_then (cut_first angle) (behind (codes "<") text))
 
 -- an interface: its version, where it has one, is required
 abbrev pub interface : List ℕ → List Held → Option (List ℕ) → ImportTree
@@ -150,14 +150,21 @@ interface_of text = interface_at text (cut_first at_sign text)
 unfoldable pub unlocked_of : List ℕ → Option ImportTree
 unlocked_of text = option_and_then dependency_of (option_and_then (closed_by angle) (behind (codes "<") text))
 
-abbrev unless_unlocked : Option (List ℕ) → Option (List ℕ) → List ℕ → Option ImportTree
-unless_unlocked (Some rest) locked_rest text = unlocked_of rest
-unless_unlocked None (Some rest) text = option_and_then locked_of (behind (codes "<") rest)
-unless_unlocked None None text = interface_of text
+abbrev pub other_at : List ℕ → Option (List ℕ) → Option ImportTree
+other_at text None = interface_of text
+other_at text (Some rest) = locked_of rest
+
+-- a name that does not begin with `unlocked-dep=`: `locked-dep=<..>`, or that of an interface
+unfoldable pub other_of : List ℕ → Option ImportTree
+other_of text = other_at text (behind locked_mark text)
+
+abbrev pub import_at : List ℕ → Option (List ℕ) → Option ImportTree
+import_at text None = other_of text
+import_at text (Some rest) = unlocked_of rest
 
 -- The import that a name asks for: `unlocked-dep=<..>`, `locked-dep=<..>`, or any other name that begins with neither mark.
 unfoldable pub import_of : List ℕ → Option ImportTree
-import_of text = unless_unlocked (behind unlocked_mark text) (behind locked_mark text) text
+import_of text = import_at text (behind unlocked_mark text)
 
 -- what a text asks for as the inside of `unlocked-dep=<>`
 abbrev pub dependency_import : List ℕ → Option ImportTree

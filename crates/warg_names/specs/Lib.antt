@@ -1,4 +1,5 @@
 pub mod Cut
+pub mod CutLaws
 pub mod Grammar
 pub mod Import
 pub mod Mark

@@ -3,6 +3,7 @@
 ghost use Rattle.std.specs.Prelude.{◌≡◌, ◌∷◌, [], IfOk, option_map, option_copied};
 ghost use Rattle.semver.specs.Identifiers.{comparator_view, parts_of};
 ghost use Rattle.semver.specs.declared.Op.TheVariants.{Exact};
+ghost use Rattle.warg_hash.specs.Name.{is_package_name};
 ghost use Rattle.warg_names.specs.Import as spec;
 ghost use Rattle.warg_names.specs.View.{import_tree, requirement_view};
 
@@ -25,16 +26,26 @@ fn version_of(alloc: Global, text: &str) -> Result<Option<Version>, Memory>
     }
 }
 
+/// Whether a text is the name of a package.
+fn is_package_name(alloc: Global, text: &str) -> Result<bool, Memory>
+    ensures { IfOk result (λ is. is ≡ is_package_name text.now) }
+{
+    match PackageName::new(alloc, text) {
+        Ok(_) => Ok(true),
+        Err(NameError::Form) => Ok(false),
+        Err(NameError::Memory) => Err(Memory),
+    }
+}
+
 /// The name of a package that a text is.
 #[tactic(auto, unfolding(crate::specs::Import::package_of))]
 fn package_of(alloc: Global, text: &str) -> Result<Option<Text>, Memory>
     ensures { IfOk result (λ name. name ≡ spec.package_of text.now) }
 {
-    match PackageName::new(alloc, text) {
-        Ok(_) => Ok(Some(Text::copy_of(alloc, text)?)),
-        Err(NameError::Form) => Ok(None),
-        Err(NameError::Memory) => Err(Memory),
+    if !is_package_name(alloc, text)? {
+        return Ok(None);
     }
+    Ok(Some(Text::copy_of(alloc, text)?))
 }
 
 /// A comparator with a whole version, without its build metadata.
@@ -237,11 +248,14 @@ fn exactly(alloc: Global, version: &Version) -> Result<VersionReq, Memory>
     requirement_of_one(alloc, compared(Op::Exact, version.clone()?))
 }
 
-/// What stands behind `locked-dep=<`.
+/// What stands behind `locked-dep=`.
 #[tactic(auto, unfolding(crate::specs::Import::locked_of))]
 fn locked_of(alloc: Global, text: &str) -> Result<Option<Import>, Memory>
     ensures { IfOk result (λ import. option_map import_tree import ≡ spec.locked_of text.now) }
 {
+    let Some(text) = behind("<", text) else {
+        return Ok(None);
+    };
     let Some((release, rest)) = cut_first(text, '>') else {
         return Ok(None);
     };
@@ -294,16 +308,21 @@ fn interface_of(alloc: Global, text: &str) -> Result<Option<Import>, Memory>
 pub fn import_of(alloc: Global, text: &str) -> Result<Option<Import>, Memory>
     ensures { IfOk result (λ import. option_map import_tree import ≡ spec.import_of text.now) }
 {
-    if let Some(rest) = behind("unlocked-dep=", text) {
-        return unlocked_of(alloc, rest);
+    match behind("unlocked-dep=", text) {
+        Some(rest) => unlocked_of(alloc, rest),
+        None => other_of(alloc, text),
     }
-    if let Some(rest) = behind("locked-dep=", text) {
-        return match behind("<", rest) {
-            Some(rest) => locked_of(alloc, rest),
-            None => Ok(None),
-        };
+}
+
+/// What a name asks for that does not begin with `unlocked-dep=`.
+#[tactic(auto, unfolding(crate::specs::Import::other_of))]
+fn other_of(alloc: Global, text: &str) -> Result<Option<Import>, Memory>
+    ensures { IfOk result (λ import. option_map import_tree import ≡ spec.other_of text.now) }
+{
+    match behind("locked-dep=", text) {
+        Some(rest) => locked_of(alloc, rest),
+        None => interface_of(alloc, text),
     }
-    interface_of(alloc, text)
 }
 
 /// What stands behind `unlocked-dep=`.

@@ -1,4 +1,4 @@
-use Rattle.warg_names.proofs.CutLaws.{is_behind}
+use Rattle.warg_names.proofs.StdCuts.{is_behind}
 use Rattle.warg_names.proofs.cut.behind.Goals as goal
 
 pub returns : goal.returns

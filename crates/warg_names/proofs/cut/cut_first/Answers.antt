@@ -1,4 +1,4 @@
-use Rattle.warg_names.proofs.CutLaws.{is_cut_first}
+use Rattle.warg_names.proofs.StdCuts.{is_cut_first}
 use Rattle.warg_names.proofs.cut.cut_first.Goals as goal
 
 pub returns : goal.returns
