@@ -1,1 +1,2 @@
 mod StdCuts
+mod TextLaws

@@ -1,5 +1,5 @@
 -- What is known of cuts: they part a text, and give what a text was put together of.
-use Rattle.std.proofs.Common.{◌≡◌, ℕ, ◌==◌, not, Bool, true, false, cond, List, [], ◌∷◌, ◌++◌, length, Option, Some, None, refl, sym, ap, ◌∙◌, inl, inr}
+use Rattle.std.proofs.Common.{◌≡◌, ℕ, ◌==◌, not, Bool, true, false, cond, List, [], ◌∷◌, ◌++◌, length, Option, Some, None, refl, sym, ap, ◌∙◌, arith, inl, inr}
 use Rattle.std.specs.Prelude.{option_map, option_and_then}
 use Rattle.std.specs.List.{list_all}
 use Rattle.std.specs.Option.{option_or}
@@ -88,8 +88,12 @@ map_some f (Some x) y e = (x, refl, some_is (f x) y e)
 abbrev pub IsCut : ℕ → List ℕ → List ℕ × List ℕ → Type 0
 IsCut c text cut = text ≡ cut.0 ++ c ∷ cut.1
 
+-- a cut behind one byte more
+abbrev longer : ℕ → List ℕ × List ℕ → List ℕ × List ℕ
+longer b cut = (b ∷ cut.0, cut.1)
+
 abbrev first_at : ℕ → ℕ → List ℕ → Bool → Option (List ℕ × List ℕ)
-first_at c b text t = cond t (Some ([], text)) (option_map (λ cut. (b ∷ cut.0, cut.1)) (cut_first c text))
+first_at c b text t = cond t (Some ([], text)) (option_map (longer b) (cut_first c text))
 
 -- the first cut is one, and what stands before it lacks the byte
 pub cut_first-sound : (c : ℕ) (text : List ℕ) (cut : List ℕ × List ℕ) → cut_first c text ≡ Some cut → IsCut c text cut × (lacks c cut.0 ≡ true)
@@ -100,7 +104,7 @@ cut_first-sound c (b ∷ text) cut e = elim (cases_Bool (b == c)) [
         let got : Some ([], text) ≡ Some cut = sym (ap (first_at c b text) same) ∙ e in
         rw (← some_is ([], text) cut got) ((λ k. eqb-true b c same k ∷ text), refl)
     | inr other ↦
-        let m = map_some (λ (x : List ℕ × List ℕ). (b ∷ x.0, x.1)) (cut_first c text) cut (sym (ap (first_at c b text) other) ∙ e) in
+        let m = map_some (longer b) (cut_first c text) cut (sym (ap (first_at c b text) other) ∙ e) in
         let more = cut_first-sound c text m.0 m.1 in
         rw (← m.2) (ap (λ t. b ∷ t) more.0, and_from _ _ (not_from_false (b == c) other) more.1)
   ]
@@ -112,17 +116,18 @@ last_at c text t = cond t (Some ([], text)) None
 pub cut_last-sound : (c : ℕ) (text : List ℕ) (cut : List ℕ × List ℕ) → cut_last c text ≡ Some cut → IsCut c text cut
 unfolding cut_last
 cut_last-sound c [] cut e = absurd (none-some cut e)
-cut_last-sound c (b ∷ text) cut e = by (cut_last c text) refl e
+cut_last-sound c (b ∷ text) cut e = by (cut_last c text) (cut_last-sound c text) e
   where
-    by : (o : Option (List ℕ × List ℕ)) → cut_last c text ≡ o → option_or (option_map (λ (x : List ℕ × List ℕ). (b ∷ x.0, x.1)) o) (cond (b == c) (Some ([], text)) None) ≡ Some cut → IsCut c (b ∷ text) cut
-    by (Some x) is got = rw (← some_is (b ∷ x.0, x.1) cut got) (ap (λ t. b ∷ t) (cut_last-sound c text x is))
-    by None is got =
+    by : (o : Option (List ℕ × List ℕ)) → ((x : List ℕ × List ℕ) → o ≡ Some x → IsCut c text x)
+        → option_or (option_map (longer b) o) (cond (b == c) (Some ([], text)) None) ≡ Some cut → IsCut c (b ∷ text) cut
+    by (Some x) below got = rw (← some_is (longer b x) cut got) (ap (λ t. b ∷ t) (below x refl))
+    by None below got =
         let w = cond_some (b == c) ([], text) cut got in
         rw (← w.1) (λ k. eqb-true b c w.0 k ∷ text)
 
 empty_is : (text : List ℕ) → is_empty text ≡ true → text ≡ []
 empty_is [] e = refl
-empty_is (b ∷ text) e = absurd cc
+empty_is (b ∷ text) e = let none : length (b ∷ text) ≡ 0 = eqb-true (length (b ∷ text)) 0 e in absurd (omega (arith, none))
 
 whole_before-sound : (cut : List ℕ × List ℕ) (front : List ℕ) → whole_before cut ≡ Some front → (cut.0 ≡ front) × (cut.1 ≡ [])
 whole_before-sound cut front e =
@@ -159,10 +164,12 @@ pub cut_first-lacks : (c : ℕ) (text : List ℕ) → cut_first c text ≡ None 
 unfolding cut_first
 cut_first-lacks c [] e = refl
 cut_first-lacks c (b ∷ text) e = elim (cases_Bool (b == c)) [
-    | inl same ↦ absurd (none-some ([], text) (sym e ∙ ap (first_at c b text) same))
+    | inl same ↦
+        let cut : List ℕ × List ℕ = ([], text) in
+        absurd (none-some cut (sym e ∙ ap (first_at c b text) same))
     | inr other ↦ and_from _ _ (not_from_false (b == c) other) (cut_first-lacks c text (unmapped (cut_first c text) (sym (ap (first_at c b text) other) ∙ e)))
   ]
   where
-    unmapped : (o : Option (List ℕ × List ℕ)) → option_map (λ (x : List ℕ × List ℕ). (b ∷ x.0, x.1)) o ≡ None → o ≡ None
+    unmapped : (o : Option (List ℕ × List ℕ)) → option_map (longer b) o ≡ None → o ≡ None
     unmapped None h = refl
-    unmapped (Some x) h = absurd (none-some (b ∷ x.0, x.1) (sym h))
+    unmapped (Some x) h = absurd (none-some (longer b x) (sym h))

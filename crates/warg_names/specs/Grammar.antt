@@ -50,8 +50,8 @@ integrity_part (Some integrity) = codes ",integrity=<" ++ (integrity ++ codes ">
 
 -- the text of a name
 abbrev pub name_text : ImportName → List ℕ
-name_text (DependencyName package range) = codes "unlocked-dep=<" ++ ((package ++ range_text range) ++ codes ">")
-name_text (LockedName package version integrity) = codes "locked-dep=<" ++ ((package ++ version_part version) ++ (codes ">" ++ integrity_part integrity))
+name_text (DependencyName name range) = codes "unlocked-dep=<" ++ ((name ++ range_text range) ++ codes ">")
+name_text (LockedName name version integrity) = codes "locked-dep=<" ++ ((name ++ version_part version) ++ (codes ">" ++ integrity_part integrity))
 name_text (InterfaceName name version) = name ++ version_part version
 
 -- ---- what it is
@@ -77,8 +77,8 @@ Begins mark text = (rest : List ℕ) × (text ≡ mark ++ rest)
 -- the form of a name: packages have names of packages, versions are SemVer's, an integrity is one; the name of an
 -- interface has no `@` of its own, is not empty where no version follows, and begins with no mark
 abbrev pub IsImportName : ImportName → Type 0
-IsImportName (DependencyName package range) = IsPackageName package × IsRange range
-IsImportName (LockedName package version integrity) = IsPackageName package × IfSome version IsValid × IfSome integrity IsIntegrity
+IsImportName (DependencyName name range) = IsPackageName name × IsRange range
+IsImportName (LockedName name version integrity) = IsPackageName name × IfSome version IsValid × IfSome integrity IsIntegrity
 IsImportName (InterfaceName name version) = (lacks at_sign name ≡ true) × IfSome version IsValid × (0 < length (name ++ version_part version))
     × (Begins unlocked_mark (name ++ version_part version) → ⊥) × (Begins locked_mark (name ++ version_part version) → ⊥)
 
@@ -96,8 +96,8 @@ range_requirement Star = []
 range_requirement (Within bounds) = bounds_requirement bounds
 
 abbrev pub asked : ImportName → ImportTree
-asked (DependencyName package range) = dependency (range_requirement range) package
-asked (LockedName package version integrity) = locked package version integrity
+asked (DependencyName name range) = dependency (range_requirement range) name
+asked (LockedName name version integrity) = locked name version integrity
 asked (InterfaceName name None) = interface name [] None
 asked (InterfaceName name (Some version)) = interface name (compared Exact version ∷ []) (Some (parts_text version))
 

@@ -1,7 +1,9 @@
+pub mod ByteLaws
 pub mod Cut
 pub mod CutLaws
 pub mod Grammar
 pub mod Import
+pub mod ImportLaws
 pub mod Mark
 pub mod Texts
 pub mod Tree

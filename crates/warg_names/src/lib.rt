@@ -5,6 +5,7 @@ mod cut;
 mod error;
 mod fault;
 mod import;
+pub mod laws;
 mod mark;
 mod parser;
 mod reading;

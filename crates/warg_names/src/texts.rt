@@ -1,7 +1,8 @@
 //! The texts of locked packages and of requirements.
 
 ghost use Rattle.std.specs.Prelude.{◌≡◌, ◌++◌, IfOk, OnOk, map, string_bytes};
-ghost use Rattle.semver.specs.Identifiers.{comparator_view, parts_of, pre_text};
+ghost use Rattle.semver.specs.Identifiers.{comparator_view, parts_of, pre_text, version_text};
+ghost use Rattle.warg_names.specs.Mark.{mark_text};
 ghost use Rattle.warg_names.specs.Texts as spec;
 ghost use Rattle.warg_names.specs.View.{requirement_view};
 
@@ -21,10 +22,25 @@ pub fn locked_package(
 ) -> Result<Text, Memory>
     ensures { IfOk result (λ text. text ≡ spec.locked_text name.now (parts_of release.now.version) content.now) }
 {
-    let version = &release.version;
-    let digits = hex::encode(alloc, content.bytes())?;
-    let text = format!(in alloc; "locked-dep=<{name}@{version}>,integrity=<sha256-{digits}>")?;
+    let package = versioned(alloc, name, &release.version)?;
+    let mark = mark_of(alloc, content)?;
+    let text = format!(in alloc; "locked-dep=<{package}>,integrity=<{mark}>")?;
     Ok(Text::new(text))
+}
+
+/// A name with a version behind an `@`.
+pub fn versioned(alloc: Global, name: &str, version: &Version) -> Result<String, Memory>
+    ensures { IfOk result (λ text. string_bytes text ≡ spec.versioned_name name.now (version_text version.now)) }
+{
+    Ok(format!(in alloc; "{name}@{version}")?)
+}
+
+/// The mark of a digest.
+fn mark_of(alloc: Global, digest: &AnyHash) -> Result<String, Memory>
+    ensures { IfOk result (λ text. string_bytes text ≡ mark_text digest.now) }
+{
+    let digits = hex::encode(alloc, digest.bytes())?;
+    Ok(format!(in alloc; "sha256-{digits}")?)
 }
 
 /// A package's name with a requirement. Nothing stands for the one that any release meets.

@@ -1,10 +1,11 @@
 //! Trees of texts, as lists of packages are shown.
 
-ghost use Rattle.std.specs.Prelude.{◌≡◌, ◌++◌, [], codes, string_bytes, IfOk};
+ghost use Rattle.std.specs.Prelude.{◌≡◌, ◌++◌, codes, string_bytes, IfOk};
 ghost use Rattle.semver.specs.Identifiers.{version_text};
 ghost use Rattle.warg_names.specs.Texts.{versioned_name};
-ghost use Rattle.warg_names.specs.Tree.{Node, tree_view};
+ghost use Rattle.warg_names.specs.Tree.{Node, none, tree_view};
 
+use crate::texts::versioned;
 use semver::Version;
 use std::alloc::Global;
 use warg_values::{Memory, Text};
@@ -21,7 +22,7 @@ pub struct TreeBuilder {
 impl TreeBuilder {
     /// A node with nothing below it.
     fn leaf(alloc: Global, text: String) -> Self
-        ensures { tree_view result ≡ Node (string_bytes text) [] }
+        ensures { tree_view result ≡ Node (string_bytes text) none }
     {
         TreeBuilder {
             text: Text::new(text),
@@ -38,8 +39,9 @@ pub fn new_tree(
     version: &Version,
 ) -> Result<TreeBuilder, Memory>
     ensures { IfOk result (λ tree. tree_view tree
-        ≡ Node (namespace.now ++ (codes ":" ++ versioned_name name.now (version_text version.now))) []) }
+        ≡ Node (namespace.now ++ (codes ":" ++ versioned_name name.now (version_text version.now))) none) }
 {
-    let text = format!(in alloc; "{namespace}:{name}@{version}")?;
+    let name = versioned(alloc, name, version)?;
+    let text = format!(in alloc; "{namespace}:{name}")?;
     Ok(TreeBuilder::leaf(alloc, text))
 }
