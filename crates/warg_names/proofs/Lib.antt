@@ -1,2 +1,3 @@
+mod Following
+mod MarkSteps
 mod StdCuts
-mod TextLaws

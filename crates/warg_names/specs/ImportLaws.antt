@@ -4,7 +4,7 @@ use Rattle.std.specs.Prelude.{bytes_eq, option_map, option_and_then, IfSome}
 use Rattle.std.specs.List.{list_all}
 use Rattle.std.specs.Option.{option_or, option_map_or}
 use Rattle.std.specs.Result.{result_ok}
-use Rattle.std.proofs.lemmas.Bool.{and_parts, and_from, cases_Bool, eqb-true, false≢true}
+use Rattle.std.proofs.lemmas.Bool.{and_parts, and_from, cases_Bool, eqb-true, false≢true, false_from_ne_true}
 use Rattle.std.proofs.lemmas.List.{append-nil, append_assoc}
 use Rattle.std.proofs.lemmas.Option.{none-some, cond_some}
 use Rattle.std.proofs.lemmas.Slice.Eq.{bytes_eq-Decides}
@@ -61,7 +61,8 @@ requirement_of-star : requirement_of (codes "*") ≡ Some []
 unfolding requirement_of
 requirement_of-star = refl
 
-dependency_of-again : (name : List ℕ) (range : Range) → IsPackageName name → IsRange range → dependency_of (name ++ range_text range) ≡ Some (dependency (range_requirement range) name)
+-- what stands inside `unlocked-dep=<>` is read as it is written
+pub dependency_of-again : (name : List ℕ) (range : Range) → IsPackageName name → IsRange range → dependency_of (name ++ range_text range) ≡ Some (dependency (range_requirement range) name)
 unfolding dependency_of
 dependency_of-again name Plain is valid =
     rw (append-nil name, cut_first-none at_sign name (name_lacks_at name is), package_of-again name is) refl
@@ -78,19 +79,21 @@ release_of-again name (Some v) is valid =
     rw (cut_first-append at_sign name (parts_text v) (name_lacks_at name is), package_of-again name is, version_of-again v valid) refl
 
 some_is_not_empty : (text : List ℕ) → 0 < length text → is_empty text ≡ false
-some_is_not_empty [] h = absurd (omega arith)
-some_is_not_empty (b ∷ text) h = refl
+some_is_not_empty text h =
+    false_from_ne_true (is_empty text) (λ t. let none : length text ≡ 0 = eqb-true (length text) 0 t in omega (arith, none))
 
 integrity_of-again : (integrity : Option (List ℕ)) → IfSome integrity IsIntegrity → integrity_of (integrity_part integrity) ≡ Some integrity
 unfolding integrity_of integrity_in behind
 integrity_of-again None h = refl
-integrity_of-again (Some integrity) h = rw (ended_by-append angle integrity h.1, some_is_not_empty integrity h.0) refl
+integrity_of-again (Some integrity) h =
+    rw (some_is_not_empty (integrity_part (Some integrity)) (omega arith), ended_by-append angle integrity h.1, some_is_not_empty integrity h.0) refl
 
 release_lacks_angle : (name : List ℕ) (version : Option Parts) → IsPackageName name → IfSome version IsValid → lacks angle (name ++ version_part version) ≡ true
 release_lacks_angle name None is valid = list_all-both _ name [] (name_lacks_angle name is) refl
 release_lacks_angle name (Some v) is valid = list_all-both _ name (codes "@" ++ parts_text v) (name_lacks_angle name is) (version_lacks_angle v valid)
 
-unlocked_again : (inside : List ℕ) → import_of (codes "unlocked-dep=<" ++ (inside ++ codes ">")) ≡ dependency_of inside
+-- what stands inside `unlocked-dep=<>` is read as a dependency
+pub unlocked_again : (inside : List ℕ) → import_of (codes "unlocked-dep=<" ++ (inside ++ codes ">")) ≡ dependency_of inside
 unfolding import_of unlocked_of behind
 unlocked_again inside = rw (closed_by-append angle inside) refl
 
@@ -120,9 +123,10 @@ import_of-again (LockedName name version integrity) is = locked_again name versi
 import_of-again (InterfaceName name version) is =
     other_name (name ++ version_part version) is.3 is.4 ∙ interface_again name version is.0 is.1 is.2
 
+-- so a text that is a name is read as what it asks for
+pub names_read : (text : List ℕ) (tree : ImportTree) → Names text tree → import_of text ≡ Some tree
+names_read text tree is = ap import_of is.written ∙ import_of-again is.name is.is_name ∙ ap (λ i. Some i) (sym is.asks)
+
 -- a text asks for one import at most
 pub one_import : (text : List ℕ) (a b : ImportTree) → Names text a → Names text b → a ≡ b
-one_import text a b of_a of_b =
-    let read_a : import_of text ≡ Some a = ap import_of of_a.written ∙ import_of-again of_a.name of_a.is_name ∙ ap (λ i. Some i) (sym of_a.asks) in
-    let read_b : import_of text ≡ Some b = ap import_of of_b.written ∙ import_of-again of_b.name of_b.is_name ∙ ap (λ i. Some i) (sym of_b.asks) in
-    some_is a b (sym read_a ∙ read_b)
+one_import text a b of_a of_b = some_is a b (sym (names_read text a of_a) ∙ names_read text b of_b)

@@ -5,6 +5,8 @@ pub mod Grammar
 pub mod Import
 pub mod ImportLaws
 pub mod Mark
+pub mod MarkLaws
+pub mod TextLaws
 pub mod Texts
 pub mod Tree
 pub mod View

@@ -3,7 +3,7 @@ use Rattle.std.specs.Prelude.{string_bytes}
 use Rattle.std.proofs.lemmas.List.{append-nil, append_assoc, map_more}
 use Rattle.semver.specs.Identifiers.{comparator_view}
 use Rattle.warg_names.specs.Texts.{following, comparator_text}
-use Rattle.warg_names.proofs.TextLaws.{following_push, in_a_row}
+use Rattle.warg_names.proofs.Following.{following_push, in_a_row}
 use Rattle.warg_names.proofs.texts.push_following.Goals as goal
 
 pub loop-comparator-init : goal.loop-comparator-init
