@@ -69,7 +69,6 @@ unfolding cut_last
 cut_last-append c [] after h = rw (cut_last-none c after h, eq-eqb c c refl) refl
 cut_last-append c (b ∷ before) after h = rw (cut_last-append c before after h) refl
 
-
 -- ---- what a cut gives is the text
 
 pub some_is : {A : Type 0} (x y : A) → Some x ≡ Some y → x ≡ y
@@ -100,14 +99,14 @@ pub cut_first-sound : (c : ℕ) (text : List ℕ) (cut : List ℕ × List ℕ) �
 unfolding cut_first
 cut_first-sound c [] cut e = absurd (none-some cut e)
 cut_first-sound c (b ∷ text) cut e = elim (cases_Bool (b == c)) [
-    | inl same ↦
-        let got : Some ([], text) ≡ Some cut = sym (ap (first_at c b text) same) ∙ e in
-        rw (← some_is ([], text) cut got) ((λ k. eqb-true b c same k ∷ text), refl)
-    | inr other ↦
-        let m = map_some (longer b) (cut_first c text) cut (sym (ap (first_at c b text) other) ∙ e) in
-        let more = cut_first-sound c text m.0 m.1 in
-        rw (← m.2) (ap (λ t. b ∷ t) more.0, and_from _ _ (not_from_false (b == c) other) more.1)
-  ]
+  | inl same ↦
+      let got : Some ([], text) ≡ Some cut = sym (ap (first_at c b text) same) ∙ e in
+      rw (← some_is ([], text) cut got) ((λ k. eqb-true b c same k ∷ text), refl)
+  | inr other ↦
+      let m = map_some (longer b) (cut_first c text) cut (sym (ap (first_at c b text) other) ∙ e) in
+      let more = cut_first-sound c text m.0 m.1 in
+      rw (← m.2) (ap (λ t. b ∷ t) more.0, and_from _ _ (not_from_false (b == c) other) more.1)
+]
 
 abbrev last_at : ℕ → List ℕ → Bool → Option (List ℕ × List ℕ)
 last_at c text t = cond t (Some ([], text)) None
@@ -164,11 +163,11 @@ pub cut_first-lacks : (c : ℕ) (text : List ℕ) → cut_first c text ≡ None 
 unfolding cut_first
 cut_first-lacks c [] e = refl
 cut_first-lacks c (b ∷ text) e = elim (cases_Bool (b == c)) [
-    | inl same ↦
-        let cut : List ℕ × List ℕ = ([], text) in
-        absurd (none-some cut (sym e ∙ ap (first_at c b text) same))
-    | inr other ↦ and_from _ _ (not_from_false (b == c) other) (cut_first-lacks c text (unmapped (cut_first c text) (sym (ap (first_at c b text) other) ∙ e)))
-  ]
+  | inl same ↦
+      let cut : List ℕ × List ℕ = ([], text) in
+      absurd (none-some cut (sym e ∙ ap (first_at c b text) same))
+  | inr other ↦ and_from _ _ (not_from_false (b == c) other) (cut_first-lacks c text (unmapped (cut_first c text) (sym (ap (first_at c b text) other) ∙ e)))
+]
   where
     unmapped : (o : Option (List ℕ × List ℕ)) → option_map (longer b) o ≡ None → o ≡ None
     unmapped None h = refl

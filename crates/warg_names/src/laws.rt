@@ -21,14 +21,14 @@ pub fn a_name_asks_for_one_import()
 pub fn a_locked_package_reads_back()
     ensures { (name : List ℕ) (version : Parts) (digest : List ℕ) → IsPackageName name → IsValid version → IsDigest digest
         → import_of (locked_text name version digest)
-            ≡ Some (locked name (Some version) (Some (mark_text digest))) }
+        ≡ Some (locked name (Some version) (Some (mark_text digest))) }
 {}
 
 /// What a package with a requirement is written as, inside of `unlocked-dep=<>`, reads back with that requirement.
 pub fn a_versioned_package_reads_back()
     ensures { (name : List ℕ) (range : Range) → IsPackageName name → IsRange range
         → import_of (codes "unlocked-dep=<" ++ (versioned_text name (range_requirement range) ++ codes ">"))
-            ≡ Some (dependency (range_requirement range) name) }
+        ≡ Some (dependency (range_requirement range) name) }
 {}
 
 /// A mark names a digest exactly where it is the digest's mark.
