@@ -12,19 +12,34 @@ use warg_names::{
 
 /// Names, each with what it asks for.
 const GOOD: [(&str, &str); 20] = [
-    ("unlocked-dep=<foo:bar@{>=1.0.0 <2.0.0}>", "foo:bar {>=1.0.0 <2.0.0} unlocked"),
+    (
+        "unlocked-dep=<foo:bar@{>=1.0.0 <2.0.0}>",
+        "foo:bar {>=1.0.0 <2.0.0} unlocked",
+    ),
     ("unlocked-dep=<foo:bar@*>", "foo:bar * unlocked"),
     ("unlocked-dep=<foo:bar>", "foo:bar * unlocked"),
-    ("unlocked-dep=<a-b:c1-d@{<2.0.0}>", "a-b:c1-d {<2.0.0} unlocked"),
+    (
+        "unlocked-dep=<a-b:c1-d@{<2.0.0}>",
+        "a-b:c1-d {<2.0.0} unlocked",
+    ),
     ("unlocked-dep=<a:b@{>=1.0.0+x}>", "a:b {>=1.0.0} unlocked"),
-    ("unlocked-dep=<a:b@{>=1.0.0-rc.1+x.01 <1.0.0+y}>", "a:b {>=1.0.0-rc.1 <1.0.0} unlocked"),
+    (
+        "unlocked-dep=<a:b@{>=1.0.0-rc.1+x.01 <1.0.0+y}>",
+        "a:b {>=1.0.0-rc.1 <1.0.0} unlocked",
+    ),
     (
         "locked-dep=<foo:bar@1.0.0-rc.1>,integrity=<sha256-abc>",
         "foo:bar =1.0.0-rc.1 locked sha256-abc exact 1.0.0-rc.1",
     ),
     ("locked-dep=<foo:bar>", "foo:bar * locked"),
-    ("locked-dep=<foo:bar>,integrity=<x<y,>", "foo:bar * locked x<y,"),
-    ("locked-dep=<a:b@1.0.0+build.5>", "a:b =1.0.0 locked exact 1.0.0+build.5"),
+    (
+        "locked-dep=<foo:bar>,integrity=<x<y,>",
+        "foo:bar * locked x<y,",
+    ),
+    (
+        "locked-dep=<a:b@1.0.0+build.5>",
+        "a:b =1.0.0 locked exact 1.0.0+build.5",
+    ),
     ("wasi:io/poll@0.2.0", "wasi:io/poll =0.2.0 interface 0.2.0"),
     ("i1", "i1 * interface"),
     ("@1.0.0", " =1.0.0 interface 1.0.0"),
@@ -88,7 +103,10 @@ const REQUIREMENTS: [(&str, &str); 25] = [
     ("unlocked-dep=<a:b@{<}>", "version at 20"),
     ("unlocked-dep=<a:b@{>=1.0.0x}>", "`}` at 26"),
     ("unlocked-dep=<a:b@{>=1.0.00}>", "`}` at 26"),
-    ("unlocked-dep=<a:b@{>=1.0.18446744073709551616}>", "`}` at 44"),
+    (
+        "unlocked-dep=<a:b@{>=1.0.18446744073709551616}>",
+        "`}` at 44",
+    ),
     ("unlocked-dep=<a:b@{>=1.0.0-}>", "`}` at 26"),
     ("unlocked-dep=<a:b@{>=1.0.0-01}>", "`}` at 28"),
     ("unlocked-dep=<a:b@{>=1.0.0-a..b}>", "`}` at 28"),
@@ -240,7 +258,10 @@ fn dependencies_are_read_without_their_mark(rt: HostRuntime) -> Result<(), Fail>
 #[test]
 fn names_lose_their_kind(rt: HostRuntime) -> Result<(), Fail> {
     for (name, inside) in [
-        ("unlocked-dep=<foo:bar@{>=1.0.0 <2.0.0}>", "foo:bar@{>=1.0.0 <2.0.0}"),
+        (
+            "unlocked-dep=<foo:bar@{>=1.0.0 <2.0.0}>",
+            "foo:bar@{>=1.0.0 <2.0.0}",
+        ),
         ("unlocked-dep=<a:b>x", "a:b"),
         ("unlocked-dep=<a:b", "unlocked-dep=<a:b"),
         ("locked-dep=<a:b@1.0.0>,integrity=<x>", "a:b@1.0.0"),
@@ -271,7 +292,10 @@ fn requirements_are_written_as_cargo_writes_them(rt: HostRuntime) -> Result<(), 
         (">=1.0.0, <2.0.0", "a:b@{>=1.0.0 <2.0.0} {>=1.0.0 <2.0.0}"),
         ("^1.2", "a:b@{^1.2} {^1.2}"),
         ("1.*", "a:b@{1.*} {1.*}"),
-        ("~1, <=1.9.0, >1.1", "a:b@{~1 <=1.9.0 >1.1} {~1 <=1.9.0 >1.1}"),
+        (
+            "~1, <=1.9.0, >1.1",
+            "a:b@{~1 <=1.9.0 >1.1} {~1 <=1.9.0 >1.1}",
+        ),
     ] {
         assert_eq!(rt; written(alloc, req)?.as_str(), wanted);
     }

@@ -6,6 +6,7 @@ pub mod Import
 pub mod ImportLaws
 pub mod Mark
 pub mod MarkLaws
+pub mod ReadLaws
 pub mod TextLaws
 pub mod Texts
 pub mod Tree

@@ -1,5 +1,5 @@
 //! What is known of import names and of the texts that are written. Each law is the contract of a function that does
-//! nothing; as lemmas they stand in `specs/ImportLaws`, `specs/TextLaws` and `specs/MarkLaws`.
+//! nothing; as lemmas they stand in `specs/ImportLaws`, `specs/ReadLaws`, `specs/TextLaws` and `specs/MarkLaws`.
 
 ghost use Rattle.std.specs.Prelude.{◌≡◌, ◌↔◌, ◌++◌, ℕ, List, Some, codes};
 ghost use Rattle.semver.specs.Grammar.{IsValid};
@@ -11,9 +11,9 @@ ghost use Rattle.warg_names.specs.Import.{ImportTree, import_of, dependency, loc
 ghost use Rattle.warg_names.specs.Mark.{digest_marked, mark_text};
 ghost use Rattle.warg_names.specs.Texts.{locked_text, versioned_text};
 
-/// A name asks for what its form asks for; so a text asks for one import at most.
+/// A text is read exactly where one of the forms gives it, as what that form asks for; so it asks for one import at most.
 pub fn a_name_asks_for_one_import()
-    ensures reads { (text : List ℕ) (tree : ImportTree) → Names text tree → import_of text ≡ Some tree }
+    ensures exact { (text : List ℕ) (tree : ImportTree) → (import_of text ≡ Some tree) ↔ Names text tree }
     ensures one { (text : List ℕ) (a b : ImportTree) → Names text a → Names text b → a ≡ b }
 {}
 
