@@ -7,6 +7,8 @@ pub mod ImportLaws
 pub mod Mark
 pub mod MarkLaws
 pub mod ReadLaws
+pub mod Same
+pub mod SameLaws
 pub mod TextLaws
 pub mod Texts
 pub mod Tree

@@ -68,9 +68,9 @@ one_bound-sound text requirement e =
     let m = map_some (λ (bound : Held). bound ∷ []) (option_or (lower_of text) (upper_of text)) requirement e in
     one_of (lower_of text) (upper_of text) m.0 m.1
     (λ low. let b = bound_of-sound (codes ">=") GreaterEq text m.0 low in
-      record { bounds = From b.version; are = b.valid; written = b.written; required = sym m.2 ∙ ap (λ (x : Held). x ∷ []) (sym b.is) })
+    record { bounds = From b.version; are = b.valid; written = b.written; required = sym m.2 ∙ ap (λ (x : Held). x ∷ []) (sym b.is) })
     (λ high. let b = bound_of-sound (codes "<") Less text m.0 high in
-      record { bounds = Below b.version; are = b.valid; written = b.written; required = sym m.2 ∙ ap (λ (x : Held). x ∷ []) (sym b.is) })
+    record { bounds = Below b.version; are = b.valid; written = b.written; required = sym m.2 ∙ ap (λ (x : Held). x ∷ []) (sym b.is) })
 
 both_bounds-sound : (text low high : List ℕ) (requirement : List Held) → text ≡ low ++ space ∷ high → both_bounds low high ≡ Some requirement → WereBounds text requirement
 unfolding both_bounds

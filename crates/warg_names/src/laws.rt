@@ -1,7 +1,8 @@
 //! What is known of import names and of the texts that are written. Each law is the contract of a function that does
-//! nothing; as lemmas they stand in `specs/ImportLaws`, `specs/ReadLaws`, `specs/TextLaws` and `specs/MarkLaws`.
+//! nothing; as lemmas they stand in `specs/ImportLaws`, `specs/ReadLaws`, `specs/TextLaws`,
+//! `specs/MarkLaws` and `specs/SameLaws`.
 
-ghost use Rattle.std.specs.Prelude.{◌≡◌, ◌↔◌, ◌++◌, ℕ, List, Some, codes};
+ghost use Rattle.std.specs.Prelude.{◌≡◌, ◌↔◌, ◌++◌, ℕ, List, Some, codes, true};
 ghost use Rattle.semver.specs.Grammar.{IsValid};
 ghost use Rattle.semver.specs.Parse.{Parts};
 ghost use Rattle.warg_hash.specs.Hash.{IsDigest};
@@ -9,6 +10,7 @@ ghost use Rattle.warg_hash.specs.Name.{IsPackageName};
 ghost use Rattle.warg_names.specs.Grammar.{Names, Range, IsRange, range_requirement};
 ghost use Rattle.warg_names.specs.Import.{ImportTree, import_of, dependency, locked};
 ghost use Rattle.warg_names.specs.Mark.{digest_marked, mark_text};
+ghost use Rattle.warg_names.specs.Same.{same_import};
 ghost use Rattle.warg_names.specs.Texts.{locked_text, versioned_text};
 
 /// A text is read exactly where one of the forms gives it, as what that form asks for; so it asks for one import at most.
@@ -34,4 +36,9 @@ pub fn a_versioned_package_reads_back()
 /// A mark names a digest exactly where it is the digest's mark.
 pub fn a_mark_names_one_digest()
     ensures { (mark digest : List ℕ) → (digest_marked mark ≡ Some digest) ↔ (IsDigest digest × (mark ≡ mark_text digest)) }
+{}
+
+/// `is_same` is true exactly of equal imports.
+pub fn the_same_imports_are_equal()
+    ensures { (a b : ImportTree) → (same_import a b ≡ true) ↔ (a ≡ b) }
 {}

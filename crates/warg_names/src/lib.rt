@@ -9,6 +9,7 @@ pub mod laws;
 mod mark;
 mod parser;
 mod reading;
+mod same;
 mod texts;
 mod tree;
 
@@ -17,4 +18,4 @@ pub use import::{Import, ImportKind};
 pub use mark::marked;
 pub use parser::DependencyImportParser;
 pub use texts::{kindless_name, locked_package, version_string, versioned_package};
-pub use tree::{TreeBuilder, new_tree};
+pub use tree::{TreeBuilder, create_child_node, new_tree};

@@ -45,3 +45,17 @@ pub fn new_tree(
     let text = format!(in alloc; "{namespace}:{name}")?;
     Ok(TreeBuilder::leaf(alloc, text))
 }
+
+/// Adds a node as the last one below another: its text is `NAME@VERSION`, and nothing stands below it.
+pub fn create_child_node<'a>(
+    alloc: Global,
+    node: &'a mut TreeBuilder,
+    name: &str,
+    version: &str,
+) -> Result<&'a mut TreeBuilder, Memory>
+    ensures { IfOk result (λ child. tree_view child.now ≡ Node (versioned_name name.now version.now) none) }
+{
+    let text = format!(in alloc; "{name}@{version}")?;
+    node.children.push(TreeBuilder::leaf(alloc, text))?;
+    Ok(node.children.last_mut().unwrap())
+}
