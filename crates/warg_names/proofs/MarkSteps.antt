@@ -1,9 +1,8 @@
 -- Texts that are no marks.
-use Rattle.std.proofs.Common.{◌≡◌, ◌≢◌, ℕ, ◌<◌, nat_lt, true, List, [], ◌∷◌, ◌++◌, length, codes, Option, Some, None, refl, sym, ap, ◌∙◌, arith}
+use Rattle.std.proofs.Common.{◌≡◌, ◌≢◌, ℕ, nat_lt, true, List, [], ◌∷◌, ◌++◌, length, codes, Some, None, refl, sym, ap, arith}
 use Rattle.std.specs.List.{list_all}
 use Rattle.std.specs.Str.{IsAscii, IsUtf8}
 use Rattle.std.proofs.lemmas.Bool.{and_parts, ltb-true}
-use Rattle.std.proofs.lemmas.List.{length-append}
 use Rattle.std.proofs.lemmas.Str.{IsUtf8-from_ascii, IsAscii-append}
 use Rattle.std.proofs.lemmas.Str.Ascii.{IsAscii-cons, IsAscii-nil}
 use Rattle.hex.specs.Hex.{encode_lower, lower_digits}

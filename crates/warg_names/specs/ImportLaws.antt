@@ -1,25 +1,20 @@
 -- A text is an import's name exactly where one of the forms gives it, and then it asks for what that form asks for.
-use Rattle.std.proofs.Common.{◌≡◌, ℕ, ◌<◌, ◌==◌, nat_lt, not, Bool, true, false, cond, List, [], ◌∷◌, ◌++◌, length, codes, Option, Some, None, Result, Ok, Err, refl, sym, ap, ◌∙◌, arith, inl, inr}
-use Rattle.std.specs.Prelude.{bytes_eq, option_map, option_and_then, IfSome}
-use Rattle.std.specs.List.{list_all}
-use Rattle.std.specs.Option.{option_or, option_map_or}
-use Rattle.std.specs.Result.{result_ok}
-use Rattle.std.proofs.lemmas.Bool.{and_parts, and_from, cases_Bool, eqb-true, false≢true, false_from_ne_true}
-use Rattle.std.proofs.lemmas.List.{append-nil, append_assoc}
-use Rattle.std.proofs.lemmas.Option.{none-some, cond_some}
-use Rattle.std.proofs.lemmas.Slice.Eq.{bytes_eq-Decides}
-use Rattle.semver.specs.Parse.{Parts, Held, version_parts}
+use Rattle.std.proofs.Common.{◌≡◌, ℕ, ◌<◌, true, false, List, [], ◌++◌, length, codes, Option, Some, None, refl, sym, ap, ◌∙◌, arith}
+use Rattle.std.specs.Prelude.{IfSome}
+use Rattle.std.proofs.lemmas.Bool.{eqb-true, false_from_ne_true}
+use Rattle.std.proofs.lemmas.List.{append-nil}
+use Rattle.semver.specs.Parse.{Parts}
 use Rattle.semver.specs.Identifiers.{parts_text}
 use Rattle.semver.specs.Grammar.{IsValid}
 use Rattle.semver.specs.declared.Op.{Op}
-use Rattle.semver.specs.declared.Op.TheVariants.{Exact, GreaterEq, Less}
-use Rattle.semver.proofs.Grammar.{version_parts-sound, version_parts-complete}
-use Rattle.warg_hash.specs.Name.{is_package_name, IsPackageName}
-use Rattle.warg_hash.specs.NameLaws.{is_package_name-name, is_package_name-complete}
-use Rattle.warg_names.specs.Cut.{is_empty, lacks, behind, cut_first, closed_by, ended_by}
-use Rattle.warg_names.specs.CutLaws.{none_from, some_is, then_some, map_some, behind-sound, behind-append, behind-none, cut_first-none, cut_first-append, cut_first-sound, cut_first-lacks, closed_by-sound, closed_by-append, ended_by-sound, ended_by-append}
+use Rattle.semver.specs.declared.Op.TheVariants.{GreaterEq, Less}
+use Rattle.semver.proofs.Grammar.{version_parts-complete}
+use Rattle.warg_hash.specs.Name.{IsPackageName}
+use Rattle.warg_hash.specs.NameLaws.{is_package_name-complete}
+use Rattle.warg_names.specs.Cut.{is_empty, lacks, behind, cut_first}
+use Rattle.warg_names.specs.CutLaws.{some_is, behind-append, behind-none, cut_first-none, cut_first-append, closed_by-append, ended_by-append}
 use Rattle.warg_names.specs.ByteLaws.{list_all-both, name_lacks_at, name_lacks_angle, version_lacks_space, version_lacks_angle}
-use Rattle.warg_names.specs.Import.{ImportTree, compared, unlocked_mark, locked_mark, integrity_mark, at_sign, angle, brace, space, version_of, package_of, bound_of, lower_of, upper_of, one_bound, both_bounds, bounds_at, bounds_of, requirement_of, dependency, dependency_at, dependency_of, integrity_in, integrity_of, locked, release_at, release_of, locked_at, locked_of, interface, interface_at, interface_of, unlocked_of, other_at, other_of, import_at, import_of, dependency_import}
+use Rattle.warg_names.specs.Import.{ImportTree, compared, unlocked_mark, locked_mark, at_sign, angle, brace, space, version_of, package_of, bound_of, lower_of, one_bound, both_bounds, bounds_of, requirement_of, dependency, dependency_of, integrity_in, integrity_of, locked, release_of, locked_of, interface_of, unlocked_of, other_of, import_of}
 use Rattle.warg_names.specs.Grammar.{Bounds, From, Below, Between, Range, Plain, Star, Within, ImportName, DependencyName, LockedName, InterfaceName, bounds_text, range_text, version_part, integrity_part, name_text, AreBounds, IsRange, IsIntegrity, Begins, IsImportName, bounds_requirement, range_requirement, asked, Names}
 
 -- ---- what is written is read

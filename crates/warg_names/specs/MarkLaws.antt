@@ -1,7 +1,7 @@
 -- A mark names the digest of which it is the text, and no other text names one.
-use Rattle.std.proofs.Common.{◌≡◌, ℕ, List, ◌++◌, codes, drop, Option, Some, None, refl, sym, ap, ◌∙◌}
+use Rattle.std.proofs.Common.{◌≡◌, ℕ, List, ◌++◌, codes, drop, Some, refl, ap, ◌∙◌}
 use Rattle.hex.specs.Hex.{encode_lower}
-use Rattle.warg_hash.specs.Hash.{IsDigest, IsHashText, hash_text, digest_of}
+use Rattle.warg_hash.specs.Hash.{IsDigest, hash_text, digest_of}
 use Rattle.warg_hash.specs.HashLaws.{digest_of-again, digest_of-sound}
 use Rattle.warg_names.specs.Cut.{behind}
 use Rattle.warg_names.specs.CutLaws.{then_some, behind-sound, behind-append}

@@ -15,10 +15,10 @@ use Rattle.semver.specs.declared.Op.TheVariants.{Exact, GreaterEq, Less}
 use Rattle.semver.proofs.Grammar.{version_parts-sound}
 use Rattle.warg_hash.specs.Name.{is_package_name, IsPackageName}
 use Rattle.warg_hash.specs.NameLaws.{is_package_name-name}
-use Rattle.warg_names.specs.Cut.{is_empty, lacks, behind, cut_first, closed_by, ended_by}
+use Rattle.warg_names.specs.Cut.{is_empty, behind, cut_first, closed_by, ended_by}
 use Rattle.warg_names.specs.CutLaws.{some_is, then_some, map_some, behind-sound, behind-append, cut_first-sound, cut_first-lacks, closed_by-sound, ended_by-sound}
 use Rattle.warg_names.specs.Import.{ImportTree, compared, unlocked_mark, locked_mark, integrity_mark, at_sign, angle, brace, space, version_of, package_of, bound_of, lower_of, upper_of, one_bound, both_bounds, bounds_at, bounds_of, requirement_of, dependency, dependency_at, dependency_of, integrity_in, integrity_of, locked, release_at, release_of, locked_at, locked_of, interface, interface_at, interface_of, unlocked_of, other_at, other_of, import_at, import_of}
-use Rattle.warg_names.specs.Grammar.{Bounds, From, Below, Between, Range, Plain, Star, Within, ImportName, DependencyName, LockedName, InterfaceName, bounds_text, range_text, version_part, integrity_part, name_text, AreBounds, IsRange, IsIntegrity, Begins, IsImportName, bounds_requirement, range_requirement, asked, Names}
+use Rattle.warg_names.specs.Grammar.{Bounds, From, Below, Between, Range, Plain, Star, Within, DependencyName, LockedName, InterfaceName, bounds_text, range_text, version_part, integrity_part, AreBounds, IsRange, IsIntegrity, Begins, bounds_requirement, range_requirement, Names}
 
 ok_from : {A E : Type 0} (r : Result A E) (x : A) → result_ok r ≡ Some x → r ≡ Ok x
 ok_from (Ok y) x e = ap (λ z. Ok z) (some_is y x e)

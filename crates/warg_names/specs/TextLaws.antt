@@ -1,22 +1,20 @@
 -- The texts that are written read back as what they were written of.
-use Rattle.std.proofs.Common.{◌≡◌, ℕ, zero, suc, ◌&&◌, ◌<◌, ◌+◌, ◌/◌, ◌%◌, ◌==◌, not, nat_lt, Bool, true, List, [], ◌∷◌, ◌++◌, length, codes, Option, Some, None, refl, sym, ap, ◌∙◌, arith, inl, inr}
+use Rattle.std.proofs.Common.{◌≡◌, ℕ, zero, suc, ◌&&◌, ◌<◌, ◌/◌, ◌%◌, ◌==◌, not, Bool, true, List, [], ◌∷◌, ◌++◌, codes, Some, refl, sym, ap, ◌∙◌, arith, inl, inr}
 use Rattle.std.specs.Prelude.{slice_index}
-use Rattle.std.specs.List.{list_all}
-use Rattle.std.proofs.lemmas.Bool.{and_parts, and_from, cases_lt, eqb-true, ltb-true}
-use Rattle.std.proofs.lemmas.List.{append-nil, append_assoc}
-use Rattle.semver.specs.Parse.{Parts, Held}
+use Rattle.std.proofs.lemmas.Bool.{and_parts, and_from, cases_lt}
+use Rattle.std.proofs.lemmas.List.{append-nil}
+use Rattle.semver.specs.Parse.{Parts}
 use Rattle.semver.specs.Identifiers.{parts_text}
 use Rattle.semver.specs.Grammar.{IsValid}
-use Rattle.semver.specs.declared.Op.TheVariants.{Exact, GreaterEq, Less}
-use Rattle.hex.specs.Hex.{IsBytes, encode_lower, encode_with, lower_digits}
+use Rattle.hex.specs.Hex.{IsBytes, encode_with, lower_digits}
 use Rattle.warg_hash.specs.Hash.{IsDigest}
 use Rattle.warg_hash.specs.Name.{IsPackageName}
 use Rattle.warg_names.specs.Cut.{lacks}
 use Rattle.warg_names.specs.Grammar.{Bounds, From, Below, Between, Range, Plain, Star, Within, LockedName, bounds_text, range_text, AreBounds, IsRange, bounds_requirement, range_requirement}
-use Rattle.warg_names.specs.Import.{angle, compared, dependency, locked, import_of, dependency_of}
+use Rattle.warg_names.specs.Import.{angle, dependency, locked, import_of, dependency_of}
 use Rattle.warg_names.specs.ImportLaws.{import_of-again, unlocked_again, dependency_of-again}
 use Rattle.warg_names.specs.Mark.{mark_text}
-use Rattle.warg_names.specs.Texts.{versioned_text, locked_text, comparator_text, following, spaced}
+use Rattle.warg_names.specs.Texts.{versioned_text, locked_text, following, spaced}
 
 -- ---- locked packages
 

@@ -1,4 +1,4 @@
-use Rattle.std.proofs.Common.{sym, ap, ◌∙◌}
+use Rattle.std.proofs.Common.{ap, ◌∙◌}
 use Rattle.warg_names.specs.Mark.{digest_marked}
 use Rattle.warg_names.specs.MarkLaws.{digest_marked-again, digest_marked-sound}
 use Rattle.warg_names.proofs.laws.a_mark_names_one_digest.Goals as goal

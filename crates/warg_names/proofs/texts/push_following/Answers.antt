@@ -1,6 +1,6 @@
-use Rattle.std.proofs.Common.{◌≡◌, ◌++◌, ◌+◌, ◌∷◌, [], map, take, sym, ap, ◌∙◌, codes}
+use Rattle.std.proofs.Common.{◌++◌, ◌∷◌, [], map, take, sym, ap, ◌∙◌, codes}
 use Rattle.std.specs.Prelude.{string_bytes}
-use Rattle.std.proofs.lemmas.List.{append-nil, append_assoc, map_more}
+use Rattle.std.proofs.lemmas.List.{append-nil, map_more}
 use Rattle.semver.specs.Identifiers.{comparator_view}
 use Rattle.warg_names.specs.Texts.{following, comparator_text}
 use Rattle.warg_names.proofs.Following.{following_push, in_a_row}
