@@ -6,8 +6,8 @@ use std::test::Fail;
 use warg_hash::AnyHash;
 use warg_log::Release;
 use warg_names::{
-    DependencyImportParser, Import, ImportKind, ImportNameError, kindless_name, locked_package,
-    marked, new_tree, version_string, versioned_package,
+    DependencyImportParser, Import, ImportKind, ImportNameError, TreeBuilder, create_child_node,
+    kindless_name, locked_package, marked, new_tree, version_string, versioned_package,
 };
 
 /// Names, each with what it asks for.
@@ -343,5 +343,57 @@ fn trees_begin_with_a_package(rt: HostRuntime) -> Result<(), Fail> {
     let tree = new_tree(alloc, "demo", "app", &version)?;
     assert_eq!(rt; tree.text.as_str(), "demo:app@1.0.0+x");
     assert!(rt; tree.children.is_empty());
+    Ok(())
+}
+
+/// The texts of the nodes below one, with a comma behind each.
+fn texts_below(alloc: Global, node: &TreeBuilder) -> Result<String, Fail> {
+    let mut texts = String::new(alloc);
+    for child in node.children.as_slice() {
+        texts.push_str(child.text.as_str())?;
+        texts.push_str(",")?;
+    }
+    Ok(texts)
+}
+
+#[test]
+fn nodes_are_added_last(rt: HostRuntime) -> Result<(), Fail> {
+    let alloc = rt.alloc();
+    let mut tree = new_tree(alloc, "demo", "app", &Version::new(1, 0, 0))?;
+    let first = create_child_node(alloc, &mut tree, "a:b", "1.0.0")?;
+    create_child_node(alloc, first, "c:d", "*")?;
+    create_child_node(alloc, &mut tree, "e:f", "{>=1.0.0}")?;
+    assert_eq!(rt;
+        texts_below(alloc, &tree)?.as_str(),
+        "a:b@1.0.0,e:f@{>=1.0.0},"
+    );
+    let below = match tree.children.as_slice() {
+        [first, ..] => texts_below(alloc, first)?,
+        [] => String::new(alloc),
+    };
+    assert_eq!(rt; below.as_str(), "c:d@*,");
+    Ok(())
+}
+
+/// The import of a name.
+fn import(alloc: Global, name: &str) -> Result<Import, Fail> {
+    let mut parser = DependencyImportParser {
+        next: name,
+        offset: 0,
+    };
+    Ok(parser.parse(alloc)?)
+}
+
+#[test]
+fn imports_are_compared_by_what_they_ask_for(rt: HostRuntime) -> Result<(), Fail> {
+    let alloc = rt.alloc();
+    let plain = import(alloc, "unlocked-dep=<a:b>")?;
+    let star = import(alloc, "unlocked-dep=<a:b@*>")?;
+    let locked = import(alloc, "locked-dep=<a:b@1.0.0+x>")?;
+    let other = import(alloc, "locked-dep=<a:b@1.0.0+y>")?;
+    assert!(rt; plain.is_same(&star) && plain == star);
+    assert!(rt; !locked.is_same(&other) && locked != other);
+    let copy = locked.try_clone(alloc)?;
+    assert!(rt; copy.is_same(&locked) && copy == locked);
     Ok(())
 }

@@ -1,5 +1,6 @@
--- How import names are written, and what each form asks for. A name is in one form at most, and `Import.import_of` is what
--- that form asks for.
+-- How import names are written, and what each form asks for. The forms are a choice of this project among those of the
+-- Component Model's `Explainer.md`, "Import and Export Definitions". A name is in one form at most, and `Import.import_of`
+-- is what that form asks for.
 use Rattle.std.specs.Prelude.{◌≡◌, ℕ, ◌<◌, ◌++◌, ◌∷◌, [], true, List, length, codes, Option, Some, None, IfSome, ⊤}
 use Rattle.semver.specs.Parse.{Parts, Held}
 use Rattle.semver.specs.Identifiers.{parts_text}

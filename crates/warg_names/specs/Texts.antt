@@ -37,7 +37,7 @@ left_out _ = []
 -- a version's numbers, as far as a comparator has them
 abbrev pub numbers_text : Op → ℕ → Option ℕ → Option ℕ → List ℕ → List ℕ
 numbers_text op major None patch pre = decimal major ++ left_out op
-numbers_text op major (Some minor) None pre = decimal major ++ (46 ∷ (decimal minor ++ left_out op))
+numbers_text op major (Some minor) None pre = decimal major ++ (codes "." ++ (decimal minor ++ left_out op))
 numbers_text op major (Some minor) (Some patch) pre = parts_text (major, minor, patch, pre, [])
 
 -- a comparator, as Cargo writes it: an operator, and a version without build metadata
