@@ -6,6 +6,8 @@ mod hash;
 #[cfg(test)]
 mod log;
 #[cfg(test)]
+mod names;
+#[cfg(test)]
 mod proof;
 #[cfg(test)]
 mod record;

@@ -3,6 +3,7 @@
 
 pub mod hash;
 pub mod log;
+pub mod names;
 pub mod proof;
 pub mod record;
 pub mod values;

@@ -1,0 +1,15 @@
+pub mod ByteLaws
+pub mod Cut
+pub mod CutLaws
+pub mod Grammar
+pub mod Import
+pub mod ImportLaws
+pub mod Mark
+pub mod MarkLaws
+pub mod ReadLaws
+pub mod Same
+pub mod SameLaws
+pub mod TextLaws
+pub mod Texts
+pub mod Tree
+pub mod View
