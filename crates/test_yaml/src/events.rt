@@ -110,8 +110,24 @@ fn refused_examples_of_the_standard(rt: HostRuntime) -> Result<(), Fail> {
 }
 
 #[test]
-fn doubtful_corners(rt: HostRuntime) -> Result<(), Fail> {
-    for (text, want) in CORNERS {
+fn doubtful_white_space_and_comments(rt: HostRuntime) -> Result<(), Fail> {
+    for (text, want) in WHITE_SPACE {
+        assert_eq!(rt; emitted(rt.alloc(), text)?.as_str(), want, "{text:?}");
+    }
+    Ok(())
+}
+
+#[test]
+fn doubtful_scalars(rt: HostRuntime) -> Result<(), Fail> {
+    for (text, want) in SCALARS {
+        assert_eq!(rt; emitted(rt.alloc(), text)?.as_str(), want, "{text:?}");
+    }
+    Ok(())
+}
+
+#[test]
+fn doubtful_flows_keys_and_documents(rt: HostRuntime) -> Result<(), Fail> {
+    for (text, want) in STRUCTURE {
         assert_eq!(rt; emitted(rt.alloc(), text)?.as_str(), want, "{text:?}");
     }
     Ok(())
@@ -526,8 +542,8 @@ const REFUSED: [(&str, &str); 26] = [
     ),
 ];
 
-/// Texts about which a reader may doubt, the events of their nodes, and the error where one comes.
-const CORNERS: [(&str, &str); 91] = [
+/// Doubtful corners of white space and comments, with the events or the refusal of each text.
+const WHITE_SPACE: [(&str, &str); 21] = [
     ("# \u{1}", "!Form 1:2"),
     ("a # b\u{1}", ":a !Form 1:5"),
     ("a\n# b\u{1}\n", ":a !Form 2:3"),
@@ -549,6 +565,10 @@ const CORNERS: [(&str, &str); 91] = [
     ("{a : b, 'c' : d}", "{ :a :b 'c :d }"),
     ("{a\n: b}", "{ :a :b }"),
     ("a\n: b", ":a !NotCarried 2:0"),
+];
+
+/// Doubtful corners of scalars, with the events or the refusal of each text.
+const SCALARS: [(&str, &str); 32] = [
     ("|-\t\nx", "|x"),
     (">-\t\nx", ">x"),
     ("|#c", "!Form 1:1"),
@@ -581,6 +601,10 @@ const CORNERS: [(&str, &str); 91] = [
     ("|--\nx", "!Form 1:2"),
     ("'a\nb'", "!NotCarried 1:2"),
     ("'a", "!Form 1:2"),
+];
+
+/// Doubtful corners of flows, keys and documents, with the events or the refusal of each text.
+const STRUCTURE: [(&str, &str); 38] = [
     ("a # c\n b", ":a !Form 2:1"),
     ("[a # c\n b]", "[ :a !Form 2:1"),
     ("a: b\n  c: d", "{ :a :b !NotCarried 2:2"),
