@@ -90,125 +90,104 @@ fn end_of(alloc: Global, given: Given<'_>) -> Result<End, Fail> {
     })
 }
 
+/// Whether a run ends with this status and this line, and leaves these bytes in OUT, or no OUT.
+fn ends(
+    alloc: Global,
+    given: Given<'_>,
+    status: u8,
+    line: &str,
+    written: Option<&[u8]>,
+) -> Result<bool, Fail> {
+    let end = end_of(alloc, given)?;
+    let is_written = match (&end.written, written) {
+        (None, None) => true,
+        (Some(bytes), Some(expected)) => bytes.as_slice() == expected,
+        _ => false,
+    };
+    Ok(end.status == status && end.printed.as_str() == line && is_written)
+}
+
 #[test]
-fn runs_end_with_their_status_their_line_and_their_file(rt: HostRuntime) -> Result<(), Fail> {
-    let rows: [(&str, Given<'_>, u8, &str, Option<&[u8]>); 12] = [
+fn a_component_is_nested_and_exports_again_what_it_exports(rt: HostRuntime) -> Result<(), Fail> {
+    let rows = [
+        (EMPTY, EMPTY_LINE, EMPTY_LINKED),
+        (TUPLE, TUPLE_LINE, TUPLE_LINKED),
+    ];
+    for (root, line, written) in rows {
+        assert!(rt;
+            ends(rt.alloc(), of_root(root), 0, line, Some(written))?,
+            "{line}"
+        );
+    }
+    Ok(())
+}
+
+#[test]
+fn what_is_no_component_of_the_form_is_refused(rt: HostRuntime) -> Result<(), Fail> {
+    let rows: [(&str, &[u8]); 3] = [
+        ("a core module", b"\0asm\x01\0\0\0"),
+        ("a custom section", b"\0asm\r\0\x01\0\0\x04\x01xxx"),
+        ("an import", IMPORTS),
+    ];
+    for (name, root) in rows {
+        assert!(rt;
+            ends(rt.alloc(), of_root(root), 6, "refused BadComponent\n", None)?,
+            "{name}"
+        );
+    }
+    Ok(())
+}
+
+#[test]
+fn a_missing_component_is_named(rt: HostRuntime) -> Result<(), Fail> {
+    let missing = Given {
+        root: None,
+        ..of_root(EMPTY)
+    };
+    let not_told = Given {
+        failing_line: Some(1),
+        ..missing
+    };
+    assert!(rt; ends(rt.alloc(), missing, 3, "missing root.wasm\n", None)?);
+    assert!(rt;
+        ends(rt.alloc(), not_told, 3, "", None)?,
+        "its line is not taken"
+    );
+    Ok(())
+}
+
+#[test]
+fn files_and_lines_that_fail_are_faults(rt: HostRuntime) -> Result<(), Fail> {
+    let rows = [
+        ("the read", Some(2), None, None),
+        ("the write", Some(3), None, None),
         (
-            "an empty component is nested and has one instance",
-            of_root(EMPTY),
-            0,
-            EMPTY_LINE,
+            "the line, once OUT is written",
+            None,
+            Some(1),
             Some(EMPTY_LINKED),
-        ),
-        (
-            "an exported type is exported again",
-            of_root(TUPLE),
-            0,
-            TUPLE_LINE,
-            Some(TUPLE_LINKED),
-        ),
-        (
-            "a core module is refused",
-            of_root(b"\0asm\x01\0\0\0"),
-            6,
-            "refused BadComponent\n",
-            None,
-        ),
-        (
-            "a custom section is refused",
-            of_root(b"\0asm\r\0\x01\0\0\x04\x01xxx"),
-            6,
-            "refused BadComponent\n",
-            None,
-        ),
-        (
-            "an import is refused",
-            of_root(IMPORTS),
-            6,
-            "refused BadComponent\n",
-            None,
-        ),
-        (
-            "a missing component is named",
-            Given {
-                root: None,
-                ..of_root(EMPTY)
-            },
-            3,
-            "missing root.wasm\n",
-            None,
-        ),
-        (
-            "a read that fails is a fault",
-            Given {
-                failing_file: Some(2),
-                ..of_root(EMPTY)
-            },
-            4,
-            "fault\n",
-            None,
-        ),
-        (
-            "a write that fails is a fault",
-            Given {
-                failing_file: Some(3),
-                ..of_root(EMPTY)
-            },
-            4,
-            "fault\n",
-            None,
-        ),
-        (
-            "a line that is not taken is a fault once OUT is written",
-            Given {
-                failing_line: Some(1),
-                ..of_root(EMPTY)
-            },
-            4,
-            "fault\n",
-            Some(EMPTY_LINKED),
-        ),
-        (
-            "a refusal whose line is not taken keeps its status",
-            Given {
-                root: None,
-                failing_line: Some(1),
-                ..of_root(EMPTY)
-            },
-            3,
-            "",
-            None,
-        ),
-        (
-            "two words are no command",
-            Given {
-                words: &["link", "root.wasm"],
-                ..of_root(EMPTY)
-            },
-            2,
-            "usage\n",
-            None,
-        ),
-        (
-            "another first word is no command",
-            Given {
-                words: &["join", "root.wasm", "out.wasm"],
-                ..of_root(EMPTY)
-            },
-            2,
-            "usage\n",
-            None,
         ),
     ];
-    for (name, given, status, line, written) in rows {
-        let end = end_of(rt.alloc(), given)?;
-        assert_eq!(rt; end.status, status, "{name}");
-        assert_eq!(rt; end.printed.as_str(), line, "{name}");
-        match (end.written, written) {
-            (None, None) => {}
-            (Some(bytes), Some(expected)) => assert_eq!(rt; bytes.as_slice(), expected, "{name}"),
-            _ => assert!(rt; false, "{name}"),
-        }
+    for (name, failing_file, failing_line, written) in rows {
+        let given = Given {
+            failing_file,
+            failing_line,
+            ..of_root(EMPTY)
+        };
+        assert!(rt; ends(rt.alloc(), given, 4, "fault\n", written)?, "{name}");
+    }
+    Ok(())
+}
+
+#[test]
+fn other_words_are_no_command(rt: HostRuntime) -> Result<(), Fail> {
+    let rows: [&[&str]; 2] = [&["link", "root.wasm"], &["join", "root.wasm", "out.wasm"]];
+    for words in rows {
+        let given = Given {
+            words,
+            ..of_root(EMPTY)
+        };
+        assert!(rt; ends(rt.alloc(), given, 2, "usage\n", None)?);
     }
     Ok(())
 }
