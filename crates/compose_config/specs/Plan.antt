@@ -8,7 +8,7 @@ use Rattle.yaml_small.specs.declared.schema.Resolved.TheVariants as resolved
 use Rattle.yaml_small.specs.Schema as schema
 use Rattle.yaml_small.specs.Trees.{Scalar, Tree, Leaf, Seq, Map, pair, no_pairs}
 use Rattle.yaml_small.specs.declared.event.Style.TheVariants.{Plain}
-use Rattle.yaml_read.specs.Source.{Source, Refusal, WrongScalar, UnknownField, MissingField}
+use Rattle.yaml_read.specs.Source.{Source, Refusal, WrongScalar, UnknownField, MissingField, Refused}
 use Rattle.yaml_read.specs.Scalar.{truth, bool_at, any_at}
 use Rattle.yaml_read.specs.Collections.{scalar_front, seq_at, map_at, option_at, pushed, mapped_at, checked_at, refused_at}
 use Rattle.yaml_read.specs.Nodes.{any_node, plain_node, seq_node, map_node, option_node, mapped_node, checked_node, refused_node}
@@ -75,18 +75,18 @@ value_node of_text of_node (Some (Leaf s)) = checked_node (text_value of_text) (
 value_node of_text of_node (Some (Seq ts)) = of_node (Some (Seq ts))
 value_node of_text of_node (Some (Map ps)) = of_node (Some (Map ps))
 
-abbrev pub chosen : {X : Type 0} → Bool → (Name → Option X) → (Source → Result (X × Source) Refusal) → Source → Result (X × Source) Refusal
+abbrev pub chosen : {X : Type 0} → Bool → (Name → Option X) → (Source → Result (X × Source) Refused) → Source → Result (X × Source) Refused
 chosen true of_text read s = checked_at (text_value of_text) any_at s
 chosen false of_text read s = read s
 
-unfoldable pub value_at : {X : Type 0} → (Name → Option X) → (Source → Result (X × Source) Refusal) → Source → Result (X × Source) Refusal
+unfoldable pub value_at : {X : Type 0} → (Name → Option X) → (Source → Result (X × Source) Refused) → Source → Result (X × Source) Refused
 value_at of_text read s = scalar_front s >>= λ is_one. chosen is_one of_text read s
 
 -- a map of such values, in the order of their first places
 abbrev pub index_node : {X : Type 0} → (Name → Option X) → (Option Tree → Option X) → Option Tree → Option (List (Name × X))
 index_node of_text of_node = map_node (λ es key. mapped_node (insert_entry bytes_eq es key) (value_node of_text of_node)) []
 
-abbrev pub index_at : {X : Type 0} → (Name → Option X) → (Source → Result (X × Source) Refusal) → Source → Result (List (Name × X) × Source) Refusal
+abbrev pub index_at : {X : Type 0} → (Name → Option X) → (Source → Result (X × Source) Refused) → Source → Result (List (Name × X) × Source) Refused
 index_at of_text read = map_at (λ es key. mapped_at (insert_entry bytes_eq es key) (value_at of_text read)) []
 
 abbrev pub is_name : Name → Name → Bool
@@ -100,13 +100,13 @@ required field (Some name) = Ok name
 abbrev pub path_takes : Option Name → Name → Option Tree → Option (Option Name)
 path_takes x key = if is_name key (codes "path") then mapped_node Some (any_node Ok) else refused_node
 
-abbrev pub path_fills : Option Name → Name → Source → Result (Option Name × Source) Refusal
+abbrev pub path_fills : Option Name → Name → Source → Result (Option Name × Source) Refused
 path_fills x key = if is_name key (codes "path") then mapped_at Some any_at else refused_at (UnknownField key)
 
 abbrev pub dependency_node : Option Tree → Option Name
 dependency_node = checked_node (required (codes "path")) (map_node path_takes None)
 
-abbrev pub dependency_at : Source → Result (Name × Source) Refusal
+abbrev pub dependency_at : Source → Result (Name × Source) Refused
 dependency_at = checked_at (required (codes "path")) (map_at path_fills None)
 
 -- an argument: its instance, which is required, and an export
@@ -129,7 +129,7 @@ part_takes p key =
     else if is_name key (codes "export") then mapped_node (with_export p) (option_node (any_node Ok))
     else refused_node
 
-abbrev pub part_fills : Parts → Name → Source → Result (Parts × Source) Refusal
+abbrev pub part_fills : Parts → Name → Source → Result (Parts × Source) Refused
 part_fills p key =
     if is_name key (codes "instance") then mapped_at (with_instance p) any_at
     else if is_name key (codes "export") then mapped_at (with_export p) (option_at any_at)
@@ -141,7 +141,7 @@ argument_of p = required (codes "instance") p.instance >>= λ name. Ok (record {
 abbrev pub argument_node : Option Tree → Option Argument
 argument_node = checked_node argument_of (map_node part_takes no_parts)
 
-abbrev pub argument_at : Source → Result (Argument × Source) Refusal
+abbrev pub argument_at : Source → Result (Argument × Source) Refused
 argument_at = checked_at argument_of (map_at part_fills no_parts)
 
 -- a text is short for an argument's instance
@@ -165,7 +165,7 @@ instance_takes i key =
     mapped_node (with_arguments i) (index_node plain_argument argument_node)
     else refused_node
 
-abbrev pub instance_fills : Instance → Name → Source → Result (Instance × Source) Refusal
+abbrev pub instance_fills : Instance → Name → Source → Result (Instance × Source) Refused
 instance_fills i key =
     if is_name key (codes "dependency") then mapped_at (with_dependency i) (option_at any_at)
     else if is_name key (codes "arguments") then mapped_at (with_arguments i) (index_at plain_argument argument_at)
@@ -174,20 +174,20 @@ instance_fills i key =
 abbrev pub instance_node : Option Tree → Option Instance
 instance_node = map_node instance_takes no_instance
 
-abbrev pub instance_at : Source → Result (Instance × Source) Refusal
+abbrev pub instance_at : Source → Result (Instance × Source) Refused
 instance_at = map_at instance_fills no_instance
 
 -- the settings
 abbrev pub names_node : Option Tree → Option (List Name)
 names_node = seq_node (λ xs at. mapped_node (pushed xs) (any_node Ok)) []
 
-abbrev pub names_at : Source → Result (List Name × Source) Refusal
+abbrev pub names_at : Source → Result (List Name × Source) Refused
 names_at = seq_at (λ xs at. mapped_at (pushed xs) any_at) []
 
 abbrev pub instances_node : Option Tree → Option (List (Name × Instance))
 instances_node = map_node (λ es key. mapped_node (insert_entry bytes_eq es key) instance_node) []
 
-abbrev pub instances_at : Source → Result (List (Name × Instance) × Source) Refusal
+abbrev pub instances_at : Source → Result (List (Name × Instance) × Source) Refused
 instances_at = map_at (λ es key. mapped_at (insert_entry bytes_eq es key) instance_at) []
 
 -- a text is short for a dependency's path
@@ -230,7 +230,7 @@ setting_takes s key =
     else if is_name key (codes "instantiations") then mapped_node (with_instantiations s) instances_node
     else refused_node
 
-abbrev pub setting_fills : Settings → Name → Source → Result (Settings × Source) Refusal
+abbrev pub setting_fills : Settings → Name → Source → Result (Settings × Source) Refused
 setting_fills s key =
     if is_name key (codes "definitions") then mapped_at (with_definitions s) names_at
     else if is_name key (codes "search-paths") then mapped_at (with_search_paths s) names_at
@@ -245,7 +245,7 @@ setting_fills s key =
 abbrev pub settings_node : Option Tree → Option Settings
 settings_node = map_node setting_takes no_settings
 
-abbrev pub settings_at : Source → Result (Settings × Source) Refusal
+abbrev pub settings_at : Source → Result (Settings × Source) Refused
 settings_at = map_at setting_fills no_settings
 
 -- The name of the dependency of an instance: what its instantiation says, or the instance's own name.

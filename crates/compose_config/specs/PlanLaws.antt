@@ -7,7 +7,7 @@ use Rattle.yaml_small.specs.declared.event.Event.{Event}
 use Rattle.yaml_small.specs.declared.event.Event.TheVariants as events
 use Rattle.yaml_small.specs.Trees.{Tree, Leaf, Seq, Map, scalar_event}
 use Rattle.yaml_small.specs.Stream.{State, next}
-use Rattle.yaml_read.specs.Source.{Source, Refusal, UnknownField, front}
+use Rattle.yaml_read.specs.Source.{Source, UnknownField, front, Refused}
 use Rattle.yaml_read.specs.Scalar.{truth, any_at}
 use Rattle.yaml_read.specs.Collections.{is_scalar, scalar_front, option_at, pushed, mapped_at, checked_at}
 use Rattle.yaml_read.specs.Nodes.{any_node, option_node, mapped_node, checked_node}
@@ -18,7 +18,7 @@ use Rattle.yaml_read.specs.CollectionLaws.{emitted_once, seq_reads, map_reads}
 use Rattle.yaml_read.specs.PartLaws.{option_reads, mapped_reads, checked_reads, choice_reads, refused_reads}
 use Rattle.compose_config.specs.Plan
 
-bind_twice : {A B C : Type 0} (r : Result A Refusal) (g : A → Result B Refusal) (h : B → Result C Refusal) → ((r >>= g) >>= h) ≡ (r >>= λ a. g a >>= h)
+bind_twice : {A B C : Type 0} (r : Result A Refused) (g : A → Result B Refused) (h : B → Result C Refused) → ((r >>= g) >>= h) ≡ (r >>= λ a. g a >>= h)
 bind_twice (Ok a) g h = refl
 bind_twice (Err refusal) g h = refl
 
@@ -32,14 +32,14 @@ text_reads : {X : Type 0} (of_text : Plan.Name → Option X) → Reads (checked_
 text_reads of_text = checked_reads (Plan.text_value of_text) (any_node Ok) any_at any_reads
 
 -- a value is a scalar that is a text, or what its type reads
-value_found : {X : Type 0} (of_text : Plan.Name → Option X) (of_node : Option Tree → Option X) (read : Source → Result (X × Source) Refusal) → Reads of_node read
+value_found : {X : Type 0} (of_text : Plan.Name → Option X) (of_node : Option Tree → Option X) (read : Source → Result (X × Source) Refused) → Reads of_node read
     → (s : Source) (x : X) (m : Source) → Plan.value_at of_text read s ≡ Ok (x, m) → Found (Plan.value_node of_text of_node) s x m
 unfolding Plan.value_at scalar_front
 value_found {X} of_text of_node read law s x m h =
     let a = bind_ok (scalar_front s) _ _ h in
     let b = bind_ok (front s) _ _ a.1 in
     let f = front_is s b.0 b.1 in
-    by_event b.0 f.0.state (pull_is s b.0 f.0 f.1) (is_scalar b.0) refl (ap (λ (v : Bool). Plan.chosen v of_text read s) (ok_is {F = Refusal} (is_scalar b.0) a.0 b.2) ∙ a.2)
+    by_event b.0 f.0.state (pull_is s b.0 f.0 f.1) (is_scalar b.0) refl (ap (λ (v : Bool). Plan.chosen v of_text read s) (ok_is {F = Refused} (is_scalar b.0) a.0 b.2) ∙ a.2)
   where
     leaf : (node : Option Tree) → checked_node (Plan.text_value of_text) (any_node Ok) node ≡ Some x → Plan.value_node of_text of_node node ≡ Some x
     leaf None is = absurd (some_apart x is)
@@ -57,7 +57,7 @@ value_found {X} of_text of_node read law s x m h =
     by_event e z here true is h = let f = (text_reads of_text).sound s x m h in record { node = f.node; emitted = f.emitted; read = leaf f.node f.read }
     by_event e z here false is h = let f = law.sound s x m h in record { node = f.node; emitted = f.emitted; read = other e z here is f.node f.emitted f.read }
 
-value_gets : {X : Type 0} (of_text : Plan.Name → Option X) (of_node : Option Tree → Option X) (read : Source → Result (X × Source) Refusal) → Reads of_node read
+value_gets : {X : Type 0} (of_text : Plan.Name → Option X) (of_node : Option Tree → Option X) (read : Source → Result (X × Source) Refused) → Reads of_node read
     → (s : Source) (node : Option Tree) (z : State) (x : X) → Emits s.state node z → Plan.value_node of_text of_node node ≡ Some x → Gets s.left x z (Plan.value_at of_text read s)
 unfolding Plan.value_at scalar_front
 value_gets {X} of_text of_node read law s node z x run is =
@@ -69,14 +69,14 @@ value_gets {X} of_text of_node read law s node z x run is =
     by_node (Some (Seq ts)) run is = fronts s.left s events.SequenceStart run.0 x z _ run.1 (law.complete s (Some (Seq ts)) z x run is)
     by_node (Some (Map ps)) run is = fronts s.left s events.MappingStart run.0 x z _ run.1 (law.complete s (Some (Map ps)) z x run is)
 
-pub value_reads : {X : Type 0} (of_text : Plan.Name → Option X) (of_node : Option Tree → Option X) (read : Source → Result (X × Source) Refusal) → Reads of_node read → Reads (Plan.value_node of_text of_node) (Plan.value_at of_text read)
+pub value_reads : {X : Type 0} (of_text : Plan.Name → Option X) (of_node : Option Tree → Option X) (read : Source → Result (X × Source) Refused) → Reads of_node read → Reads (Plan.value_node of_text of_node) (Plan.value_at of_text read)
 value_reads of_text of_node read law = record { sound = value_found of_text of_node read law; complete = value_gets of_text of_node read law }
 
-pub index_entry : {X : Type 0} (of_text : Plan.Name → Option X) (of_node : Option Tree → Option X) (read : Source → Result (X × Source) Refusal) → Reads of_node read → (es : List (Plan.Name × X)) (key : Plan.Name)
+pub index_entry : {X : Type 0} (of_text : Plan.Name → Option X) (of_node : Option Tree → Option X) (read : Source → Result (X × Source) Refused) → Reads of_node read → (es : List (Plan.Name × X)) (key : Plan.Name)
     → Reads (mapped_node (insert_entry bytes_eq es key) (Plan.value_node of_text of_node)) (mapped_at (insert_entry bytes_eq es key) (Plan.value_at of_text read))
 index_entry of_text of_node read law es key = mapped_reads (insert_entry bytes_eq es key) _ _ (value_reads of_text of_node read law)
 
-pub index_reads : {X : Type 0} (of_text : Plan.Name → Option X) (of_node : Option Tree → Option X) (read : Source → Result (X × Source) Refusal) → Reads of_node read → Reads (Plan.index_node of_text of_node) (Plan.index_at of_text read)
+pub index_reads : {X : Type 0} (of_text : Plan.Name → Option X) (of_node : Option Tree → Option X) (read : Source → Result (X × Source) Refused) → Reads of_node read → Reads (Plan.index_node of_text of_node) (Plan.index_at of_text read)
 index_reads of_text of_node read law = map_reads _ _ (index_entry of_text of_node read law) []
 
 pub path_reads : (x : Option Plan.Name) (key : Plan.Name) → Reads (Plan.path_takes x key) (Plan.path_fills x key)

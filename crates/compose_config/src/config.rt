@@ -1,7 +1,7 @@
 //! The configuration of a composition.
 
 ghost use Rattle.std.specs.Prelude.{◌≡◌, [], IfOk, Ok, map, option_map, option_copied};
-ghost use Rattle.yaml_read.specs.Answers.{source_of, ReadGives};
+ghost use Rattle.yaml_read.specs.Answers.{source_of, ReadGives, ReadTakes};
 ghost use Rattle.yaml_read.specs.Entries.{seen_entry};
 ghost use Rattle.yaml_read.specs.Whole.{Holds, whole_at};
 ghost use Rattle.compose_config.specs.Plan as plan;
@@ -139,7 +139,8 @@ struct ConfigFill {
 /// A list of names.
 #[tactic(auto, using(crate::proofs::Same::list_same))]
 fn read_names(alloc: Global, de: &mut YamlDeserializer<'_>) -> Result<Vec<Text>, DeError>
-    ensures { ReadGives (λ read. (read.items, source_of de.new)) result (plan.names_at (source_of de.old)) }
+    ensures { ReadTakes (λ read. (read.items, source_of de.new)) (source_of de.new) result
+        (plan.names_at (source_of de.old)) }
 {
     Vec::<Text>::read_yaml(alloc, de)
 }

@@ -3,7 +3,7 @@
 ghost use Rattle.std.specs.Prelude.{◌≡◌, ℕ, List, Option, Some, map, bytes_eq, IfOk};
 ghost use Rattle.indexmap.specs.IndexMap.{insert_entry};
 ghost use Rattle.yaml_small.specs.Trees.{Tree};
-ghost use Rattle.yaml_read.specs.Answers.{source_of, ReadGives};
+ghost use Rattle.yaml_read.specs.Answers.{source_of, ReadTakes};
 ghost use Rattle.yaml_read.specs.Collections as collections;
 ghost use Rattle.yaml_read.specs.Nodes as nodes;
 ghost use Rattle.yaml_read.specs.Entries.{seen_entry};
@@ -35,7 +35,7 @@ struct IndexFill<V> {
 /// A value: a map of its own, or a scalar that is a text.
 #[tactic(auto, unfolding(crate::specs::Plan::value_at))]
 fn read_value<V: FromText>(alloc: Global, de: &mut YamlDeserializer<'_>) -> Result<V, DeError>
-    ensures { ReadGives (λ read. (V.seen read, source_of de.new)) result
+    ensures { ReadTakes (λ read. (V.seen read, source_of de.new)) (source_of de.new) result
         (plan.value_at (λ text. V.of_node (V.node text)) V.read_at (source_of de.old)) }
 {
     if !de.at_scalar(alloc)? {
@@ -94,7 +94,7 @@ pub fn index_map<V: FromText>(
     alloc: Global,
     de: &mut YamlDeserializer<'_>,
 ) -> Result<IndexMap<Text, V>, DeError>
-    ensures { ReadGives (λ read. (map (seen_entry V.seen) read.entries, source_of de.new)) result
+    ensures { ReadTakes (λ read. (map (seen_entry V.seen) read.entries, source_of de.new)) (source_of de.new) result
         (plan.index_at (λ text. V.of_node (V.node text)) V.read_at (source_of de.old)) }
 {
     let mut fill = IndexFill {

@@ -1,7 +1,7 @@
 //! Dependencies, instantiations and their arguments.
 
 ghost use Rattle.std.specs.Prelude.{◌≡◌, ℕ, List, Option, Some, IfOk};
-ghost use Rattle.yaml_read.specs.Answers.{source_of, ReadGives};
+ghost use Rattle.yaml_read.specs.Answers.{source_of, ReadGives, ReadTakes};
 ghost use Rattle.yaml_read.specs.Collections as collections;
 ghost use Rattle.yaml_read.specs.Scalar as scalar;
 ghost use Rattle.compose_config.specs.Plan as plan;
@@ -246,7 +246,8 @@ impl MapFill for ArgumentFill {
 /// A name that may be missing.
 #[tactic(auto, using(crate::proofs::Same::option_same))]
 pub fn read_name(alloc: Global, de: &mut YamlDeserializer<'_>) -> Result<Option<Text>, DeError>
-    ensures { ReadGives (λ read. (read, source_of de.new)) result (collections.option_at scalar.any_at (source_of de.old)) }
+    ensures { ReadTakes (λ read. (read, source_of de.new)) (source_of de.new) result
+        (collections.option_at scalar.any_at (source_of de.old)) }
 {
     de.read_option::<Text>(alloc)
 }

@@ -4,8 +4,6 @@ use compose_config::{Config, Dependency, Instantiation, InstantiationArg};
 use std::alloc::Global;
 use std::test::Fail;
 use warg_values::Text;
-use yaml_read::DeError;
-use yaml_small::Marker;
 
 /// A plan with each form of dependency and argument.
 const PLAN: &str = "\
@@ -42,10 +40,14 @@ instantiations:
     dependency: demo:log
 ";
 
-/// A text of its own.
-fn text(alloc: Global, text: &str) -> Result<Text, Fail> {
-    Ok(Text::copy_of(alloc, text)?)
-}
+/// A plan in which an argument stands twice.
+const REPEATED: &str = "\
+instantiations:
+  root:
+    arguments:
+      a: b
+      a: {instance: c}
+";
 
 /// The configuration of a text, or a copy of it.
 fn config_of(alloc: Global, text: &str, copied: bool) -> Result<Config, Fail> {
@@ -56,171 +58,126 @@ fn config_of(alloc: Global, text: &str, copied: bool) -> Result<Config, Fail> {
     Ok(config)
 }
 
-/// Why a text is refused.
-fn refusal_of(alloc: Global, text: &str) -> Result<DeError, Fail> {
-    Ok(Config::from_text(alloc, text).err().ok_or("read")?)
+/// What is looked for in a configuration.
+#[derive(Clone, Copy)]
+enum Part {
+    /// How many search paths, dependencies and instantiations it has, and whether validation is skipped.
+    Counts,
+    /// The name of the dependency that an instance is made of.
+    DependencyName,
+    /// The path of a dependency.
+    Path,
+    /// An argument of the instance `root`: the instance that is passed, a slash, and the export of it.
+    Argument,
 }
 
-/// How many search paths, dependencies and instantiations a plan has, and whether validation is skipped.
-fn counts(alloc: Global, plan: &str, copied: bool) -> Result<(usize, usize, usize, bool), Fail> {
-    let config = config_of(alloc, plan, copied)?;
-    Ok((
-        config.search_paths.len(),
-        config.dependencies.len(),
-        config.instantiations.len(),
-        config.skip_validation,
-    ))
+/// A configuration's counts, as a text.
+fn counts(alloc: Global, config: &Config) -> Result<String, Fail> {
+    let paths = config.search_paths.len();
+    let dependencies = config.dependencies.len();
+    let instantiations = config.instantiations.len();
+    let skips = config.skip_validation;
+    Ok(format!(in alloc; "{paths} {dependencies} {instantiations} {skips}")?)
 }
 
-/// The name of the dependency that an instance of a plan is made of.
-fn dependency(alloc: Global, plan: &str, copied: bool, instance: &str) -> Result<Text, Fail> {
-    let config = config_of(alloc, plan, copied)?;
-    text(alloc, config.dependency_name(instance))
+/// The path of a dependency.
+fn path(alloc: Global, config: &Config, name: &Text) -> Result<String, Fail> {
+    let found = config.dependencies.get(name).ok_or("no dependency")?;
+    Ok(String::from_str(alloc, found.path.as_str())?)
 }
 
-/// The path of a dependency of a plan.
-fn path(alloc: Global, plan: &str, copied: bool, name: &str) -> Result<Text, Fail> {
-    let name = text(alloc, name)?;
-    let config = config_of(alloc, plan, copied)?;
-    let found = config.dependencies.get(&name).ok_or("no dependency")?;
-    text(alloc, found.path.as_str())
+/// An argument of the instance `root`.
+fn argument(alloc: Global, config: &Config, name: &Text) -> Result<String, Fail> {
+    let root = Text::copy_of(alloc, "root")?;
+    let root = config.instantiations.get(&root).ok_or("no root")?;
+    let argument = root.arguments.get(name).ok_or("no argument")?;
+    let export = match &argument.export {
+        Some(export) => export.as_str(),
+        None => "",
+    };
+    let instance = argument.instance.as_str();
+    Ok(format!(in alloc; "{instance}/{export}")?)
 }
 
-/// An argument of the instance `root` of a plan: the instance that is passed, a slash, and the export of it.
-fn argument(alloc: Global, plan: &str, copied: bool, name: &str) -> Result<String, Fail> {
-    let root = text(alloc, "root")?;
-    let name = text(alloc, name)?;
-    let config = config_of(alloc, plan, copied)?;
-    let instantiation = config.instantiations.get(&root).ok_or("no root")?;
-    let argument = instantiation.arguments.get(&name).ok_or("no argument")?;
-    shown(alloc, argument)
-}
-
-/// The instance that an argument passes, a slash, and the export of it.
-fn shown(alloc: Global, argument: &InstantiationArg) -> Result<String, Fail> {
-    let mut out = String::from_str(alloc, argument.instance.as_str())?;
-    out.push_str("/")?;
-    if let Some(export) = &argument.export {
-        out.push_str(export.as_str())?;
+/// A part of a configuration, as a text.
+fn shown(alloc: Global, config: &Config, part: Part, name: &str) -> Result<String, Fail> {
+    let key = Text::copy_of(alloc, name)?;
+    match part {
+        Part::Counts => counts(alloc, config),
+        Part::DependencyName => Ok(String::from_str(alloc, config.dependency_name(name))?),
+        Part::Path => path(alloc, config, &key),
+        Part::Argument => argument(alloc, config, &key),
     }
-    Ok(out)
 }
 
-/// A plan in which an argument stands twice.
-const REPEATED: &str = "\
-instantiations:
-  root:
-    arguments:
-      a: b
-      a: {instance: c}
-";
-
-#[test]
-fn plans_have_their_parts_and_so_have_copies(rt: HostRuntime) -> Result<(), Fail> {
-    for copied in [false, true] {
-        for (plan, parts) in [
-            (PLAN, (1, 2, 2, false)),
-            (EXAMPLE, (0, 0, 2, false)),
-            (REPEATED, (0, 0, 1, false)),
-        ] {
-            assert_eq!(rt; counts(rt.alloc(), plan, copied)?, parts);
+/// The name of the first row in which something else is found.
+fn first_wrong<'t>(
+    alloc: Global,
+    plan: &str,
+    copied: bool,
+    table: &'t [(Part, &str, &str)],
+) -> Result<Option<&'t str>, Fail> {
+    let config = config_of(alloc, plan, copied)?;
+    for (part, name, want) in table {
+        if shown(alloc, &config, *part, name)?.as_str() != *want {
+            return Ok(Some(*name));
         }
     }
-    Ok(())
+    Ok(None)
 }
 
 #[test]
-fn instances_are_made_of_dependencies(rt: HostRuntime) -> Result<(), Fail> {
-    for (plan, copied, instance, name) in [
-        (EXAMPLE, false, "root", "demo:app"),
-        (EXAMPLE, false, "log", "demo:log"),
-        (PLAN, false, "root", "frontend"),
-        (PLAN, true, "root", "frontend"),
-        (PLAN, false, "time", "time"),
-    ] {
-        assert_eq!(rt;
-            dependency(rt.alloc(), plan, copied, instance)?.as_str(),
-            name
-        );
-    }
-    Ok(())
-}
-
-#[test]
-fn dependencies_have_paths(rt: HostRuntime) -> Result<(), Fail> {
-    for (copied, name, file) in [
-        (false, "frontend", "web/front.wasm"),
-        (false, "backend", "store.wasm"),
-        (true, "backend", "store.wasm"),
-    ] {
-        assert_eq!(rt; path(rt.alloc(), PLAN, copied, name)?.as_str(), file);
-    }
-    Ok(())
-}
-
-#[test]
-fn arguments_pass_instances(rt: HostRuntime) -> Result<(), Fail> {
-    for (plan, copied, name, passed) in [
-        (EXAMPLE, false, "demo:log/sink@1.0.0", "log/"),
-        (PLAN, false, "clock", "time/monotonic"),
-        (PLAN, true, "clock", "time/monotonic"),
-        (PLAN, true, "store", "data/"),
-        // Of a repeated argument the last value counts.
-        (REPEATED, false, "a", "c/"),
-    ] {
-        assert_eq!(rt; argument(rt.alloc(), plan, copied, name)?.as_str(), passed);
-    }
-    Ok(())
-}
-
-#[test]
-fn a_number_is_no_instance(rt: HostRuntime) -> Result<(), Fail> {
+fn plans_have_their_parts(rt: HostRuntime) -> Result<(), Fail> {
     let alloc = rt.alloc();
-    let plan = "instantiations:\n  root:\n    arguments:\n      a: 12\n";
-    let expected = DeError::UnexpectedScalar(
-        text(alloc, "a text or a map")?,
-        text(alloc, "12")?,
-        Marker {
-            line: 4,
-            col: 9,
-            index: 48,
-        },
-    );
-    assert_eq!(rt; refusal_of(alloc, plan)?, expected);
-    Ok(())
-}
-
-#[test]
-fn a_field_that_is_unknown_is_named(rt: HostRuntime) -> Result<(), Fail> {
-    let alloc = rt.alloc();
+    assert_eq!(rt; first_wrong(alloc, PLAN, false, PARTS.as_slice())?, None);
     assert_eq!(rt;
-        refusal_of(alloc, "colour: 1\n")?,
-        DeError::UnknownField(text(alloc, "colour")?)
-    );
-    Ok(())
-}
-
-#[test]
-fn a_field_that_is_missing_is_named(rt: HostRuntime) -> Result<(), Fail> {
-    let alloc = rt.alloc();
-    assert_eq!(rt;
-        refusal_of(
-            alloc,
-            "instantiations:\n  root:\n    arguments:\n      a: {export: e}\n"
-        )?,
-        DeError::MissingField(text(alloc, "instance")?)
+        first_wrong(alloc, EXAMPLE, false, EXAMPLE_PARTS.as_slice())?,
+        None
     );
     assert_eq!(rt;
-        refusal_of(alloc, "dependencies: {a: {}}")?,
-        DeError::MissingField(text(alloc, "path")?)
+        first_wrong(alloc, REPEATED, false, REPEATED_PARTS.as_slice())?,
+        None
     );
     Ok(())
 }
 
 #[test]
-fn the_empty_text_is_no_plan(rt: HostRuntime) -> Result<(), Fail> {
-    let refusal = refusal_of(rt.alloc(), "")?;
-    assert_eq!(rt; matches!(&refusal, DeError::UnexpectedEvent(_, _, _)), true);
+fn copies_of_plans_have_the_same_parts(rt: HostRuntime) -> Result<(), Fail> {
+    let alloc = rt.alloc();
+    assert_eq!(rt; first_wrong(alloc, PLAN, true, PARTS.as_slice())?, None);
+    assert_eq!(rt;
+        first_wrong(alloc, EXAMPLE, true, EXAMPLE_PARTS.as_slice())?,
+        None
+    );
+    assert_eq!(rt;
+        first_wrong(alloc, REPEATED, true, REPEATED_PARTS.as_slice())?,
+        None
+    );
+    Ok(())
+}
+
+/// Why a text is refused, as `Debug` prints it.
+fn refusal(alloc: Global, text: &str) -> Result<String, Fail> {
+    let error = Config::from_text(alloc, text).err().ok_or("read")?;
+    Ok(format!(in alloc; "{error:?}")?)
+}
+
+/// The first text that is refused otherwise.
+fn first_not_refused<'t>(
+    alloc: Global,
+    table: &'t [(&str, &str)],
+) -> Result<Option<&'t str>, Fail> {
+    for (text, want) in table {
+        if refusal(alloc, text)?.as_str() != *want {
+            return Ok(Some(*text));
+        }
+    }
+    Ok(None)
+}
+
+#[test]
+fn what_is_no_plan_is_refused(rt: HostRuntime) -> Result<(), Fail> {
+    assert_eq!(rt; first_not_refused(rt.alloc(), REFUSED.as_slice())?, None);
     Ok(())
 }
 
@@ -238,10 +195,56 @@ fn made(alloc: Global) -> Result<(Text, Text, usize), Fail> {
 
 #[test]
 fn parts_are_made(rt: HostRuntime) -> Result<(), Fail> {
-    let alloc = rt.alloc();
-    let (path, instance, arguments) = made(alloc)?;
+    let (path, instance, arguments) = made(rt.alloc())?;
     assert_eq!(rt; path.as_str(), "a.wasm");
     assert_eq!(rt; instance.as_str(), "b");
     assert_eq!(rt; arguments, 0);
     Ok(())
 }
+
+/// The parts of a plan with each form of dependency and argument.
+const PARTS: [(Part, &str, &str); 7] = [
+    (Part::Counts, "", "1 2 2 false"),
+    (Part::DependencyName, "root", "frontend"),
+    (Part::DependencyName, "time", "time"),
+    (Part::Path, "frontend", "web/front.wasm"),
+    (Part::Path, "backend", "store.wasm"),
+    (Part::Argument, "clock", "time/monotonic"),
+    (Part::Argument, "store", "data/"),
+];
+
+/// The parts of the example.
+const EXAMPLE_PARTS: [(Part, &str, &str); 4] = [
+    (Part::Counts, "", "0 0 2 false"),
+    (Part::DependencyName, "root", "demo:app"),
+    (Part::DependencyName, "log", "demo:log"),
+    (Part::Argument, "demo:log/sink@1.0.0", "log/"),
+];
+
+/// The parts of a plan in which an argument stands twice: the last value counts.
+const REPEATED_PARTS: [(Part, &str, &str); 2] = [
+    (Part::Counts, "", "0 0 1 false"),
+    (Part::Argument, "a", "c/"),
+];
+
+/// Texts that are no plan, and why.
+const REFUSED: [(&str, &str); 5] = [
+    (
+        "instantiations:\n  root:\n    arguments:\n      a: 12\n",
+        "UnexpectedScalar(Text { text: \"a text or a map\" }, Text { text: \"12\" }, \
+Marker { line: 4, col: 9, index: 48 })",
+    ),
+    ("colour: 1\n", "UnknownField(Text { text: \"colour\" })"),
+    (
+        "instantiations:\n  root:\n    arguments:\n      a: {export: e}\n",
+        "MissingField(Text { text: \"instance\" })",
+    ),
+    (
+        "dependencies: {a: {}}",
+        "MissingField(Text { text: \"path\" })",
+    ),
+    (
+        "",
+        "UnexpectedEvent(Text { text: \"a map\" }, StreamEnd, Marker { line: 1, col: 0, index: 0 })",
+    ),
+];

@@ -2,86 +2,122 @@
 
 use std::alloc::Global;
 use std::test::Fail;
-use warg_values::Text;
-use yaml_scan::{Head, QuoteError, block_scalar, double_quoted, single_quoted};
+use yaml_scan::{Head, QuoteError, Quoted, block_scalar, double_quoted, single_quoted};
 
-/// The text of a single-quoted or double-quoted scalar behind its quote and what stands behind it, or its error.
-fn quoted(alloc: Global, double: bool, line: &str) -> Result<(String, String), Fail> {
+/// The text of a quoted scalar, a bar, and what stands behind it.
+fn parts(alloc: Global, quoted: Quoted<'_>) -> Result<String, Fail> {
+    let mut out = String::from_utf8(quoted.text).ok().ok_or("no text")?;
+    let rest = str::from_utf8(quoted.rest)?;
+    out.push_str("|")?;
+    out.push_str(rest)?;
+    Ok(out)
+}
+
+/// The same of a single-quoted or double-quoted scalar behind its quote, or why there is none.
+fn quoted(alloc: Global, double: bool, line: &str) -> Result<String, Fail> {
     let found = if double {
         double_quoted(alloc, line.as_bytes())
     } else {
         single_quoted(alloc, line.as_bytes())
     };
     match found {
-        Ok(quoted) => {
-            let rest = Vec::from_slice(alloc, quoted.rest)?;
-            Ok((
-                String::from_utf8(quoted.text).ok().ok_or("no text")?,
-                String::from_utf8(rest).ok().ok_or("no text")?,
-            ))
-        }
-        Err(QuoteError::Open) => Ok((String::from_str(alloc, "open")?, String::new(alloc))),
-        Err(QuoteError::Bad(left)) => Ok((
-            String::from_str(alloc, "bad")?,
-            left_text(alloc, left)?,
-        )),
+        Ok(quoted) => parts(alloc, quoted),
+        Err(QuoteError::Open) => Ok(String::from_str(alloc, "open")?),
+        Err(QuoteError::Bad(left)) => Ok(format!(in alloc; "bad {left}")?),
         Err(QuoteError::Memory) => Err(Fail::from("no memory")),
     }
 }
 
-/// A number of bytes, as a text.
-fn left_text(alloc: Global, left: usize) -> Result<String, Fail> {
-    Ok(format!(in alloc; "{left}")?)
+/// The line of the first row in which something else is found.
+fn first_wrong<'t>(
+    alloc: Global,
+    table: &'t [(bool, &str, &str)],
+) -> Result<Option<&'t str>, Fail> {
+    for (double, line, want) in table {
+        if quoted(alloc, *double, line)?.as_str() != *want {
+            return Ok(Some(*line));
+        }
+    }
+    Ok(None)
 }
 
 #[test]
 fn quoted_scalars_are_found(rt: HostRuntime) -> Result<(), Fail> {
-    let alloc = rt.alloc();
-    for (double, line, text, rest) in [
-        (false, "it''s' # x", "it's", " # x"),
-        (false, "a", "open", ""),
-        (false, "a\u{1}b'", "bad", "3"),
-        (
-            true,
-            "\\x41\\u263a\\U0001f600\\/\"",
-            "A\u{263a}\u{1f600}/",
-            "",
-        ),
-        (true, "a\\", "open", ""),
-        (true, "\\ud800\"", "bad", "7"),
-        (true, "\\U00110000\"", "bad", "11"),
-        (true, "\\x4", "bad", "3"),
-    ] {
-        let (found, behind) = quoted(alloc, double, line)?;
-        assert_eq!(rt; found.as_str(), text, "{line:?}");
-        assert_eq!(rt; behind.as_str(), rest, "{line:?}");
-    }
+    assert_eq!(rt; first_wrong(rt.alloc(), QUOTED.as_slice())?, None);
     Ok(())
 }
 
 /// The text of a block of two spaces' indentation.
-fn block(alloc: Global, folded: bool, strip: bool, lines: &str) -> Result<Text, Fail> {
-    let head = Head { folded, strip };
+fn block(alloc: Global, head: Head, lines: &str) -> Result<String, Fail> {
     match block_scalar(alloc, head, 2, Some(lines.as_bytes())) {
-        Ok(found) => Ok(Text::new(String::from_utf8(found.text).ok().ok_or("no text")?)),
+        Ok(found) => Ok(String::from_utf8(found.text).ok().ok_or("no text")?),
         Err(_) => Err(Fail::from("no block")),
     }
 }
 
+/// The lines of the first row that make another text.
+fn first_wrong_block<'t>(
+    alloc: Global,
+    table: &'t [(Head, &str, &str)],
+) -> Result<Option<&'t str>, Fail> {
+    for (head, lines, want) in table {
+        if block(alloc, *head, lines)?.as_str() != *want {
+            return Ok(Some(*lines));
+        }
+    }
+    Ok(None)
+}
+
 #[test]
 fn blocks_are_put_together(rt: HostRuntime) -> Result<(), Fail> {
-    let alloc = rt.alloc();
-    for (folded, strip, lines, text) in [
-        (false, false, "  a\n  b\nc", "a\nb\n"),
-        (false, true, "  a\n\n  b\n", "a\n\nb"),
-        (true, false, "  a\n  b\n", "a b\n"),
-        (true, true, "  a\n\n  b\n   c\n", "a\nb\n c"),
-    ] {
-        assert_eq!(rt;
-            block(alloc, folded, strip, lines)?.as_str(),
-            text,
-            "{lines:?}"
-        );
-    }
+    assert_eq!(rt; first_wrong_block(rt.alloc(), BLOCKS.as_slice())?, None);
     Ok(())
 }
+
+/// Whether the quotes are double, a line behind a quote, and what is found in it.
+const QUOTED: [(bool, &str, &str); 8] = [
+    (false, "it''s' # x", "it's| # x"),
+    (false, "a", "open"),
+    (false, "a\u{1}b'", "bad 3"),
+    (true, "\\x41\\u263a\\U0001f600\\/\"", "A\u{263a}\u{1f600}/|"),
+    (true, "a\\", "open"),
+    (true, "\\ud800\"", "bad 7"),
+    (true, "\\U00110000\"", "bad 11"),
+    (true, "\\x4", "bad 3"),
+];
+
+/// A head, lines, and their text.
+const BLOCKS: [(Head, &str, &str); 4] = [
+    (
+        Head {
+            folded: false,
+            strip: false,
+        },
+        "  a\n  b\nc",
+        "a\nb\n",
+    ),
+    (
+        Head {
+            folded: false,
+            strip: true,
+        },
+        "  a\n\n  b\n",
+        "a\n\nb",
+    ),
+    (
+        Head {
+            folded: true,
+            strip: false,
+        },
+        "  a\n  b\n",
+        "a b\n",
+    ),
+    (
+        Head {
+            folded: true,
+            strip: true,
+        },
+        "  a\n\n  b\n   c\n",
+        "a\nb\n c",
+    ),
+];

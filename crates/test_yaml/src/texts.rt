@@ -5,36 +5,61 @@ use std::test::Fail;
 use yaml_small::{Event, Parser, Style};
 use yaml_text::{push_indentation, push_key, push_text};
 
-/// A text, written at a level.
-fn written(alloc: Global, level: usize, text: &str) -> Result<String, Fail> {
+/// What is written.
+#[derive(Clone, Copy)]
+enum Form {
+    /// A text, at this level.
+    Value(usize),
+    /// A key.
+    Key,
+    /// The indentation of this level.
+    Indentation(usize),
+}
+
+/// The written form of a text.
+fn written(alloc: Global, form: Form, text: &str) -> Result<String, Fail> {
     let mut out = String::new(alloc);
-    push_text(&mut out, level, text)?;
+    match form {
+        Form::Value(level) => push_text(&mut out, level, text)?,
+        Form::Key => push_key(&mut out, text)?,
+        Form::Indentation(level) => push_indentation(&mut out, level)?,
+    }
     Ok(out)
 }
 
-/// A key.
-fn key(alloc: Global, text: &str) -> Result<String, Fail> {
-    let mut out = String::new(alloc);
-    push_key(&mut out, text)?;
-    Ok(out)
+/// The text of the first row that is written otherwise.
+fn first_wrong<'t>(
+    alloc: Global,
+    table: &'t [(Form, &str, &str)],
+) -> Result<Option<&'t str>, Fail> {
+    for (form, text, want) in table {
+        if written(alloc, *form, text)?.as_str() != *want {
+            return Ok(Some(*text));
+        }
+    }
+    Ok(None)
 }
 
-/// The indentation of a level.
-fn indentation(alloc: Global, level: usize) -> Result<String, Fail> {
-    let mut out = String::new(alloc);
-    push_indentation(&mut out, level)?;
-    Ok(out)
+#[test]
+fn texts_are_quoted(rt: HostRuntime) -> Result<(), Fail> {
+    assert_eq!(rt; first_wrong(rt.alloc(), QUOTED.as_slice())?, None);
+    Ok(())
+}
+
+#[test]
+fn texts_of_lines_are_blocks_where_a_block_can_hold_them(rt: HostRuntime) -> Result<(), Fail> {
+    assert_eq!(rt; first_wrong(rt.alloc(), LINES.as_slice())?, None);
+    Ok(())
 }
 
 /// The one scalar of a document.
 fn scalar(alloc: Global, document: &str) -> Result<Event, Fail> {
     let mut parser = Parser::new(alloc, document);
-    let (_, _) = parser.next_token(alloc)?;
-    let (_, _) = parser.next_token(alloc)?;
+    parser.next_token(alloc)?;
+    parser.next_token(alloc)?;
     let (event, _) = parser.next_token(alloc)?;
-    let (end, _) = parser.next_token(alloc)?;
-    match end {
-        Event::DocumentEnd => Ok(event),
+    match parser.next_token(alloc)? {
+        (Event::DocumentEnd, _) => Ok(event),
         _ => Err(Fail::from("more than one scalar")),
     }
 }
@@ -47,90 +72,69 @@ fn is_scalar(event: &Event, text: &str, style: Style) -> bool {
     }
 }
 
-#[test]
-fn single_quotes_are_doubled(rt: HostRuntime) -> Result<(), Fail> {
-    let alloc = rt.alloc();
-    assert_eq!(rt; written(alloc, 0, "Hello")?.as_str(), "'Hello'");
-    assert_eq!(rt;
-        written(alloc, 0, "Hello 'world")?.as_str(),
-        "'Hello ''world'"
-    );
-    assert_eq!(rt; written(alloc, 3, "")?.as_str(), "''");
-    assert_eq!(rt;
-        written(alloc, 0, "a \"b\" \\ é")?.as_str(),
-        "'a \"b\" \\ é'"
-    );
-    assert_eq!(rt; key(alloc, "it's")?.as_str(), "'it''s'");
-    Ok(())
-}
-
-#[test]
-fn named_characters_are_escaped_in_double_quotes(rt: HostRuntime) -> Result<(), Fail> {
-    let alloc = rt.alloc();
-    assert_eq!(rt; written(alloc, 0, "First\n")?.as_str(), "\"First\\n\"");
-    assert_eq!(rt; written(alloc, 0, "a\tb\r\n")?.as_str(), "\"a\\tb\\r\\n\"");
-    assert_eq!(rt;
-        written(alloc, 0, "\u{0}\u{1b}\u{7f}\u{85}")?.as_str(),
-        "\"\\x00\\x1B\\x7F\\x85\""
-    );
-    assert_eq!(rt;
-        written(alloc, 0, "\u{2028}\u{2029}\u{feff}")?.as_str(),
-        "\"\\u2028\\u2029\\uFEFF\""
-    );
-    assert_eq!(rt;
-        written(alloc, 0, "\"\t\\'é\u{a0}")?.as_str(),
-        "\"\\\"\\t\\\\'é\u{a0}\""
-    );
-    Ok(())
-}
-
-#[test]
-fn a_text_of_lines_is_a_block_and_a_key_never(rt: HostRuntime) -> Result<(), Fail> {
-    let alloc = rt.alloc();
-    assert_eq!(rt;
-        written(alloc, 0, "First\nSecond")?.as_str(),
-        "|-\n  First\n  Second"
-    );
-    assert_eq!(rt;
-        written(alloc, 2, "a\n\n  b\n'c'")?.as_str(),
-        "|-\n    a\n    \n      b\n    'c'"
-    );
-    assert_eq!(rt; key(alloc, "First\nSecond")?.as_str(), "\"First\\nSecond\"");
-    Ok(())
-}
-
-#[test]
-fn lines_that_no_block_can_hold_stand_in_quotes(rt: HostRuntime) -> Result<(), Fail> {
-    let alloc = rt.alloc();
-    assert_eq!(rt; written(alloc, 0, " a\nb")?.as_str(), "\" a\\nb\"");
-    assert_eq!(rt; written(alloc, 0, "\na")?.as_str(), "\"\\na\"");
-    assert_eq!(rt; written(alloc, 0, "a\n ")?.as_str(), "\"a\\n \"");
-    assert_eq!(rt; written(alloc, 0, "a\n\tb")?.as_str(), "\"a\\n\\tb\"");
-    Ok(())
-}
-
-#[test]
-fn indentation_is_one_space_more_than_the_level(rt: HostRuntime) -> Result<(), Fail> {
-    let alloc = rt.alloc();
-    assert_eq!(rt; indentation(alloc, 0)?.as_str(), "");
-    assert_eq!(rt; indentation(alloc, 1)?.as_str(), "  ");
-    assert_eq!(rt; indentation(alloc, 2)?.as_str(), "   ");
-    Ok(())
+/// The first text that comes back otherwise.
+fn first_changed<'t>(alloc: Global, table: &'t [(&str, Style)]) -> Result<Option<&'t str>, Fail> {
+    for (text, style) in table {
+        let document = written(alloc, Form::Value(0), text)?;
+        if !is_scalar(&scalar(alloc, document.as_str())?, text, *style) {
+            return Ok(Some(*text));
+        }
+    }
+    Ok(None)
 }
 
 #[test]
 fn what_is_written_reads_back(rt: HostRuntime) -> Result<(), Fail> {
-    let alloc = rt.alloc();
-    for (text, style) in [
-        ("", Style::SingleQuoted),
-        ("it's # no comment: here", Style::SingleQuoted),
-        ("\"\\\u{0}\t\u{9f}\u{2028}\u{feff}é", Style::DoubleQuoted),
-        ("First\n", Style::DoubleQuoted),
-        ("First\n\n   third \n# fourth", Style::Literal),
-    ] {
-        let document = written(alloc, 0, text)?;
-        let event = scalar(alloc, document.as_str())?;
-        assert!(rt; is_scalar(&event, text, style));
-    }
+    assert_eq!(rt; first_changed(rt.alloc(), RETURNED.as_slice())?, None);
     Ok(())
 }
+
+/// Texts in single quotes, which are doubled, and in double quotes, in which some characters have names.
+const QUOTED: [(Form, &str, &str); 10] = [
+    (Form::Value(0), "Hello", "'Hello'"),
+    (Form::Value(0), "Hello 'world", "'Hello ''world'"),
+    (Form::Value(3), "", "''"),
+    (Form::Value(0), "a \"b\" \\ é", "'a \"b\" \\ é'"),
+    (Form::Key, "it's", "'it''s'"),
+    (Form::Value(0), "First\n", "\"First\\n\""),
+    (Form::Value(0), "a\tb\r\n", "\"a\\tb\\r\\n\""),
+    (
+        Form::Value(0),
+        "\u{0}\u{1b}\u{7f}\u{85}",
+        "\"\\x00\\x1B\\x7F\\x85\"",
+    ),
+    (
+        Form::Value(0),
+        "\u{2028}\u{2029}\u{feff}",
+        "\"\\u2028\\u2029\\uFEFF\"",
+    ),
+    (Form::Value(0), "\"\t\\'é\u{a0}", "\"\\\"\\t\\\\'é\u{a0}\""),
+];
+
+/// Texts of lines: blocks, keys, which are never blocks, and lines that no block can hold. An indentation is one
+/// space more than its level, but for that of level 0.
+const LINES: [(Form, &str, &str); 10] = [
+    (Form::Value(0), "First\nSecond", "|-\n  First\n  Second"),
+    (
+        Form::Value(2),
+        "a\n\n  b\n'c'",
+        "|-\n    a\n    \n      b\n    'c'",
+    ),
+    (Form::Key, "First\nSecond", "\"First\\nSecond\""),
+    (Form::Value(0), " a\nb", "\" a\\nb\""),
+    (Form::Value(0), "\na", "\"\\na\""),
+    (Form::Value(0), "a\n ", "\"a\\n \""),
+    (Form::Value(0), "a\n\tb", "\"a\\n\\tb\""),
+    (Form::Indentation(0), "level 0", ""),
+    (Form::Indentation(1), "level 1", "  "),
+    (Form::Indentation(2), "level 2", "   "),
+];
+
+/// Texts, and the styles in which they are written.
+const RETURNED: [(&str, Style); 5] = [
+    ("", Style::SingleQuoted),
+    ("it's # no comment: here", Style::SingleQuoted),
+    ("\"\\\u{0}\t\u{9f}\u{2028}\u{feff}é", Style::DoubleQuoted),
+    ("First\n", Style::DoubleQuoted),
+    ("First\n\n   third \n# fourth", Style::Literal),
+];

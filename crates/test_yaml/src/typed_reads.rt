@@ -1,221 +1,173 @@
-//! Reads of whole texts, and their errors.
+//! Reads of whole texts, and their errors, as `Debug` prints them.
 
 use indexmap::IndexMap;
 use std::alloc::Global;
+use std::fmt::Debug;
 use std::test::Fail;
 use warg_values::Text;
 use yaml_read::{DeError, ReadYaml, YamlDeserializer, YamlNodeWrapper, from_str};
-use yaml_small::{Event, Marker, ScanError, Yaml, YamlList, YamlPairs};
+use yaml_small::Yaml;
 
-/// The value of a text.
-fn read<T: ReadYaml>(alloc: Global, text: &str) -> Result<T, Fail> {
-    Ok(from_str::<T>(alloc, text)?)
+/// The type that a text is read as.
+#[derive(Clone, Copy)]
+enum Kind {
+    /// `bool`
+    Truth,
+    /// `char`
+    Character,
+    /// `u8`
+    U8,
+    /// `u16`
+    U16,
+    /// `u32`
+    U32,
+    /// `u64`
+    U64,
+    /// `i8`
+    I8,
+    /// `i16`
+    I16,
+    /// `i32`
+    I32,
+    /// `i64`
+    I64,
+    /// `Text`
+    Text,
+    /// `String`
+    Owned,
+    /// `()`
+    Unit,
+    /// `Vec<u8>`
+    Bytes,
+    /// `Vec<bool>`
+    Truths,
+    /// `(u8, bool)`
+    Pair,
+    /// `(u8, u8, u8)`
+    Triple,
+    /// `Option<u8>`
+    Optional,
+    /// `Vec<Option<u8>>`
+    Options,
+    /// `IndexMap<Text, u8>`
+    Map,
+    /// `YamlNodeWrapper`
+    Any,
 }
 
-/// A text of its own.
-fn text_of(alloc: Global, text: &str) -> Result<Text, Fail> {
-    Ok(Text::copy_of(alloc, text)?)
-}
-
-/// Whether a text is refused with this error, whatever was expected.
-fn error_of<T: ReadYaml>(alloc: Global, text: &str) -> Result<Option<DeError>, Fail> {
+/// What a text is read as, or why it is not read.
+fn shown<T: ReadYaml + Debug>(alloc: Global, text: &str) -> Result<String, Fail> {
     match from_str::<T>(alloc, text) {
-        Ok(_) => Ok(None),
-        Err(error) => Ok(Some(error)),
+        Ok(value) => Ok(format!(in alloc; "{value:?}")?),
+        Err(error) => Ok(format!(in alloc; "{error:?}")?),
     }
+}
+
+/// The same of a number.
+fn shown_number(alloc: Global, kind: Kind, text: &str) -> Result<String, Fail> {
+    match kind {
+        Kind::U8 => shown::<u8>(alloc, text),
+        Kind::U16 => shown::<u16>(alloc, text),
+        Kind::U32 => shown::<u32>(alloc, text),
+        Kind::U64 => shown::<u64>(alloc, text),
+        Kind::I8 => shown::<i8>(alloc, text),
+        Kind::I16 => shown::<i16>(alloc, text),
+        Kind::I32 => shown::<i32>(alloc, text),
+        _ => shown::<i64>(alloc, text),
+    }
+}
+
+/// The same of any kind.
+fn shown_as(alloc: Global, kind: Kind, text: &str) -> Result<String, Fail> {
+    match kind {
+        Kind::Truth => shown::<bool>(alloc, text),
+        Kind::Character => shown::<char>(alloc, text),
+        Kind::Text => shown::<Text>(alloc, text),
+        Kind::Owned => shown::<String>(alloc, text),
+        Kind::Unit => shown::<()>(alloc, text),
+        Kind::Bytes => shown::<Vec<u8>>(alloc, text),
+        Kind::Truths => shown::<Vec<bool>>(alloc, text),
+        Kind::Pair => shown::<(u8, bool)>(alloc, text),
+        Kind::Triple => shown::<(u8, u8, u8)>(alloc, text),
+        Kind::Optional => shown::<Option<u8>>(alloc, text),
+        Kind::Options => shown::<Vec<Option<u8>>>(alloc, text),
+        Kind::Map => shown::<IndexMap<Text, u8>>(alloc, text),
+        Kind::Any => shown::<YamlNodeWrapper>(alloc, text),
+        number => shown_number(alloc, number, text),
+    }
+}
+
+/// The text of the first row that is read as something else.
+fn first_wrong<'t>(
+    alloc: Global,
+    table: &'t [(Kind, &str, &str)],
+) -> Result<Option<&'t str>, Fail> {
+    for (kind, text, want) in table {
+        if shown_as(alloc, *kind, text)?.as_str() != *want {
+            return Ok(Some(*text));
+        }
+    }
+    Ok(None)
+}
+
+#[test]
+fn numbers_are_read_up_to_their_limits(rt: HostRuntime) -> Result<(), Fail> {
+    assert_eq!(rt; first_wrong(rt.alloc(), NUMBERS.as_slice())?, None);
+    Ok(())
 }
 
 #[test]
 fn scalars_are_read(rt: HostRuntime) -> Result<(), Fail> {
-    let alloc = rt.alloc();
-    assert_eq!(rt; read::<bool>(alloc, "true\n")?, true);
-    assert_eq!(rt; read::<char>(alloc, "x")?, 'x');
+    assert_eq!(rt; first_wrong(rt.alloc(), SCALARS.as_slice())?, None);
     Ok(())
 }
 
 #[test]
-fn numbers_are_read(rt: HostRuntime) -> Result<(), Fail> {
-    let alloc = rt.alloc();
-    assert_eq!(rt; read::<u8>(alloc, "255")?, 255);
-    assert_eq!(rt;
-        read::<u64>(alloc, "+18446744073709551615")?,
-        18_446_744_073_709_551_615
-    );
-    assert_eq!(rt; read::<i8>(alloc, "-128")?, -128);
-    assert_eq!(rt; read::<i64>(alloc, "-9223372036854775808")?, i64::MIN);
+fn lists_and_maps_are_read(rt: HostRuntime) -> Result<(), Fail> {
+    assert_eq!(rt; first_wrong(rt.alloc(), COLLECTIONS.as_slice())?, None);
     Ok(())
 }
 
 #[test]
-fn texts_are_read_in_any_style(rt: HostRuntime) -> Result<(), Fail> {
-    let alloc = rt.alloc();
-    assert_eq!(rt; read::<Text>(alloc, "'12'")?.as_str(), "12");
-    assert_eq!(rt;
-        read::<String>(alloc, "|-\n  First\n  Second")?.as_str(),
-        "First\nSecond"
-    );
+fn errors_say_what_stands_where(rt: HostRuntime) -> Result<(), Fail> {
+    assert_eq!(rt; first_wrong(rt.alloc(), ERRORS.as_slice())?, None);
     Ok(())
 }
 
-#[test]
-fn nothing_is_read(rt: HostRuntime) -> Result<(), Fail> {
-    let alloc = rt.alloc();
-    read::<()>(alloc, "~")?;
-    read::<()>(alloc, "")?;
-    Ok(())
+/// The value of any kind in a text.
+fn value(alloc: Global, text: &str) -> Result<Yaml, Fail> {
+    Ok(from_str::<YamlNodeWrapper>(alloc, text)?.get())
 }
 
 #[test]
-fn lists_are_read(rt: HostRuntime) -> Result<(), Fail> {
-    let alloc = rt.alloc();
-    assert_eq!(rt;
-        read::<Vec<u8>>(alloc, "- \n  1\n- \n  2\n- \n  3\n")?.as_slice(),
-        [1, 2, 3].as_slice()
-    );
-    assert_eq!(rt; read::<(u8, bool)>(alloc, "[1, true]")?, (1, true));
-    assert_eq!(rt; read::<(u8, u8, u8)>(alloc, "[1, 2, 3]")?, (1, 2, 3));
+fn a_value_of_any_kind_is_taken_out(rt: HostRuntime) -> Result<(), Fail> {
+    assert!(rt; value(rt.alloc(), "true")? == Yaml::Boolean(true));
     Ok(())
 }
 
-#[test]
-fn a_missing_value_is_none(rt: HostRuntime) -> Result<(), Fail> {
-    let alloc = rt.alloc();
-    assert_eq!(rt; read::<Option<u8>>(alloc, "null")?, None);
-    assert_eq!(rt; read::<Option<u8>>(alloc, "7")?, Some(7));
-    Ok(())
+/// What `finish` answers to a list, and what lent values and the next event are then.
+fn refused_at_a_list(alloc: Global, text: &str) -> Result<String, Fail> {
+    let mut de = YamlDeserializer::from_str(alloc, text)?;
+    let finished = de.finish(alloc);
+    let lent = lends_nothing(&mut de);
+    let scalar = de.at_scalar(alloc)?;
+    Ok(format!(in alloc; "{finished:?} {lent} {scalar}")?)
 }
 
-#[test]
-fn a_map_keeps_the_last_value_at_the_first_place(rt: HostRuntime) -> Result<(), Fail> {
-    let alloc = rt.alloc();
-    let map = read::<IndexMap<Text, u8>>(alloc, "b: 1\na: 2\nb: 3\n")?;
-    assert_eq!(rt; map.len(), 2);
-    let key = text_of(alloc, "b")?;
-    assert_eq!(rt; map.get(&key).copied(), Some(3));
-    assert_eq!(rt; map.get_index_of(&key), Some(0));
-    Ok(())
-}
-
-#[test]
-fn errors_say_what_stands_there(rt: HostRuntime) -> Result<(), Fail> {
-    let alloc = rt.alloc();
-    assert_eq!(rt;
-        error_of::<u8>(alloc, "256")?,
-        Some(DeError::ParseNumber(text_of(alloc, "256")?))
-    );
-    assert_eq!(rt;
-        error_of::<u8>(alloc, "-0")?,
-        Some(DeError::ParseNumber(text_of(alloc, "-0")?))
-    );
-    let quoted = DeError::UnexpectedEvent(
-        text_of(alloc, "a plain number")?,
-        Event::Scalar(text_of(alloc, "12")?, yaml_small::Style::SingleQuoted),
-        Marker {
-            line: 1,
-            col: 0,
-            index: 0,
-        },
-    );
-    assert_eq!(rt; error_of::<u8>(alloc, "'12'")?, Some(quoted));
-    let word = DeError::UnexpectedScalar(
-        text_of(alloc, "`true` or `false`")?,
-        text_of(alloc, "yes")?,
-        Marker {
-            line: 1,
-            col: 0,
-            index: 0,
-        },
-    );
-    assert_eq!(rt; error_of::<bool>(alloc, "yes")?, Some(word));
-    let short = DeError::UnexpectedEvent(
-        text_of(alloc, "a plain number")?,
-        Event::SequenceEnd,
-        Marker {
-            line: 1,
-            col: 3,
-            index: 3,
-        },
-    );
-    assert_eq!(rt; error_of::<(u8, u8)>(alloc, "[1 ]")?, Some(short));
-    assert_eq!(rt; error_of::<u8>(alloc, "1\n...\n2")?.is_some(), true);
-    Ok(())
+/// Whether a deserializer answers `Unsupported` wherever a lent value is asked for.
+fn lends_nothing(de: &mut YamlDeserializer<'_>) -> bool {
+    let text = matches!(de.read_str(), Err(DeError::Unsupported));
+    let bytes = matches!(de.read_bytes(), Err(DeError::Unsupported));
+    let owned = matches!(de.read_byte_buf(), Err(DeError::Unsupported));
+    text && bytes && owned
 }
 
 #[test]
 fn what_follows_the_value_is_no_end(rt: HostRuntime) -> Result<(), Fail> {
-    let alloc = rt.alloc();
-    let mut de = YamlDeserializer::from_str(alloc, "[1, 2]")?;
-    assert_eq!(rt; de.finish(alloc).is_err(), true);
-    assert_eq!(rt; de.read_str().is_err(), true);
-    assert_eq!(rt; de.read_bytes().is_err(), true);
-    assert_eq!(rt; de.read_byte_buf().is_err(), true);
-    assert_eq!(rt; de.at_scalar(alloc)?, false);
-    Ok(())
-}
-
-#[test]
-fn options_are_read_in_a_list(rt: HostRuntime) -> Result<(), Fail> {
-    let alloc = rt.alloc();
     assert_eq!(rt;
-        read::<Vec<Option<u8>>>(alloc, "[1,~,3]")?.as_slice(),
-        [Some(1), None, Some(3)].as_slice()
+        refused_at_a_list(rt.alloc(), "# c\n- a\n")?.as_str(),
+        "Err(NotEnded(Marker { line: 2, col: 0, index: 4 })) true false"
     );
-    Ok(())
-}
-
-#[test]
-fn what_is_not_carried_is_told(rt: HostRuntime) -> Result<(), Fail> {
-    let alloc = rt.alloc();
-    let second = error_of::<IndexMap<Text, u8>>(alloc, "a: 1\n---\nb: 2\n")?;
-    assert_eq!(rt;
-        matches!(&second, Some(DeError::Scan(ScanError::NotCarried(_)))),
-        true
-    );
-    let anchor = error_of::<u8>(alloc, "&a 1")?;
-    assert_eq!(rt;
-        matches!(&anchor, Some(DeError::Scan(ScanError::NotCarried(_)))),
-        true
-    );
-    let open = error_of::<Vec<u8>>(alloc, "[1")?;
-    assert_eq!(rt;
-        matches!(&open, Some(DeError::Scan(ScanError::Form(_)))),
-        true
-    );
-    let quoted = error_of::<bool>(alloc, "'true'")?;
-    assert_eq!(rt;
-        matches!(&quoted, Some(DeError::UnexpectedEvent(_, _, _))),
-        true
-    );
-    let wide = error_of::<char>(alloc, "é")?;
-    assert_eq!(rt;
-        matches!(&wide, Some(DeError::UnexpectedScalar(_, _, _))),
-        true
-    );
-    Ok(())
-}
-
-#[test]
-fn values_of_any_kind_are_read(rt: HostRuntime) -> Result<(), Fail> {
-    let alloc = rt.alloc();
-    let number = YamlNodeWrapper::new(Yaml::Integer(12));
-    assert_eq!(rt; read::<YamlNodeWrapper>(alloc, "'12'")?, number);
-    let real = error_of::<YamlNodeWrapper>(alloc, "1.5")?;
-    let start = Marker {
-        line: 1,
-        col: 0,
-        index: 0,
-    };
-    assert_eq!(rt; real, Some(DeError::RealForm(start)));
-    let mut entries = IndexMap::new(alloc);
-    entries.insert(text_of(alloc, "b")?, Yaml::Boolean(true))?;
-    entries.insert(text_of(alloc, "a")?, Yaml::Null)?;
-    let items = vec![in alloc;
-        Yaml::Hash(YamlPairs::new(alloc, entries)?),
-        Yaml::Text(text_of(alloc, "x y")?),
-    ]?;
-    let list = Yaml::Array(YamlList::new(items));
-    let read = read::<YamlNodeWrapper>(alloc, "- b: 1\n  a: ~\n  b: true\n- x y\n")?;
-    assert_eq!(rt; read.get(), list);
     Ok(())
 }
 
@@ -228,80 +180,144 @@ fn a_value_is_passed_over(rt: HostRuntime) -> Result<(), Fail> {
     Ok(())
 }
 
-#[test]
-fn each_number_is_read_up_to_its_limits(rt: HostRuntime) -> Result<(), Fail> {
-    let alloc = rt.alloc();
-    assert_eq!(rt; read::<u16>(alloc, "65535")?, u16::MAX);
-    assert_eq!(rt; read::<u32>(alloc, "4294967295")?, u32::MAX);
-    assert_eq!(rt; read::<i16>(alloc, "-32768")?, i16::MIN);
-    assert_eq!(rt; read::<i32>(alloc, "-2147483648")?, i32::MIN);
-    assert_eq!(rt; error_of::<u16>(alloc, "65536")?.is_some(), true);
-    assert_eq!(rt; error_of::<i16>(alloc, "-32769")?.is_some(), true);
-    Ok(())
-}
+/// Numbers at their limits and past them.
+const NUMBERS: [(Kind, &str, &str); 14] = [
+    (Kind::U8, "255", "255"),
+    (Kind::U16, "65535", "65535"),
+    (Kind::U32, "4294967295", "4294967295"),
+    (Kind::U64, "+18446744073709551615", "18446744073709551615"),
+    (Kind::I8, "-128", "-128"),
+    (Kind::I16, "-32768", "-32768"),
+    (Kind::I32, "-2147483648", "-2147483648"),
+    (Kind::I64, "-9223372036854775808", "-9223372036854775808"),
+    (Kind::U8, "256", "ParseNumber(Text { text: \"256\" })"),
+    (Kind::U8, "-0", "ParseNumber(Text { text: \"-0\" })"),
+    (Kind::U16, "65536", "ParseNumber(Text { text: \"65536\" })"),
+    (
+        Kind::I16,
+        "-32769",
+        "ParseNumber(Text { text: \"-32769\" })",
+    ),
+    (
+        Kind::U8,
+        "'12'",
+        "UnexpectedEvent(Text { text: \"a plain number\" }, \
+Scalar(Text { text: \"12\" }, SingleQuoted), Marker { line: 1, col: 0, index: 0 })",
+    ),
+    (
+        Kind::U8,
+        "1\n...\n2",
+        "Scan(NotCarried(Marker { line: 3, col: 0, index: 6 }))",
+    ),
+];
 
-/// Whether a deserializer answers `Unsupported` wherever a lent value is asked for.
-fn lends_nothing(alloc: Global) -> Result<bool, Fail> {
-    let mut de = YamlDeserializer::from_str(alloc, "a")?;
-    let text = matches!(de.read_str(), Err(DeError::Unsupported));
-    let bytes = matches!(de.read_bytes(), Err(DeError::Unsupported));
-    let owned = matches!(de.read_byte_buf(), Err(DeError::Unsupported));
-    Ok(text && bytes && owned)
-}
+/// Other scalars, in several styles.
+const SCALARS: [(Kind, &str, &str); 11] = [
+    (Kind::Truth, "true\n", "true"),
+    (Kind::Character, "x", "'x'"),
+    (Kind::Text, "'12'", "Text { text: \"12\" }"),
+    (Kind::Owned, "|-\n  First\n  Second", "\"First\\nSecond\""),
+    (Kind::Unit, "~", "()"),
+    (Kind::Unit, "", "()"),
+    (Kind::Any, "'12'", "YamlNodeWrapper { node: Integer(12) }"),
+    (
+        Kind::Any,
+        "1.5",
+        "RealForm(Marker { line: 1, col: 0, index: 0 })",
+    ),
+    (
+        Kind::Truth,
+        "yes",
+        "UnexpectedScalar(Text { text: \"`true` or `false`\" }, Text { text: \"yes\" }, \
+Marker { line: 1, col: 0, index: 0 })",
+    ),
+    (
+        Kind::Truth,
+        "'true'",
+        "UnexpectedEvent(Text { text: \"a plain scalar\" }, \
+Scalar(Text { text: \"true\" }, SingleQuoted), Marker { line: 1, col: 0, index: 0 })",
+    ),
+    (
+        Kind::Character,
+        "é",
+        "UnexpectedScalar(Text { text: \"one character of ASCII\" }, Text { text: \"é\" }, \
+Marker { line: 1, col: 0, index: 0 })",
+    ),
+];
 
-#[test]
-fn lent_values_are_not_supported(rt: HostRuntime) -> Result<(), Fail> {
-    assert_eq!(rt; lends_nothing(rt.alloc())?, true);
-    Ok(())
-}
+/// Lists, maps and values that may be missing. A map keeps the last value of a key at its first place.
+const COLLECTIONS: [(Kind, &str, &str); 8] = [
+    (Kind::Optional, "null", "None"),
+    (Kind::Optional, "7", "Some(7)"),
+    (Kind::Bytes, "- \n  1\n- \n  2\n- \n  3\n", "[1, 2, 3]"),
+    (Kind::Pair, "[1, true]", "(1, true)"),
+    (Kind::Triple, "[1, 2, 3]", "(1, 2, 3)"),
+    (
+        Kind::Options,
+        "[1,~,3,null]",
+        "[Some(1), None, Some(3), None]",
+    ),
+    (
+        Kind::Map,
+        "b: 1\na: 2\nb: 3\n",
+        "{Text { text: \"b\" }: 3, Text { text: \"a\" }: 2}",
+    ),
+    (
+        Kind::Any,
+        "- b: 1\n  a: ~\n  b: true\n- x y\n",
+        "YamlNodeWrapper { node: Array(YamlList { items: [Hash(YamlPairs { pairs: \
+[(Text { text: \"b\" }, Boolean(true)), (Text { text: \"a\" }, Null)] }), Text(Text { text: \"x y\" })] }) }",
+    ),
+];
 
-/// The place that an error names: its line, column and index.
-fn place_of(error: Option<DeError>) -> Option<(u64, u64, u64)> {
-    let marker = match error? {
-        DeError::UnexpectedScalar(_, _, marker)
-        | DeError::UnexpectedEvent(_, _, marker)
-        | DeError::RealForm(marker)
-        | DeError::NotEnded(marker)
-        | DeError::Scan(ScanError::Form(marker))
-        | DeError::Scan(ScanError::NotCarried(marker))
-        | DeError::Scan(ScanError::TooDeep(marker)) => marker,
-        _ => return None,
-    };
-    Some((marker.line, marker.col, marker.index))
-}
-
-/// Where a list stands that is more than one value: its second item.
-fn place_of_more(alloc: Global, text: &str) -> Result<Option<(u64, u64, u64)>, Fail> {
-    let mut de = YamlDeserializer::from_str(alloc, text)?;
-    Ok(place_of(de.finish(alloc).err()))
-}
-
-/// The place of the error of a text that is no list of truth values.
-fn list_place(alloc: Global, text: &str) -> Option<(u64, u64, u64)> {
-    place_of(from_str::<Vec<bool>>(alloc, text).err())
-}
-
-#[test]
-fn errors_of_lists_name_their_places(rt: HostRuntime) {
-    for (text, place) in [
-        ("- true\n- é\n", (2, 2, 9)),
-        ("- true\n-  [a]\n", (2, 3, 10)),
-        ("- true\n- ]\n", (2, 2, 9)),
-        ("- true\n- &a true\n", (2, 2, 9)),
-    ] {
-        assert_eq!(rt; list_place(rt.alloc(), text), Some(place), "{text:?}");
-    }
-}
-
-/// The place of the real number in a text.
-fn real_place(alloc: Global, text: &str) -> Option<(u64, u64, u64)> {
-    place_of(from_str::<YamlNodeWrapper>(alloc, text).err())
-}
-
-#[test]
-fn other_errors_name_their_places(rt: HostRuntime) -> Result<(), Fail> {
-    let alloc = rt.alloc();
-    assert_eq!(rt; real_place(alloc, "é: a\nb: 1.5\n"), Some((2, 3, 8)));
-    assert_eq!(rt; place_of_more(alloc, "# c\n- a\n")?, Some((2, 0, 4)));
-    Ok(())
-}
+/// Errors with their places, each of a text in which other characters stand in front.
+const ERRORS: [(Kind, &str, &str); 9] = [
+    (
+        Kind::Truths,
+        "- true\n- é\n",
+        "UnexpectedScalar(Text { text: \"`true` or `false`\" }, Text { text: \"é\" }, \
+Marker { line: 2, col: 2, index: 9 })",
+    ),
+    (
+        Kind::Truths,
+        "- true\n-  [a]\n",
+        "UnexpectedEvent(Text { text: \"a plain scalar\" }, SequenceStart, \
+Marker { line: 2, col: 3, index: 10 })",
+    ),
+    (
+        Kind::Truths,
+        "- true\n- ]\n",
+        "Scan(Form(Marker { line: 2, col: 2, index: 9 }))",
+    ),
+    (
+        Kind::Truths,
+        "- true\n- &a true\n",
+        "Scan(NotCarried(Marker { line: 2, col: 2, index: 9 }))",
+    ),
+    (
+        Kind::Any,
+        "é: a\nb: 1.5\n",
+        "RealForm(Marker { line: 2, col: 3, index: 8 })",
+    ),
+    (
+        Kind::Pair,
+        "[1 ]",
+        "UnexpectedEvent(Text { text: \"a plain scalar\" }, SequenceEnd, \
+Marker { line: 1, col: 3, index: 3 })",
+    ),
+    (
+        Kind::Map,
+        "a: 1\n---\nb: 2\n",
+        "Scan(NotCarried(Marker { line: 2, col: 0, index: 5 }))",
+    ),
+    (
+        Kind::U8,
+        "&a 1",
+        "Scan(NotCarried(Marker { line: 1, col: 0, index: 0 }))",
+    ),
+    (
+        Kind::Bytes,
+        "[1",
+        "Scan(Form(Marker { line: 1, col: 2, index: 2 }))",
+    ),
+];

@@ -1,108 +1,136 @@
 //! Texts that values are written as, worked out by hand.
 
 use indexmap::IndexMap;
-use serde_yaml2::{Errors, WriteYaml, YamlNodeWrapper, YamlSerializer, to_string};
+use serde_yaml2::{
+    Errors, ReadYaml, WriteYaml, YamlNodeWrapper, YamlSerializer, from_str, to_string,
+};
 use std::alloc::Global;
 use std::test::Fail;
 use warg_values::Text;
-use yaml_small::{Yaml, YamlList, YamlPairs};
 
-/// A text of its own.
-fn text(alloc: Global, text: &str) -> Result<Text, Fail> {
-    Ok(Text::copy_of(alloc, text)?)
+/// The type that a text is read as, and whose value is written.
+#[derive(Clone, Copy)]
+enum Kind {
+    /// `Vec<u8>`
+    Bytes,
+    /// `Vec<Vec<u8>>`
+    Lists,
+    /// `(u64, i64, ())`
+    Triple,
+    /// `Text`
+    Text,
+    /// `char`
+    Character,
+    /// `IndexMap<Text, Option<bool>>`
+    Map,
+    /// `YamlNodeWrapper`
+    Any,
 }
 
-/// The text of a value.
-fn text_of<T: WriteYaml>(alloc: Global, value: &T) -> Result<Text, Fail> {
-    Ok(Text::new(to_string(alloc, value)?))
+/// What is written for the value that a text is read as.
+fn rewritten<T: ReadYaml + WriteYaml>(alloc: Global, text: &str) -> Result<String, Fail> {
+    let value = from_str::<T>(alloc, text)?;
+    Ok(to_string(alloc, &value)?)
 }
 
-#[test]
-fn each_item_of_a_list_has_a_line(rt: HostRuntime) -> Result<(), Fail> {
-    let alloc = rt.alloc();
-    let numbers = [1u8, 2, 3].to_vec(alloc)?;
-    assert_eq!(rt;
-        text_of(alloc, &numbers)?.as_str(),
-        "- \n  1\n- \n  2\n- \n  3\n"
-    );
-    let inner = [1u8].to_vec(alloc)?;
-    let outer = vec![in alloc; inner]?;
-    assert_eq!(rt; text_of(alloc, &outer)?.as_str(), "- \n  - \n   1\n  \n");
-    assert_eq!(rt;
-        text_of(alloc, &(1u64, -2i64, ()))?.as_str(),
-        "- \n  1\n- \n  -2\n- \n  ~\n"
-    );
-    Ok(())
+/// The same of a kind.
+fn rewritten_as(alloc: Global, kind: Kind, text: &str) -> Result<String, Fail> {
+    match kind {
+        Kind::Bytes => rewritten::<Vec<u8>>(alloc, text),
+        Kind::Lists => rewritten::<Vec<Vec<u8>>>(alloc, text),
+        Kind::Triple => rewritten::<(u64, i64, ())>(alloc, text),
+        Kind::Text => rewritten::<Text>(alloc, text),
+        Kind::Character => rewritten::<char>(alloc, text),
+        Kind::Map => rewritten::<IndexMap<Text, Option<bool>>>(alloc, text),
+        Kind::Any => rewritten::<YamlNodeWrapper>(alloc, text),
+    }
 }
 
-#[test]
-fn texts_are_quoted_or_blocks(rt: HostRuntime) -> Result<(), Fail> {
-    let alloc = rt.alloc();
-    let quoted = text(alloc, "Hello 'world")?;
-    assert_eq!(rt; text_of(alloc, &quoted)?.as_str(), "'Hello ''world'");
-    let lines = text(alloc, "First\nSecond")?;
-    assert_eq!(rt; text_of(alloc, &lines)?.as_str(), "|-\n  First\n  Second");
-    let ended = text(alloc, "First\n")?;
-    assert_eq!(rt; text_of(alloc, &ended)?.as_str(), "\"First\\n\"");
-    assert_eq!(rt; text_of(alloc, &'x')?.as_str(), "x");
-    assert_eq!(rt; text_of(alloc, &'-')?.as_str(), "'-'");
-    Ok(())
-}
-
-#[test]
-fn maps_have_quoted_keys(rt: HostRuntime) -> Result<(), Fail> {
-    let alloc = rt.alloc();
-    let empty = IndexMap::<Text, bool>::new(alloc);
-    assert_eq!(rt; text_of(alloc, &empty)?.as_str(), "{}");
-    let mut map = IndexMap::<Text, Option<bool>>::new(alloc);
-    let _ = map.insert(text(alloc, "b")?, Some(true))?;
-    let _ = map.insert(text(alloc, "a")?, None)?;
-    assert_eq!(rt; text_of(alloc, &map)?.as_str(), "'b':\n  true\n'a':\n  ~\n");
-    Ok(())
+/// The text of the first row whose value is written otherwise.
+fn first_wrong<'t>(
+    alloc: Global,
+    table: &'t [(Kind, &str, &str)],
+) -> Result<Option<&'t str>, Fail> {
+    for (kind, text, want) in table {
+        if rewritten_as(alloc, *kind, text)?.as_str() != *want {
+            return Ok(Some(*text));
+        }
+    }
+    Ok(None)
 }
 
 #[test]
-fn values_of_any_kind_are_written_by_their_kind(rt: HostRuntime) -> Result<(), Fail> {
-    let alloc = rt.alloc();
-    let mut entries = IndexMap::<Text, Yaml>::new(alloc);
-    let none = Yaml::Array(YamlList::new(Vec::new(alloc)));
-    let _ = entries.insert(text(alloc, "b")?, none)?;
-    let _ = entries.insert(text(alloc, "a")?, Yaml::Null)?;
-    let map = Yaml::Hash(YamlPairs::new(alloc, entries)?);
-    let string = Yaml::Text(text(alloc, "x")?);
-    let items = vec![in alloc; Yaml::Integer(-7), string, Yaml::Boolean(true), map]?;
-    let list = YamlNodeWrapper::new(Yaml::Array(YamlList::new(items)));
-    assert_eq!(rt;
-        text_of(alloc, &list)?.as_str(),
-        "- \n  -7\n- \n  'x'\n- \n  true\n- \n  'b':\n   []\n  'a':\n   ~\n  \n"
-    );
+fn lists_maps_and_texts_are_written(rt: HostRuntime) -> Result<(), Fail> {
+    assert_eq!(rt; first_wrong(rt.alloc(), WRITTEN.as_slice())?, None);
+    assert_eq!(rt; to_string(rt.alloc(), &'-')?.as_str(), "'-'");
     Ok(())
+}
+
+/// A variant's name in front of a number, of nothing, or of an empty list.
+#[derive(Clone, Copy)]
+enum Variant {
+    /// In front of 7.
+    Number,
+    /// In front of nothing.
+    Unit,
+    /// In front of an empty list.
+    Empty,
+}
+
+/// What is written for a variant behind a text.
+fn behind(alloc: Global, front: &str, variant: Variant) -> Result<String, Fail> {
+    let mut ser = YamlSerializer::new(String::from_str(alloc, front)?);
+    match variant {
+        Variant::Number => ser.write_newtype_variant("C", &7u8)?,
+        Variant::Unit => ser.write_unit_variant("A")?,
+        Variant::Empty => ser.write_empty_variant("B")?,
+    }
+    Ok(ser.into_string())
 }
 
 #[test]
 fn variants_stand_behind_what_was_written(rt: HostRuntime) -> Result<(), Fail> {
     let alloc = rt.alloc();
-    let mut ser = YamlSerializer::new(String::new(alloc));
-    ser.write_empty_variant("B")?;
-    assert_eq!(rt; ser.into_string().as_str(), "B: []");
-    let mut ser = YamlSerializer::new(String::new(alloc));
-    ser.write_unit_variant("A")?;
-    assert_eq!(rt; ser.into_string().as_str(), "A: ~");
-    let mut ser = YamlSerializer::new(String::from_str(alloc, "# a variant\n")?);
-    ser.write_newtype_variant("C", &7u8)?;
-    assert_eq!(rt; ser.into_string().as_str(), "# a variant\nC:\n  7");
+    assert_eq!(rt; behind(alloc, "", Variant::Empty)?.as_str(), "B: []");
+    assert_eq!(rt; behind(alloc, "", Variant::Unit)?.as_str(), "A: ~");
+    assert_eq!(rt;
+        behind(alloc, "# a variant\n", Variant::Number)?.as_str(),
+        "# a variant\nC:\n  7"
+    );
     Ok(())
+}
+
+/// How bytes are refused, and what is written then.
+fn refused_bytes(alloc: Global) -> Result<(Option<Errors>, String), Fail> {
+    let mut ser = YamlSerializer::new(String::new(alloc));
+    let refused = ser.write_bytes(alloc, b"a").err();
+    Ok((refused, ser.into_string()))
 }
 
 #[test]
 fn bytes_are_refused_and_write_nothing(rt: HostRuntime) -> Result<(), Fail> {
-    let alloc = rt.alloc();
-    let mut ser = YamlSerializer::new(String::new(alloc));
-    let refused = ser.write_bytes(alloc, b"a").err();
-    assert_eq!(rt;
-        refused,
-        Some(Errors::UnsupportedSerializationError(text(alloc, "bytes")?))
-    );
-    assert_eq!(rt; ser.into_string().as_str(), "");
+    let (refused, written) = refused_bytes(rt.alloc())?;
+    let bytes = Text::copy_of(rt.alloc(), "bytes")?;
+    assert_eq!(rt; refused, Some(Errors::UnsupportedSerializationError(bytes)));
+    assert_eq!(rt; written.as_str(), "");
     Ok(())
 }
+
+/// Texts, and what is written for the values that they are read as.
+const WRITTEN: [(Kind, &str, &str); 11] = [
+    (Kind::Bytes, "[1, 2, 3]", "- \n  1\n- \n  2\n- \n  3\n"),
+    (Kind::Lists, "[[1]]", "- \n  - \n   1\n  \n"),
+    (Kind::Triple, "[1, -2, ~]", "- \n  1\n- \n  -2\n- \n  ~\n"),
+    (Kind::Text, "Hello 'world", "'Hello ''world'"),
+    (Kind::Text, "\"First\\nSecond\"", "|-\n  First\n  Second"),
+    (Kind::Text, "\"First\\n\"", "\"First\\n\""),
+    (Kind::Character, "x", "x"),
+    (Kind::Map, "{}", "{}"),
+    (Kind::Map, "{b: true, a: ~}", "'b':\n  true\n'a':\n  ~\n"),
+    (Kind::Any, "[]", "[]"),
+    (
+        Kind::Any,
+        "[-7, x, true, {b: [], a: ~}]",
+        "- \n  -7\n- \n  'x'\n- \n  true\n- \n  'b':\n   []\n  'a':\n   ~\n  \n",
+    ),
+];

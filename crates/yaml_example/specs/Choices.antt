@@ -4,7 +4,7 @@ use Rattle.std.specs.Str.{IsUtf8}
 use Rattle.yaml_small.specs.Trees.{Tree}
 use Rattle.yaml_text.specs.Written as spec
 use Rattle.yaml_text.specs.Written.{Written}
-use Rattle.yaml_read.specs.Source.{Source, Refusal, UnknownField}
+use Rattle.yaml_read.specs.Source.{Source, Refused, UnknownField}
 use Rattle.yaml_read.specs.Scalar.{unsigned, unsigned_at, signed, signed_at, any_at, unit_at}
 use Rattle.yaml_read.specs.Collections.{enum_at, pair_at, mapped_at, refused_at}
 use Rattle.yaml_read.specs.Nodes.{plain_node, any_node, unit_node, pair_node, enum_node, mapped_node, refused_node}
@@ -30,7 +30,7 @@ as_both s = both s.x s.y
 abbrev pub tuple_node : Option Tree → Option (ℤ × List ℕ)
 tuple_node = pair_node (plain_node (signed least most)) (any_node Ok)
 
-abbrev pub tuple_at : Source → Result ((ℤ × List ℕ) × Source) Refusal
+abbrev pub tuple_at : Source → Result ((ℤ × List ℕ) × Source) Refused
 tuple_at = pair_at (signed_at least most) any_at
 
 -- a variant by its name
@@ -42,7 +42,7 @@ takes _ key =
     else if bytes_eq key (codes "Both") then mapped_node as_both sample_node
     else refused_node
 
-abbrev pub fills : Kind → List ℕ → Source → Result (Kind × Source) Refusal
+abbrev pub fills : Kind → List ℕ → Source → Result (Kind × Source) Refused
 fills _ key =
     if bytes_eq key (codes "Nothing") then mapped_at as_nothing unit_at
     else if bytes_eq key (codes "Number") then mapped_at count (unsigned_at 18446744073709551615)
@@ -53,7 +53,7 @@ fills _ key =
 abbrev pub choice_node : Option Tree → Option Kind
 choice_node = enum_node takes nothing
 
-abbrev pub choice_at : Source → Result (Kind × Source) Refusal
+abbrev pub choice_at : Source → Result (Kind × Source) Refused
 choice_at = enum_at fills nothing
 
 -- a variant of that name

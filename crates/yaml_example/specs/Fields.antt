@@ -4,7 +4,7 @@ use Rattle.std.specs.Str.{IsUtf8}
 use Rattle.yaml_small.specs.Trees.{Tree}
 use Rattle.yaml_text.specs.Written as spec
 use Rattle.yaml_text.specs.Written.{Written, member, no_members}
-use Rattle.yaml_read.specs.Source.{Source, Refusal, UnknownField, MissingField}
+use Rattle.yaml_read.specs.Source.{Source, Refusal, Refused, UnknownField, MissingField}
 use Rattle.yaml_read.specs.Scalar.{signed, signed_at, any_at}
 use Rattle.yaml_read.specs.Collections.{map_at, mapped_at, checked_at, refused_at}
 use Rattle.yaml_read.specs.Nodes.{plain_node, any_node, map_node, mapped_node, checked_node, refused_node}
@@ -43,7 +43,7 @@ takes p key =
     else if bytes_eq key (codes "y") then mapped_node (with_y p) (any_node Ok)
     else refused_node
 
-abbrev pub fills : Parts → List ℕ → Source → Result (Parts × Source) Refusal
+abbrev pub fills : Parts → List ℕ → Source → Result (Parts × Source) Refused
 fills p key =
     if bytes_eq key (codes "x") then mapped_at (with_x p) (signed_at least most)
     else if bytes_eq key (codes "y") then mapped_at (with_y p) any_at
@@ -64,7 +64,7 @@ sample_of p = of_parts p.x p.y
 abbrev pub sample_node : Option Tree → Option Seen
 sample_node = checked_node sample_of (map_node takes no_parts)
 
-abbrev pub sample_at : Source → Result (Seen × Source) Refusal
+abbrev pub sample_at : Source → Result (Seen × Source) Refused
 sample_at = checked_at sample_of (map_at fills no_parts)
 
 -- a map of both

@@ -17,19 +17,19 @@ use Rattle.yaml_small.proofs.Live.{stream_end}
 use Rattle.yaml_read.specs.declared.error.DeError.{DeError}
 use Rattle.yaml_read.specs.declared.error.DeError.TheVariants as errors
 use Rattle.yaml_read.specs.Answers.{ReadGives, ReadFails}
-use Rattle.yaml_read.specs.Source.{Source, Refusal, TooManyEvents, pull, front, event_alone}
+use Rattle.yaml_read.specs.Source.{Source, Refusal, TooManyEvents, pull, front, event_alone, Refused, refused, why}
 use Rattle.yaml_read.specs.Collections.{is_stream_end}
 use Rattle.yaml_read.specs.Emitted.{Emits, Gets, Reads}
 use Rattle.yaml_read.specs.TakingLaws.{pull_is, front_is}
 use Rattle.yaml_read.specs.JoinLaws.{emitted_join, emitted_cut}
-use Rattle.yaml_read.specs.Whole.{source_at, is_document_start, is_document_end, behind_start, opened_at, ended_stream, stream_end_at, ended_document, closed_at, whole_at, Holds}
+use Rattle.yaml_read.specs.Whole.{source_at, is_document_start, is_document_end, behind_start, opened_at, ended_stream, stream_end_at, ended_document, closed_at, whole_from, whole_at, Holds}
 use Rattle.yaml_read.proofs.Tails.{tails}
 
 -- what was taken, given what stood there
 taken_there : (s : Source) (e : Event) (t : Event × Source) → front s ≡ Ok e → pull s ≡ Ok t → next s.state ≡ Ok (e, t.1.state)
 taken_there s e t f p =
     let a = front_is s e f in
-    let same = ok_is {F = Refusal} t (e, a.0) (sym p ∙ a.1) in
+    let same = ok_is {F = Refused} t (e, a.0) (sym p ∙ a.1) in
     pull_is s e a.0 a.1 ∙ ap (λ (v : Event × Source). Ok (e, v.1.state)) (sym same)
 
 stream_end_is : (e : Event) → is_stream_end e ≡ true → e ≡ events.StreamEnd
@@ -52,7 +52,7 @@ stream_closed s x m h = let a = bind_ok (front s) _ _ h in by_test a.0 a.1 (is_s
     by_test : (e : Event) → front s ≡ Ok e → (b : Bool) → is_stream_end e ≡ b → ended_stream b s ≡ Ok (x, m) → next s.state ≡ Ok (events.StreamEnd, m.state)
     by_test e f true is h =
         let p = bind_ok (pull s) _ _ h in
-        taken_there s e p.0 f p.1 ∙ ap (λ (v : Event). Ok (v, p.0.1.state)) (stream_end_is e is) ∙ ap (λ (v : Unit {0} × Source). Ok (events.StreamEnd, v.1.state)) (ok_is {F = Refusal} (tt, p.0.1) (x, m) p.2)
+        taken_there s e p.0 f p.1 ∙ ap (λ (v : Event). Ok (v, p.0.1.state)) (stream_end_is e is) ∙ ap (λ (v : Unit {0} × Source). Ok (events.StreamEnd, v.1.state)) (ok_is {F = Refused} (tt, p.0.1) (x, m) p.2)
     by_test e f false is h = absurd cc
 
 -- the ends of the document and of the stream, or of the stream alone
@@ -90,8 +90,8 @@ opens text s h =
         → Runs (start text) (events.StreamStart ∷ events.DocumentStart ∷ []) s.state ⊎ Runs (start text) (events.StreamStart ∷ []) s.state
     by_test w here e f true is h =
         let p = bind_ok (pull w) _ _ h in
-        inl (w.state, here, (s.state, taken_there w e p.0 f p.1 ∙ ap (λ (v : Event). Ok (v, p.0.1.state)) (document_start_is e is) ∙ ap (λ (v : Source). Ok (events.DocumentStart, v.state)) (ok_is {F = Refusal} p.0.1 s p.2), refl))
-    by_test w here e f false is h = inr (s.state, here ∙ ap (λ (v : Source). Ok (events.StreamStart, v.state)) (ok_is {F = Refusal} w s h), refl)
+        inl (w.state, here, (s.state, taken_there w e p.0 f p.1 ∙ ap (λ (v : Event). Ok (v, p.0.1.state)) (document_start_is e is) ∙ ap (λ (v : Source). Ok (events.DocumentStart, v.state)) (ok_is {F = Refused} p.0.1 s p.2), refl))
+    by_test w here e f false is h = inr (s.state, here ∙ ap (λ (v : Source). Ok (events.StreamStart, v.state)) (ok_is {F = Refused} w s h), refl)
 
 -- The events from a text's start to its end are those of its document.
 abbrev IsDocument : List ℕ → List Event → Type 0
@@ -129,14 +129,18 @@ no_start (Seq ts) (Some u) es fs h = cc
 no_start (Map ps) (Some u) es fs h = cc
 
 -- what is read is carried
-pub whole_found : {X : Type 0} (of_node : Option Tree → Option X) (read : Source → Result (X × Source) Refusal) → Reads of_node read → (text : List ℕ) (x : X) → whole_at read text ≡ Ok x → Holds of_node text x
-unfolding whole_at
+why_is : {X : Type 0} (r : Result X Refused) (x : X) → why r ≡ Ok x → r ≡ Ok x
+why_is {X} (Ok y) x h = ap (λ (v : X). Ok v) (ok_is {F = Refusal} y x h)
+why_is (Err refused) x h = absurd cc
+
+pub whole_found : {X : Type 0} (of_node : Option Tree → Option X) (read : Source → Result (X × Source) Refused) → Reads of_node read → (text : List ℕ) (x : X) → whole_at read text ≡ Ok x → Holds of_node text x
+unfolding whole_from
 whole_found {X} of_node read law text x h =
-    let a = bind_ok (opened_at text) _ _ h in
+    let a = bind_ok (opened_at text) _ _ (why_is (whole_from read text) x h) in
     let b = bind_ok (read a.0) _ _ a.2 in
     let c = bind_ok (closed_at b.0.1) _ _ b.2 in
     let f = law.sound a.0 b.0.0 b.0.1 b.1 in
-    let same = ok_is {F = Refusal} b.0.0 x c.2 in
+    let same = ok_is {F = Refused} b.0.0 x c.2 in
     let is : of_node f.node ≡ Some x = f.read ∙ ap Some same in
     by_start a.0.state b.0.1.state c.0.1.state f.node f.emitted is (closes b.0.1 c.0.0 c.0.1 c.1) (opens text a.0 a.1)
   where
@@ -187,42 +191,45 @@ abbrev pub Answers : {X : Type 0} → X → Result X Refusal → Type 0
 Answers x (Ok y) = y ≡ x
 Answers x (Err refusal) = refusal ≡ TooManyEvents
 
-pull_or : {A : Type 0} (Q : Result A Refusal → Type 0) (s : Source) (e : Event) (z : State) (f : Event × Source → Result A Refusal) → next s.state ≡ Ok (e, z) → Q (Err TooManyEvents)
+abbrev AnswersAt : {X : Type 0} → X → Result X Refused → Type 0
+AnswersAt x r = Answers x (why r)
+
+pull_or : {A : Type 0} (Q : Result A Refused → Type 0) (s : Source) (e : Event) (z : State) (f : Event × Source → Result A Refused) → next s.state ≡ Ok (e, z) → ((m : Source) → Q (refused m TooManyEvents))
     → ((m : Source) → m.state ≡ z → Q (f (e, m))) → Q (pull s >>= f)
 unfolding pull
 pull_or Q s e z f h none go = rw h (counted (eqb s.left 0))
   where
-    counted : (b : Bool) → Q (cond b (Err TooManyEvents) (Ok (e, record { state = z; left = s.left - 1 })) >>= f)
-    counted true = none
+    counted : (b : Bool) → Q (cond b (refused s TooManyEvents) (Ok (e, record { state = z; left = s.left - 1 })) >>= f)
+    counted true = none s
     counted false = go (record { state = z; left = s.left - 1 }) refl
 
-front_or : {A : Type 0} (Q : Result A Refusal → Type 0) (s : Source) (e : Event) (z : State) (f : Event → Result A Refusal) → next s.state ≡ Ok (e, z) → Q (Err TooManyEvents) → Q (f e) → Q (front s >>= f)
+front_or : {A : Type 0} (Q : Result A Refused → Type 0) (s : Source) (e : Event) (z : State) (f : Event → Result A Refused) → next s.state ≡ Ok (e, z) → ((m : Source) → Q (refused m TooManyEvents)) → Q (f e) → Q (front s >>= f)
 unfolding pull front
 front_or Q s e z f h none go = rw h (counted (eqb s.left 0))
   where
-    counted : (b : Bool) → Q (event_alone (cond b (Err TooManyEvents) (Ok (e, record { state = z; left = s.left - 1 }))) >>= f)
-    counted true = none
+    counted : (b : Bool) → Q (event_alone (cond b (refused s TooManyEvents) (Ok (e, record { state = z; left = s.left - 1 }))) >>= f)
+    counted true = none s
     counted false = go
 
-read_or : {A X : Type 0} (Q : Result A Refusal → Type 0) (left : ℕ) (x : X) (z : State) (r : Result (X × Source) Refusal) (f : X × Source → Result A Refusal) → Gets left x z r → Q (Err TooManyEvents)
+read_or : {A X : Type 0} (Q : Result A Refused → Type 0) (left : ℕ) (x : X) (z : State) (r : Result (X × Source) Refused) (f : X × Source → Result A Refused) → Gets left x z r → ((m : Source) → Q (refused m TooManyEvents))
     → ((m : Source) → m.state ≡ z → Q (f (x, m))) → Q (r >>= f)
 read_or {A} {X} Q left x z (Ok p) f h none go = subst (λ (v : X). Q (f (v, p.1))) (sym h.0) (go p.1 h.1)
-read_or {A} Q left x z (Err refusal) f h none go = subst (λ (v : Refusal). Q (Err v)) (sym h) none
+read_or {A} Q left x z (Err r) f h none go = subst (λ (v : Refusal). Q (Err (record { refusal = v; leaves = r.leaves }))) (sym h) (none r.leaves)
 
-stream_end_or : {A : Type 0} (Q : Result A Refusal → Type 0) (s : Source) (z : State) (f : Unit {0} × Source → Result A Refusal) → next s.state ≡ Ok (events.StreamEnd, z) → Q (Err TooManyEvents)
+stream_end_or : {A : Type 0} (Q : Result A Refused → Type 0) (s : Source) (z : State) (f : Unit {0} × Source → Result A Refused) → next s.state ≡ Ok (events.StreamEnd, z) → ((m : Source) → Q (refused m TooManyEvents))
     → ((m : Source) → Q (f (tt, m))) → Q (stream_end_at s >>= f)
 unfolding stream_end_at
 stream_end_or Q s z f h none go =
     front_or (λ r. Q (r >>= f)) s events.StreamEnd z _ h none (pull_or (λ r. Q (r >>= f)) s events.StreamEnd z _ h none (λ m at. go m))
 
-closed_or : {A : Type 0} (Q : Result A Refusal → Type 0) (s : Source) (z : State) (f : Unit {0} × Source → Result A Refusal) → Closes s.state z → Q (Err TooManyEvents) → ((m : Source) → Q (f (tt, m))) → Q (closed_at s >>= f)
+closed_or : {A : Type 0} (Q : Result A Refused → Type 0) (s : Source) (z : State) (f : Unit {0} × Source → Result A Refused) → Closes s.state z → ((m : Source) → Q (refused m TooManyEvents)) → ((m : Source) → Q (f (tt, m))) → Q (closed_at s >>= f)
 unfolding closed_at
 closed_or Q s z f (inl (k, first, last)) none go =
     front_or (λ r. Q (r >>= f)) s events.DocumentEnd k _ first none
     (pull_or (λ r. Q (r >>= f)) s events.DocumentEnd k _ first none (λ m at. stream_end_or Q m z f (ap next at ∙ last) none go))
 closed_or Q s z f (inr last) none go = front_or (λ r. Q (r >>= f)) s events.StreamEnd z _ last none (stream_end_or Q s z f last none go)
 
-opened_or : {A : Type 0} (Q : Result A Refusal → Type 0) (text : List ℕ) (y z : State) (e : Event) (f : Source → Result A Refusal) → next (start text) ≡ Ok (events.StreamStart, y) → next y ≡ Ok (e, z) → Q (Err TooManyEvents)
+opened_or : {A : Type 0} (Q : Result A Refused → Type 0) (text : List ℕ) (y z : State) (e : Event) (f : Source → Result A Refused) → next (start text) ≡ Ok (events.StreamStart, y) → next y ≡ Ok (e, z) → ((m : Source) → Q (refused m TooManyEvents))
     → ((m : Source) → m.state ≡ cond (is_document_start e) z y → Q (f m)) → Q (opened_at text >>= f)
 unfolding opened_at
 opened_or {A} Q text y z e f here then none go =
@@ -234,16 +241,16 @@ opened_or {A} Q text y z e f here then none go =
     by_test m at false go = go m at
 
 -- what is carried is read, if enough events may be taken
-pub whole_answers : {X : Type 0} (of_node : Option Tree → Option X) (read : Source → Result (X × Source) Refusal) → Reads of_node read → (text : List ℕ) (x : X) → Holds of_node text x → Answers x (whole_at read text)
-unfolding whole_at
+pub whole_answers : {X : Type 0} (of_node : Option Tree → Option X) (read : Source → Result (X × Source) Refused) → Reads of_node read → (text : List ℕ) (x : X) → Holds of_node text x → Answers x (whole_at read text)
+unfolding whole_from
 whole_answers {X} of_node read law text x (None, carried, is) =
     let t = carried_emitted text None 1 carried in
     let run = t.1 in
     let first = run.2 in
     let second = first.2 in
-    opened_or (Answers x) text run.0 first.0 events.StreamEnd _ run.1 first.1 refl
-    (λ s at. read_or (Answers x) s.left x first.0 (read s) _ (law.complete s None first.0 x (ap next at ∙ first.1) is) refl
-    (λ m there. closed_or (Answers x) m second.0 _ (inr (ap next there ∙ second.1)) refl (λ k. refl)))
+    opened_or (AnswersAt x) text run.0 first.0 events.StreamEnd _ run.1 first.1 (λ _. refl)
+    (λ s at. read_or (AnswersAt x) s.left x first.0 (read s) _ (law.complete s None first.0 x (ap next at ∙ first.1) is) (λ _. refl)
+    (λ m there. closed_or (AnswersAt x) m second.0 _ (inr (ap next there ∙ second.1)) (λ _. refl) (λ k. refl)))
 whole_answers {X} of_node read law text x (Some t, carried, is) =
     let emitted_all = carried_emitted text (Some t) 0 carried in
     let run = emitted_all.1 in
@@ -251,9 +258,9 @@ whole_answers {X} of_node read law text x (Some t, carried, is) =
     let c = emitted_cut first.0 t (events.DocumentEnd ∷ events.StreamEnd ∷ []) emitted_all.0 first.2 in
     let end = c.2 in
     let last = end.2 in
-    opened_or (Answers x) text run.0 first.0 events.DocumentStart _ run.1 first.1 refl
-    (λ s at. read_or (Answers x) s.left x c.0 (read s) _ (law.complete s (Some t) c.0 x (subst (λ (q : State). Runs q (emitted t []) c.0) (sym at) c.1) is) refl
-    (λ m there. closed_or (Answers x) m last.0 _ (inl (end.0, ap next there ∙ end.1, last.1)) refl (λ k. refl)))
+    opened_or (AnswersAt x) text run.0 first.0 events.DocumentStart _ run.1 first.1 (λ _. refl)
+    (λ s at. read_or (AnswersAt x) s.left x c.0 (read s) _ (law.complete s (Some t) c.0 x (subst (λ (q : State). Runs q (emitted t []) c.0) (sym at) c.1) is) (λ _. refl)
+    (λ m there. closed_or (AnswersAt x) m last.0 _ (inl (end.0, ap next there ∙ end.1, last.1)) (λ _. refl) (λ k. refl)))
 
 abbrev read_ok : {X : Type 0} → X → Result X Refusal
 read_ok x = Ok x
@@ -279,7 +286,7 @@ gives_answer {V} {X} view (Err e) (Err refusal) x h a = too_many e (subst (λ (q
     too_many (errors.UnknownField name) h = absurd cc
     too_many (errors.MissingField name) h = absurd cc
 
-pub gives_found : {V X : Type 0} (view : V → X) (result : Result V DeError) (of_node : Option Tree → Option X) (read : Source → Result (X × Source) Refusal) → Reads of_node read → (text : List ℕ)
+pub gives_found : {V X : Type 0} (view : V → X) (result : Result V DeError) (of_node : Option Tree → Option X) (read : Source → Result (X × Source) Refused) → Reads of_node read → (text : List ℕ)
     → ReadGives view result (whole_at read text) → IfOk result (λ v. Holds of_node text (view v))
 gives_found view (Ok v) of_node read law text h = whole_found of_node read law text (view v) h
 gives_found view (Err e) of_node read law text h = tt

@@ -7,7 +7,7 @@ use Rattle.yaml_small.specs.Answers.{state_of, is_form}
 use Rattle.yaml_read.specs.declared.error.DeError.{DeError}
 use Rattle.yaml_read.specs.declared.error.DeError.TheVariants as errors
 use Rattle.yaml_read.specs.declared.deserializer.YamlDeserializer.{YamlDeserializer}
-use Rattle.yaml_read.specs.Source.{Source, Refusal, WrongScalar, WrongEvent, NoEvent, WrongNumber, RealForm, Unsupported, NotEnded, UnknownField, MissingField, TooManyEvents}
+use Rattle.yaml_read.specs.Source.{Source, Refusal, WrongScalar, WrongEvent, NoEvent, WrongNumber, RealForm, Unsupported, NotEnded, UnknownField, MissingField, TooManyEvents, Refused, refused, why}
 
 -- what a deserializer reads from
 abbrev pub source_of : YamlDeserializer → Source
@@ -49,6 +49,35 @@ ReadFails (errors.MissingField name) read = read ≡ Err (MissingField name)
 abbrev pub ReadGives : {X Y : Type 0} → (X → Y) → Result X DeError → Result Y Refusal → Type 0
 ReadGives view (Ok x) read = read ≡ Ok (view x)
 ReadGives view (Err e) read = ReadFails e read
+
+-- What a refused read leaves stands where it was refused.
+abbrev pub StandsAt : {Y : Type 0} → Source → Result Y Refused → Type 0
+StandsAt s (Ok y) = ⊥
+StandsAt s (Err refused) = refused.leaves ≡ s
+
+abbrev pub LeavesScan : {Y : Type 0} → Source → ScanError → Result Y Refused → Type 0
+LeavesScan s scans.Memory read = ⊥
+LeavesScan s (scans.Form marker) read = (lacks_form (why read) ≡ true) × StandsAt s read
+LeavesScan s (scans.NotCarried marker) read = read ≡ refused s (NoEvent faults.NotCarried)
+LeavesScan s (scans.TooDeep marker) read = read ≡ refused s (NoEvent faults.TooDeep)
+
+-- An error is the refusal, and leaves this.
+abbrev pub ReadLeaves : {Y : Type 0} → Source → DeError → Result Y Refused → Type 0
+ReadLeaves s errors.Memory read = Unit {0}
+ReadLeaves s (errors.UnexpectedScalar expected text marker) read = read ≡ refused s (WrongScalar text)
+ReadLeaves s (errors.UnexpectedEvent expected event marker) read = read ≡ refused s (WrongEvent event)
+ReadLeaves s (errors.Scan error) read = LeavesScan s error read
+ReadLeaves s (errors.ParseNumber text) read = read ≡ refused s (WrongNumber text)
+ReadLeaves s errors.Unsupported read = read ≡ refused s Unsupported
+ReadLeaves s (errors.RealForm marker) read = read ≡ refused s RealForm
+ReadLeaves s (errors.NotEnded marker) read = read ≡ refused s NotEnded
+ReadLeaves s (errors.UnknownField name) read = read ≡ refused s (UnknownField name)
+ReadLeaves s (errors.MissingField name) read = read ≡ refused s (MissingField name)
+
+-- What a call gave, seen by view, is what was to be read; and its error is the refusal, and leaves this.
+abbrev pub ReadTakes : {X Y : Type 0} → (X → Y) → Source → Result X DeError → Result Y Refused → Type 0
+ReadTakes view s (Ok x) read = read ≡ Ok (view x)
+ReadTakes view s (Err e) read = ReadLeaves s e read
 
 -- An error is this refusal, or want of memory.
 abbrev pub IsRefusal : DeError → Refusal → Type 0

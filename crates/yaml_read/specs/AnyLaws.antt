@@ -1,5 +1,5 @@
 -- Reads of values of any kind, against the nodes that are emitted.
-use Rattle.std.proofs.Common.{◌≡◌, ℕ, zero, suc, ◌+◌, List, [], Option, Some, None, option_map, option_and_then, Result, Ok, Err, refl, sym, ap, ◌∙◌, bytes_eq}
+use Rattle.std.proofs.Common.{◌≡◌, ℕ, zero, suc, ◌+◌, List, [], Option, Some, None, option_map, option_and_then, Result, Ok, refl, sym, ap, ◌∙◌, bytes_eq}
 use Rattle.indexmap.specs.IndexMap.{insert_entry}
 use Rattle.warg_values.specs.Reading.{◌>>=◌}
 use Rattle.warg_values.specs.ReadingLaws.{bind_ok}
@@ -9,7 +9,7 @@ use Rattle.yaml_small.specs.declared.event.Style.{Style}
 use Rattle.yaml_small.specs.Data.{Data}
 use Rattle.yaml_small.specs.Trees.{Tree, Leaf, Seq, Map, Trees, none, more, Pairs, no_pairs, pair, scalar_event}
 use Rattle.yaml_small.specs.Stream.{State, next}
-use Rattle.yaml_read.specs.Source.{Source, Refusal, TooManyEvents, front}
+use Rattle.yaml_read.specs.Source.{Source, TooManyEvents, front, Refused, refused}
 use Rattle.yaml_read.specs.Scalar.{any_at}
 use Rattle.yaml_read.specs.Collections.{pushed, refused_at, seq_at, map_at}
 use Rattle.yaml_read.specs.Nodes.{any_node, mapped_node, checked_node, seq_as, seq_node, map_as, map_node}
@@ -27,8 +27,8 @@ kind_node scalar list entries (Some (Leaf s)) = scalar (Some (Leaf s))
 kind_node scalar list entries (Some (Seq ts)) = list (Some (Seq ts))
 kind_node scalar list entries (Some (Map ps)) = entries (Some (Map ps))
 
-abbrev kind_at : {X : Type 0} → (Source → Result (X × Source) Refusal) → (Source → Result (X × Source) Refusal) → (Source → Result (X × Source) Refusal)
-    → Source → Result (X × Source) Refusal
+abbrev kind_at : {X : Type 0} → (Source → Result (X × Source) Refused) → (Source → Result (X × Source) Refused) → (Source → Result (X × Source) Refused)
+    → Source → Result (X × Source) Refused
 kind_at scalar list entries s = front s >>= λ event. by_kind scalar list entries event s
 
 -- what was read by its kind is that node
@@ -55,7 +55,7 @@ entries_emitted scalar list entries s w here (Some (Leaf sc)) z x telling is = e
 entries_emitted scalar list entries s w here (Some (Seq ts)) z x telling is = emitted_once s events.MappingStart events.SequenceStart w telling.0 here telling.1 (λ same _. absurd cc)
 entries_emitted scalar list entries s w here (Some (Map ps)) z x telling is = is
 
-kind_found : {X : Type 0} (scalar list entries : Option Tree → Option X) (read each all : Source → Result (X × Source) Refusal) → Reads scalar read → Reads list each → Reads entries all
+kind_found : {X : Type 0} (scalar list entries : Option Tree → Option X) (read each all : Source → Result (X × Source) Refused) → Reads scalar read → Reads list each → Reads entries all
     → (s : Source) (x : X) (m : Source) → kind_at read each all s ≡ Ok (x, m) → Found (kind_node scalar list entries) s x m
 kind_found {X} scalar list entries read each all law rule norm s x m h =
     let a = bind_ok (front s) _ _ h in
@@ -72,27 +72,27 @@ kind_found {X} scalar list entries read each all law rule norm s x m h =
         let f = norm.sound s x m h in record { node = f.node; emitted = f.emitted; read = entries_emitted scalar list entries s.state w here f.node m.state x f.emitted f.read }
     by_event e w here h = absurd cc
 
-kind_gets : {X : Type 0} (scalar list entries : Option Tree → Option X) (read each all : Source → Result (X × Source) Refusal) → Reads scalar read → Reads list each → Reads entries all
+kind_gets : {X : Type 0} (scalar list entries : Option Tree → Option X) (read each all : Source → Result (X × Source) Refused) → Reads scalar read → Reads list each → Reads entries all
     → (s : Source) (node : Option Tree) (z : State) (x : X) → Emits s.state node z → kind_node scalar list entries node ≡ Some x → Gets s.left x z (kind_at read each all s)
 kind_gets scalar list entries read each all law rule norm s None z x run is = absurd (some_apart x is)
 kind_gets scalar list entries read each all law rule norm s (Some (Leaf sc)) z x run is = fronts s.left s (scalar_event sc) run.0 x z _ run.1 (law.complete s (Some (Leaf sc)) z x run is)
 kind_gets scalar list entries read each all law rule norm s (Some (Seq ts)) z x run is = fronts s.left s events.SequenceStart run.0 x z _ run.1 (rule.complete s (Some (Seq ts)) z x run is)
 kind_gets scalar list entries read each all law rule norm s (Some (Map ps)) z x run is = fronts s.left s events.MappingStart run.0 x z _ run.1 (norm.complete s (Some (Map ps)) z x run is)
 
-kind_reads : {X : Type 0} (scalar list entries : Option Tree → Option X) (read each all : Source → Result (X × Source) Refusal) → Reads scalar read → Reads list each → Reads entries all
+kind_reads : {X : Type 0} (scalar list entries : Option Tree → Option X) (read each all : Source → Result (X × Source) Refused) → Reads scalar read → Reads list each → Reads entries all
     → Reads (kind_node scalar list entries) (kind_at read each all)
 kind_reads scalar list entries read each all law rule norm =
     record { sound = kind_found scalar list entries read each all law rule norm; complete = kind_gets scalar list entries read each all law rule norm }
 
 -- a read that counts no further
-err_apart : {A : Type 0} (x : A) → Err TooManyEvents ≡ Ok x → ⊥
-err_apart x h = cc
+err_apart : {A : Type 0} (s : Source) (x : A) → refused s TooManyEvents ≡ Ok x → ⊥
+err_apart s x h = cc
 
 too_many_reads : {X : Type 0} (of_node : Option Tree → Option X) → Reads of_node (refused_at TooManyEvents)
-too_many_reads of_node = record { sound = λ s x m h. absurd (err_apart (x, m) h); complete = λ s node z x run is. refl }
+too_many_reads of_node = record { sound = λ s x m h. absurd (err_apart s (x, m) h); complete = λ s node z x run is. refl }
 
 -- two names for the same nodes
-reads_as : {X : Type 0} (of_node other : Option Tree → Option X) (read : Source → Result (X × Source) Refusal) → ((node : Option Tree) → of_node node ≡ other node) → Reads of_node read → Reads other read
+reads_as : {X : Type 0} (of_node other : Option Tree → Option X) (read : Source → Result (X × Source) Refused) → ((node : Option Tree) → of_node node ≡ other node) → Reads of_node read → Reads other read
 reads_as of_node other read same law = record {
   sound = λ s x m h. let f = law.sound s x m h in record { node = f.node; emitted = f.emitted; read = sym (same f.node) ∙ f.read };
   complete = λ s node z x run is. law.complete s node z x run (same node ∙ is);
@@ -126,7 +126,7 @@ scalar_reads = checked_reads scalar_data (any_node Ok) any_at any_reads
 abbrev list_of : Option Tree → Option Data
 list_of = mapped_node listed (seq_node (λ values at. mapped_node (pushed values) data_node) [])
 
-list_reads : (read : Source → Result (Data × Source) Refusal) → Reads data_node read → Reads list_of (nested_in read)
+list_reads : (read : Source → Result (Data × Source) Refused) → Reads data_node read → Reads list_of (nested_in read)
 unfolding item_takes
 list_reads read law =
     mapped_reads listed _ _
@@ -135,7 +135,7 @@ list_reads read law =
 abbrev entries_of : Option Tree → Option Data
 entries_of = mapped_node mapped (map_node (λ entries key. mapped_node (insert_entry bytes_eq entries key) data_node) [])
 
-map_of_reads : (read : Source → Result (Data × Source) Refusal) → Reads data_node read → Reads entries_of (nested_under read)
+map_of_reads : (read : Source → Result (Data × Source) Refused) → Reads data_node read → Reads entries_of (nested_under read)
 unfolding entry_takes
 map_of_reads read law =
     mapped_reads mapped _ _

@@ -9,7 +9,7 @@ use Rattle.yaml_small.specs.Trees.{Scalar, Tree, Leaf, Seq, Map, Trees, none, mo
 use Rattle.yaml_small.specs.Stream.{State, next, Runs}
 use Rattle.yaml_read.specs.declared.bracket.Bracket.{Bracket}
 use Rattle.yaml_read.specs.declared.bracket.Bracket.TheVariants as brackets
-use Rattle.yaml_read.specs.Source.{Source, Refusal, WrongEvent, pull, front}
+use Rattle.yaml_read.specs.Source.{Source, WrongEvent, pull, front, Refused}
 use Rattle.yaml_read.specs.Scalar.{any_at}
 use Rattle.yaml_read.specs.Collections.{is_bracket, wanted, bracket_at, ended, end_at, is_stream_end, item_at, items_at, seq_at, entry_at, entries_at, map_at}
 use Rattle.yaml_read.specs.Emitted.{Emits, Found, Gets, Reads}
@@ -66,38 +66,38 @@ end_taken b s m h =
     stood : (e : Event) (t : Event × Source) → front s ≡ Ok e → pull s ≡ Ok t → is_bracket b e ≡ true → t.1 ≡ m → (d : Event) × (next s.state ≡ Ok (d, m.state)) × (is_bracket b d ≡ true)
     stood e t f p is at =
         let g = front_is s e f in
-        (e, pull_is s e g.0 g.1 ∙ ap (λ (v : Source). Ok (e, v.state)) (ap (λ (v : Event × Source). v.1) (ok_is {F = Refusal} (e, g.0) t (sym g.1 ∙ p)) ∙ at), is)
+        (e, pull_is s e g.0 g.1 ∙ ap (λ (v : Source). Ok (e, v.state)) (ap (λ (v : Event × Source). v.1) (ok_is {F = Refused} (e, g.0) t (sym g.1 ∙ p)) ∙ at), is)
 
     by_test : (e : Event) → front s ≡ Ok e → (v : Bool) → is_bracket b e ≡ v → ended v s ≡ Ok (true, m) → (d : Event) × (next s.state ≡ Ok (d, m.state)) × (is_bracket b d ≡ true)
     by_test e f true is h =
         let p = bind_ok (pull s) _ _ h in
-        stood e p.0 f p.1 is (ap (λ (v : Bool × Source). v.1) (ok_is {F = Refusal} (true, p.0.1) (true, m) p.2))
-    by_test e f false is h = absurd (false_true (ap (λ (v : Bool × Source). v.0) (ok_is {F = Refusal} (false, s) (true, m) h)))
+        stood e p.0 f p.1 is (ap (λ (v : Bool × Source). v.1) (ok_is {F = Refused} (true, p.0.1) (true, m) p.2))
+    by_test e f false is h = absurd (false_true (ap (λ (v : Bool × Source). v.0) (ok_is {F = Refused} (false, s) (true, m) h)))
 
 end_missing : (b : Bracket) (s m : Source) → end_at b s ≡ Ok (false, m) → s ≡ m
 unfolding end_at
 end_missing b s m h = let a = bind_ok (front s) _ _ h in by_test (is_bracket b a.0) a.2
   where
     by_test : (v : Bool) → ended v s ≡ Ok (false, m) → s ≡ m
-    by_test true h = let p = bind_ok (pull s) _ _ h in absurd (true_false (ap (λ (v : Bool × Source). v.0) (ok_is {F = Refusal} (true, p.0.1) (false, m) p.2)))
-    by_test false h = ap (λ (v : Bool × Source). v.1) (ok_is {F = Refusal} (false, s) (false, m) h)
+    by_test true h = let p = bind_ok (pull s) _ _ h in absurd (true_false (ap (λ (v : Bool × Source). v.0) (ok_is {F = Refused} (true, p.0.1) (false, m) p.2)))
+    by_test false h = ap (λ (v : Bool × Source). v.1) (ok_is {F = Refused} (false, s) (false, m) h)
 
 end_gets : (b : Bracket) (s : Source) (e : Event) (z : State) → next s.state ≡ Ok (e, z) → is_bracket b e ≡ true → Gets s.left true z (end_at b s)
 unfolding end_at
 end_gets b s e z here is =
     fronts s.left s e z true z _ here (rw is (pulls s.left s e z true z _ here (λ m at less. (refl, at, less))))
 
-end_stays : {X : Type 0} (left : ℕ) (b : Bracket) (s : Source) (e : Event) (z : State) (x : X) (w : State) (f : Bool × Source → Result (X × Source) Refusal) → next s.state ≡ Ok (e, z)
+end_stays : {X : Type 0} (left : ℕ) (b : Bracket) (s : Source) (e : Event) (z : State) (x : X) (w : State) (f : Bool × Source → Result (X × Source) Refused) → next s.state ≡ Ok (e, z)
     → is_bracket b e ≡ false → Gets left x w (f (false, s)) → Gets left x w (end_at b s >>= f)
 unfolding end_at
 end_stays left b s e z x w f here is go = rw (bind_twice (front s) (λ event. ended (is_bracket b event) s) f) (fronts left s e z x w _ here (rw is go))
   where
-    bind_twice : {A B C : Type 0} (r : Result A Refusal) (g : A → Result B Refusal) (h : B → Result C Refusal) → ((r >>= g) >>= h) ≡ (r >>= λ a. g a >>= h)
+    bind_twice : {A B C : Type 0} (r : Result A Refused) (g : A → Result B Refused) (h : B → Result C Refused) → ((r >>= g) >>= h) ≡ (r >>= λ a. g a >>= h)
     bind_twice (Ok a) g h = refl
     bind_twice (Err refusal) g h = refl
 
 -- a value within a list or map is that of a tree
-pub item_found : {X : Type 0} (of_node : Option Tree → Option X) (read : Source → Result (X × Source) Refusal) → Reads of_node read → (s : Source) (x : X) (m : Source) → item_at read s ≡ Ok (x, m)
+pub item_found : {X : Type 0} (of_node : Option Tree → Option X) (read : Source → Result (X × Source) Refused) → Reads of_node read → (s : Source) (x : X) (m : Source) → item_at read s ≡ Ok (x, m)
     → (t : Tree) × Runs s.state (emitted t []) m.state × (of_node (Some t) ≡ Some x)
 unfolding item_at
 item_found {X} of_node read law s x m h =
@@ -107,7 +107,7 @@ item_found {X} of_node read law s x m h =
     let p = wanted_ok (nat_lt b.0.1.left s.left) _ _ _ b.2 in
     let f = law.sound s b.0.0 b.0.1 b.1 in
     let at = front_is s a.0 a.1 in
-    let same = ok_is {F = Refusal} b.0 (x, m) p.1 in
+    let same = ok_is {F = Refused} b.0 (x, m) p.1 in
     by_node f.node b.0 f.emitted f.read a.0 at.0.state (pull_is s a.0 at.0 at.1) g.0 same
   where
     by_node : (node : Option Tree) (y : X × Source) → Emits s.state node y.1.state → of_node node ≡ Some y.0 → (e : Event) (w : State) → next s.state ≡ Ok (e, w) → is_stream_end e ≡ false → y ≡ (x, m)
@@ -116,7 +116,7 @@ item_found {X} of_node read law s x m h =
     by_node (Some t) y telling is e w here continues same =
         (t, subst (λ (v : X × Source). Runs s.state (emitted t []) v.1.state) same telling, is ∙ ap (λ (v : X × Source). Some v.0) same)
 
-pub item_gets : {X : Type 0} (of_node : Option Tree → Option X) (read : Source → Result (X × Source) Refusal) → Reads of_node read → (s : Source) (t : Tree) (z : State) (x : X)
+pub item_gets : {X : Type 0} (of_node : Option Tree → Option X) (read : Source → Result (X × Source) Refused) → Reads of_node read → (s : Source) (t : Tree) (z : State) (x : X)
     → Runs s.state (emitted t []) z → of_node (Some t) ≡ Some x → Gets s.left x z (item_at read s)
 unfolding item_at
 item_gets of_node read law s t z x run is =
@@ -133,7 +133,7 @@ then_some None f y h go = absurd (some_apart y h)
 then_some (Some x) f y h go = go x refl h
 
 -- the items of a list up to its end
-items_found : {X : Type 0} (takes : X → ℕ → Option Tree → Option X) (fills : X → ℕ → Source → Result (X × Source) Refusal) → ((x : X) (at : ℕ) → Reads (takes x at) (fills x at))
+items_found : {X : Type 0} (takes : X → ℕ → Option Tree → Option X) (fills : X → ℕ → Source → Result (X × Source) Refused) → ((x : X) (at : ℕ) → Reads (takes x at) (fills x at))
     → (n at : ℕ) (x : X) (s : Source) (y : X) (m : Source) → items_at fills n at x s ≡ Ok (y, m) → (ts : Trees) × Runs s.state (each_emitted ts (events.SequenceEnd ∷ [])) m.state × (seq_as takes at x ts ≡ Some y)
 unfolding items_at
 items_found takes fills law zero at x s y m h = absurd cc
@@ -145,7 +145,7 @@ items_found {X} takes fills law (suc n) at x s y m h =
         → (ts : Trees) × Runs s.state (each_emitted ts (events.SequenceEnd ∷ [])) m.state × (seq_as takes at x ts ≡ Some y)
     by_end others true w e h =
         let t = end_taken brackets.ListEnd s w e in
-        let same = ok_is {F = Refusal} (x, w) (y, m) h in
+        let same = ok_is {F = Refused} (x, w) (y, m) h in
         (none, (m.state, t.1 ∙ ap (λ (v : Event). Ok (v, w.state)) (list_end t.0 t.2) ∙ ap (λ (v : X × Source). Ok (events.SequenceEnd, v.1.state)) same, refl), ap (λ (v : X × Source). Some v.0) same)
     by_end others false w e h =
         let i = bind_ok (item_at (fills x at) w) _ _ h in
@@ -156,7 +156,7 @@ items_found {X} takes fills law (suc n) at x s y m h =
           ap (option_and_then (λ v. seq_as takes (at + 1) v r.0)) f.2 ∙ r.2,
         )
 
-items_gets : {X : Type 0} (takes : X → ℕ → Option Tree → Option X) (fills : X → ℕ → Source → Result (X × Source) Refusal) → ((x : X) (at : ℕ) → Reads (takes x at) (fills x at))
+items_gets : {X : Type 0} (takes : X → ℕ → Option Tree → Option X) (fills : X → ℕ → Source → Result (X × Source) Refused) → ((x : X) (at : ℕ) → Reads (takes x at) (fills x at))
     → (ts : Trees) (n at : ℕ) (x : X) (s : Source) (z : State) (y : X) → Runs s.state (each_emitted ts (events.SequenceEnd ∷ [])) z → seq_as takes at x ts ≡ Some y → Gets s.left y z (items_at fills n at x s)
 unfolding items_at
 items_gets takes fills law ts zero at x s z y run is = refl
@@ -175,7 +175,7 @@ items_gets {X} takes fills law (more t ts) (suc n) at x s z y run is =
     below : (m : Source) → m.left < s.left → m.left ≤ s.left
     below m less = omega arith
 
-seq_found : {X : Type 0} (takes : X → ℕ → Option Tree → Option X) (fills : X → ℕ → Source → Result (X × Source) Refusal) → ((x : X) (at : ℕ) → Reads (takes x at) (fills x at))
+seq_found : {X : Type 0} (takes : X → ℕ → Option Tree → Option X) (fills : X → ℕ → Source → Result (X × Source) Refused) → ((x : X) (at : ℕ) → Reads (takes x at) (fills x at))
     → (x : X) (s : Source) (y : X) (m : Source) → seq_at fills x s ≡ Ok (y, m) → Found (seq_node takes x) s y m
 unfolding seq_at
 seq_found takes fills law x s y m h =
@@ -188,7 +188,7 @@ seq_found takes fills law x s y m h =
       read = f.2;
     }
 
-seq_gets : {X : Type 0} (takes : X → ℕ → Option Tree → Option X) (fills : X → ℕ → Source → Result (X × Source) Refusal) → ((x : X) (at : ℕ) → Reads (takes x at) (fills x at))
+seq_gets : {X : Type 0} (takes : X → ℕ → Option Tree → Option X) (fills : X → ℕ → Source → Result (X × Source) Refused) → ((x : X) (at : ℕ) → Reads (takes x at) (fills x at))
     → (x : X) (s : Source) (node : Option Tree) (z : State) (y : X) → Emits s.state node z → seq_node takes x node ≡ Some y → Gets s.left y z (seq_at fills x s)
 unfolding seq_at
 seq_gets takes fills law x s None z y run is = absurd (some_apart y is)
@@ -203,12 +203,12 @@ seq_gets takes fills law x s (Some (Seq ts)) z y run is =
     below m less = omega arith
 
 -- the read of a list takes what the nodes of its items are
-pub seq_reads : {X : Type 0} (takes : X → ℕ → Option Tree → Option X) (fills : X → ℕ → Source → Result (X × Source) Refusal) → ((x : X) (at : ℕ) → Reads (takes x at) (fills x at))
+pub seq_reads : {X : Type 0} (takes : X → ℕ → Option Tree → Option X) (fills : X → ℕ → Source → Result (X × Source) Refused) → ((x : X) (at : ℕ) → Reads (takes x at) (fills x at))
     → (x : X) → Reads (seq_node takes x) (seq_at fills x)
 seq_reads takes fills law x = record { sound = seq_found takes fills law x; complete = seq_gets takes fills law x }
 
 -- an entry of a map, and its entries up to its end
-pub entry_found : {X : Type 0} (takes : X → List ℕ → Option Tree → Option X) (fills : X → List ℕ → Source → Result (X × Source) Refusal) → ((x : X) (key : List ℕ) → Reads (takes x key) (fills x key))
+pub entry_found : {X : Type 0} (takes : X → List ℕ → Option Tree → Option X) (fills : X → List ℕ → Source → Result (X × Source) Refused) → ((x : X) (key : List ℕ) → Reads (takes x key) (fills x key))
     → (x : X) (s : Source) (y : X) (m : Source) → entry_at fills x s ≡ Ok (y, m) → (key : Scalar) × ((t : Tree) × (Runs s.state (scalar_event key ∷ emitted t []) m.state × (takes x key.text (Some t) ≡ Some y)))
 unfolding entry_at
 entry_found {X} takes fills law x s y m h =
@@ -225,7 +225,7 @@ entry_found {X} takes fills law x s y m h =
     by_node text w (Some (Leaf sc)) telling is t run value =
         (sc, (t, ((w.state, one_event s.state (scalar_event sc) w.state telling, run), ap (λ (v : List ℕ). takes x v (Some t)) (some_is sc.text text is) ∙ value)))
 
-pub entry_gets : {X : Type 0} (takes : X → List ℕ → Option Tree → Option X) (fills : X → List ℕ → Source → Result (X × Source) Refusal) → ((x : X) (key : List ℕ) → Reads (takes x key) (fills x key))
+pub entry_gets : {X : Type 0} (takes : X → List ℕ → Option Tree → Option X) (fills : X → List ℕ → Source → Result (X × Source) Refused) → ((x : X) (key : List ℕ) → Reads (takes x key) (fills x key))
     → (x : X) (s : Source) (key : Scalar) (t : Tree) (z : State) (y : X) → Runs s.state (scalar_event key ∷ emitted t []) z → takes x key.text (Some t) ≡ Some y → Gets s.left y z (entry_at fills x s)
 unfolding entry_at
 entry_gets takes fills law x s key t z y run is =
@@ -236,7 +236,7 @@ entry_gets takes fills law x s key t z y run is =
     below : (m : Source) → m.left < s.left → m.left ≤ s.left
     below m less = omega arith
 
-entries_found : {X : Type 0} (takes : X → List ℕ → Option Tree → Option X) (fills : X → List ℕ → Source → Result (X × Source) Refusal) → ((x : X) (key : List ℕ) → Reads (takes x key) (fills x key))
+entries_found : {X : Type 0} (takes : X → List ℕ → Option Tree → Option X) (fills : X → List ℕ → Source → Result (X × Source) Refused) → ((x : X) (key : List ℕ) → Reads (takes x key) (fills x key))
     → (n : ℕ) (x : X) (s : Source) (y : X) (m : Source) → entries_at fills n x s ≡ Ok (y, m) → (ps : Pairs) × Runs s.state (pairs_emitted ps (events.MappingEnd ∷ [])) m.state × (map_as takes x ps ≡ Some y)
 unfolding entries_at
 entries_found takes fills law zero x s y m h = absurd cc
@@ -248,7 +248,7 @@ entries_found {X} takes fills law (suc n) x s y m h =
         → (ps : Pairs) × Runs s.state (pairs_emitted ps (events.MappingEnd ∷ [])) m.state × (map_as takes x ps ≡ Some y)
     by_end others true w e h =
         let t = end_taken brackets.MapEnd s w e in
-        let same = ok_is {F = Refusal} (x, w) (y, m) h in
+        let same = ok_is {F = Refused} (x, w) (y, m) h in
         (no_pairs, (m.state, t.1 ∙ ap (λ (v : Event). Ok (v, w.state)) (map_end t.0 t.2) ∙ ap (λ (v : X × Source). Ok (events.MappingEnd, v.1.state)) same, refl), ap (λ (v : X × Source). Some v.0) same)
     by_end others false w e h =
         let i = bind_ok (entry_at fills x w) _ _ h in
@@ -261,7 +261,7 @@ entries_found {X} takes fills law (suc n) x s y m h =
           ap (option_and_then (λ v. map_as takes v r.0)) f.1.1.1 ∙ r.2,
         )
 
-entries_gets : {X : Type 0} (takes : X → List ℕ → Option Tree → Option X) (fills : X → List ℕ → Source → Result (X × Source) Refusal) → ((x : X) (key : List ℕ) → Reads (takes x key) (fills x key))
+entries_gets : {X : Type 0} (takes : X → List ℕ → Option Tree → Option X) (fills : X → List ℕ → Source → Result (X × Source) Refused) → ((x : X) (key : List ℕ) → Reads (takes x key) (fills x key))
     → (ps : Pairs) (n : ℕ) (x : X) (s : Source) (z : State) (y : X) → Runs s.state (pairs_emitted ps (events.MappingEnd ∷ [])) z → map_as takes x ps ≡ Some y → Gets s.left y z (entries_at fills n x s)
 unfolding entries_at
 entries_gets takes fills law ps zero x s z y run is = refl
@@ -279,7 +279,7 @@ entries_gets {X} takes fills law (pair key t ps) (suc n) x s z y run is =
     below : (m : Source) → m.left < s.left → m.left ≤ s.left
     below m less = omega arith
 
-map_found : {X : Type 0} (takes : X → List ℕ → Option Tree → Option X) (fills : X → List ℕ → Source → Result (X × Source) Refusal) → ((x : X) (key : List ℕ) → Reads (takes x key) (fills x key))
+map_found : {X : Type 0} (takes : X → List ℕ → Option Tree → Option X) (fills : X → List ℕ → Source → Result (X × Source) Refused) → ((x : X) (key : List ℕ) → Reads (takes x key) (fills x key))
     → (x : X) (s : Source) (y : X) (m : Source) → map_at fills x s ≡ Ok (y, m) → Found (map_node takes x) s y m
 unfolding map_at
 map_found takes fills law x s y m h =
@@ -292,7 +292,7 @@ map_found takes fills law x s y m h =
       read = f.2;
     }
 
-map_gets : {X : Type 0} (takes : X → List ℕ → Option Tree → Option X) (fills : X → List ℕ → Source → Result (X × Source) Refusal) → ((x : X) (key : List ℕ) → Reads (takes x key) (fills x key))
+map_gets : {X : Type 0} (takes : X → List ℕ → Option Tree → Option X) (fills : X → List ℕ → Source → Result (X × Source) Refused) → ((x : X) (key : List ℕ) → Reads (takes x key) (fills x key))
     → (x : X) (s : Source) (node : Option Tree) (z : State) (y : X) → Emits s.state node z → map_node takes x node ≡ Some y → Gets s.left y z (map_at fills x s)
 unfolding map_at
 map_gets takes fills law x s None z y run is = absurd (some_apart y is)
@@ -307,6 +307,6 @@ map_gets takes fills law x s (Some (Map ps)) z y run is =
     below m less = omega arith
 
 -- the read of a map takes what the nodes of its values are
-pub map_reads : {X : Type 0} (takes : X → List ℕ → Option Tree → Option X) (fills : X → List ℕ → Source → Result (X × Source) Refusal) → ((x : X) (key : List ℕ) → Reads (takes x key) (fills x key))
+pub map_reads : {X : Type 0} (takes : X → List ℕ → Option Tree → Option X) (fills : X → List ℕ → Source → Result (X × Source) Refused) → ((x : X) (key : List ℕ) → Reads (takes x key) (fills x key))
     → (x : X) → Reads (map_node takes x) (map_at fills x)
 map_reads takes fills law x = record { sound = map_found takes fills law x; complete = map_gets takes fills law x }

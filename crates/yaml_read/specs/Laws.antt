@@ -8,7 +8,7 @@ use Rattle.yaml_small.specs.declared.event.Style.TheVariants as styles
 use Rattle.yaml_small.specs.Trees.{Tree, Leaf, Seq, Map}
 use Rattle.yaml_small.specs.Scalars.{is_plain}
 use Rattle.yaml_small.specs.Stream.{State, next, Runs}
-use Rattle.yaml_read.specs.Source.{Source, Refusal, WrongScalar, pull, taken}
+use Rattle.yaml_read.specs.Source.{Source, Refusal, WrongScalar, pull, taken, Refused, found_at}
 use Rattle.yaml_read.specs.Scalar.{plain_text, any_text, plain_at, any_at, plain_as, is_null, unit, unit_at}
 use Rattle.yaml_read.specs.Emitted.{Emits, Found, Gets, Reads}
 use Rattle.yaml_read.specs.Nodes.{value_of, any_node, plain_node, unit_node}
@@ -41,15 +41,20 @@ is_any_event events.SequenceEnd text h go = absurd cc
 is_any_event events.MappingStart text h go = absurd cc
 is_any_event events.MappingEnd text h go = absurd cc
 
+-- what was found at a place was found
+pub found_is : {X : Type 0} (s : Source) (r : Result X Refusal) (x : X) → found_at s r ≡ Ok x → r ≡ Ok x
+found_is {X} s (Ok y) x h = ap (λ (v : X). Ok v) (ok_is {F = Refused} y x h)
+found_is s (Err refusal) x h = absurd cc
+
 -- an event that was taken for a value
 pub taken_is : {X : Type 0} (f : Event → Result X Refusal) (s : Source) (x : X) (m : Source) → taken f s ≡ Ok (x, m)
     → (e : Event) × (next s.state ≡ Ok (e, m.state)) × (f e ≡ Ok x)
 unfolding taken
 taken_is {X} f s x m h =
     let a = bind_ok (pull s) _ _ h in
-    let b = bind_ok (f a.0.0) _ _ a.2 in
-    let same = ok_is {F = Refusal} (b.0, a.0.1) (x, m) b.2 in
-    (a.0.0, subst (λ (z : Source). next s.state ≡ Ok (a.0.0, z.state)) (ap (λ (p : X × Source). p.1) same) (pull_is s a.0.0 a.0.1 a.1), b.1 ∙ ap (λ (p : X × Source). Ok p.0) same)
+    let b = bind_ok (found_at a.0.1 (f a.0.0)) _ _ a.2 in
+    let same = ok_is {F = Refused} (b.0, a.0.1) (x, m) b.2 in
+    (a.0.0, subst (λ (z : Source). next s.state ≡ Ok (a.0.0, z.state)) (ap (λ (p : X × Source). p.1) same) (pull_is s a.0.0 a.0.1 a.1), found_is a.0.1 (f a.0.0) b.0 b.1 ∙ ap (λ (p : X × Source). Ok p.0) same)
 
 pub taken_gets : {X : Type 0} (f : Event → Result X Refusal) (s : Source) (e : Event) (z : State) (x : X) → next s.state ≡ Ok (e, z) → f e ≡ Ok x → Gets s.left x z (taken f s)
 unfolding taken
@@ -68,13 +73,13 @@ plain_sound : {X : Type 0} (f : List ℕ → Result X Refusal) (s : Source) (x :
 unfolding plain_at
 plain_sound {X} f s x m h =
     let a = bind_ok (plain_at s) _ _ h in
-    let b = bind_ok (f a.0.0) _ _ a.2 in
-    let same = ok_is {F = Refusal} (b.0, a.0.1) (x, m) b.2 in
+    let b = bind_ok (found_at a.0.1 (f a.0.0)) _ _ a.2 in
+    let same = ok_is {F = Refused} (b.0, a.0.1) (x, m) b.2 in
     let e = taken_is plain_text s a.0.0 a.0.1 a.1 in
     is_plain_event e.0 a.0.0 e.2 (λ is. record {
       node = Some (Leaf (record { text = a.0.0; style = styles.Plain }));
       emitted = (m.state, (subst (λ (z : Source). next s.state ≡ Ok (e.0, z.state)) (ap (λ (p : X × Source). p.1) same) e.1 ∙ ap (λ (v : Event). Ok (v, m.state)) is), refl);
-      read = ap value_of b.1 ∙ ap (λ (p : X × Source). Some p.0) same;
+      read = ap value_of (found_is a.0.1 (f a.0.0) b.0 b.1) ∙ ap (λ (p : X × Source). Some p.0) same;
     })
 
 plain_styled : {X : Type 0} (f : List ℕ → Result X Refusal) (s : Source) (text : List ℕ) (z : State) (x : X) (style : Style) → next s.state ≡ Ok (events.Scalar text style, z)

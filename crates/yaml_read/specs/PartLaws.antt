@@ -1,5 +1,5 @@
 -- Reads of variants, of lists of two and three, and of what may be missing, against the nodes that are emitted.
-use Rattle.std.proofs.Common.{◌≡◌, ℕ, ◌<◌, ◌≤◌, List, [], ◌∷◌, Bool, true, false, cond, Option, Some, None, option_map, option_and_then, Result, Ok, Err, refl, sym, ap, ◌∙◌, subst, arith}
+use Rattle.std.proofs.Common.{◌≡◌, ℕ, ◌<◌, ◌≤◌, List, [], ◌∷◌, Bool, true, false, cond, Option, Some, None, option_map, option_and_then, Result, Ok, refl, sym, ap, ◌∙◌, subst, arith}
 use Rattle.warg_values.specs.Reading.{◌>>=◌}
 use Rattle.warg_values.specs.ReadingLaws.{bind_ok, ok_is}
 use Rattle.yaml_small.specs.declared.event.Event.{Event}
@@ -8,23 +8,23 @@ use Rattle.yaml_small.specs.declared.event.Style.{Style}
 use Rattle.yaml_small.specs.Trees.{Scalar, Tree, Leaf, Seq, Map, none, more, no_pairs, pair, scalar_event, emitted}
 use Rattle.yaml_small.specs.Stream.{State, next, Runs}
 use Rattle.yaml_read.specs.declared.bracket.Bracket.TheVariants as brackets
-use Rattle.yaml_read.specs.Source.{Source, Refusal, pull, front}
+use Rattle.yaml_read.specs.Source.{Source, Refusal, pull, front, Refused, refused, found_at}
 use Rattle.yaml_read.specs.Scalar.{is_null}
 use Rattle.yaml_read.specs.Collections.{bracket_at, item_at, entry_at, enum_at, is_nothing, opted, option_at, pair_at, triple_at, mapped_at, checked_at, refused_at}
 use Rattle.yaml_read.specs.Emitted.{Emits, Found, Gets, Reads}
 use Rattle.yaml_read.specs.Nodes.{option_node, enum_node, pair_node, triple_node, mapped_node, value_of, checked_node, refused_node}
 use Rattle.yaml_read.specs.TakingLaws.{pull_is, front_is, pulls, fronts, gets_then}
-use Rattle.yaml_read.specs.Laws.{some_is, one_event, value_gets}
+use Rattle.yaml_read.specs.Laws.{some_is, found_is, one_event, value_gets}
 use Rattle.yaml_read.specs.JoinLaws.{emitted_join, emitted_cut}
 use Rattle.yaml_read.specs.CollectionLaws.{emitted_once, bracket_is, bracket_gets, item_found, item_gets, entry_found, entry_gets, then_some, some_apart, true_false, list_start, list_end, map_start, map_end}
 
 below : (m s : Source) → m.left < s.left → m.left ≤ s.left
 below m s less = omega arith
 
-err_apart : {A : Type 0} (refusal : Refusal) (x : A) → Err refusal ≡ Ok x → ⊥
-err_apart refusal x h = cc
+err_apart : {A : Type 0} (s : Source) (refusal : Refusal) (x : A) → refused s refusal ≡ Ok x → ⊥
+err_apart s refusal x h = cc
 
-enum_found : {X : Type 0} (takes : X → List ℕ → Option Tree → Option X) (fills : X → List ℕ → Source → Result (X × Source) Refusal) → ((x : X) (key : List ℕ) → Reads (takes x key) (fills x key))
+enum_found : {X : Type 0} (takes : X → List ℕ → Option Tree → Option X) (fills : X → List ℕ → Source → Result (X × Source) Refused) → ((x : X) (key : List ℕ) → Reads (takes x key) (fills x key))
     → (x : X) (s : Source) (y : X) (m : Source) → enum_at fills x s ≡ Ok (y, m) → Found (enum_node takes x) s y m
 unfolding enum_at
 enum_found {X} takes fills law x s y m h =
@@ -34,7 +34,7 @@ enum_found {X} takes fills law x s y m h =
     let start = bracket_is brackets.MapStart s a.0.0 a.0.1 a.1 in
     let f = entry_found takes fills law x a.0.1 b.0.0 b.0.1 b.1 in
     let end = bracket_is brackets.MapEnd b.0.1 c.0.0 c.0.1 c.1 in
-    let same = ok_is {F = Refusal} (b.0.0, c.0.1) (y, m) c.2 in
+    let same = ok_is {F = Refused} (b.0.0, c.0.1) (y, m) c.2 in
     let run = f.1.1.0 in
     let last : next b.0.1.state ≡ Ok (events.MappingEnd, m.state) = end.1 ∙ ap (λ (v : Event). Ok (v, c.0.1.state)) (map_end end.0 end.2) ∙ ap (λ (v : X × Source). Ok (events.MappingEnd, v.1.state)) same in
     record {
@@ -47,7 +47,7 @@ enum_found {X} takes fills law x s y m h =
       read = f.1.1.1 ∙ ap (λ (v : X × Source). Some v.0) same;
     }
 
-enum_gets : {X : Type 0} (takes : X → List ℕ → Option Tree → Option X) (fills : X → List ℕ → Source → Result (X × Source) Refusal) → ((x : X) (key : List ℕ) → Reads (takes x key) (fills x key))
+enum_gets : {X : Type 0} (takes : X → List ℕ → Option Tree → Option X) (fills : X → List ℕ → Source → Result (X × Source) Refused) → ((x : X) (key : List ℕ) → Reads (takes x key) (fills x key))
     → (x : X) (s : Source) (node : Option Tree) (z : State) (y : X) → Emits s.state node z → enum_node takes x node ≡ Some y → Gets s.left y z (enum_at fills x s)
 unfolding enum_at
 enum_gets takes fills law x s None z y run is = absurd (some_apart y is)
@@ -71,19 +71,19 @@ enum_gets takes fills law x s (Some (Map (pair key t no_pairs))) z y run is =
     lower j k m less fewer least = omega arith
 
 -- the read of a variant takes what the node of its value is
-pub enum_reads : {X : Type 0} (takes : X → List ℕ → Option Tree → Option X) (fills : X → List ℕ → Source → Result (X × Source) Refusal) → ((x : X) (key : List ℕ) → Reads (takes x key) (fills x key))
+pub enum_reads : {X : Type 0} (takes : X → List ℕ → Option Tree → Option X) (fills : X → List ℕ → Source → Result (X × Source) Refused) → ((x : X) (key : List ℕ) → Reads (takes x key) (fills x key))
     → (x : X) → Reads (enum_node takes x) (enum_at fills x)
 enum_reads takes fills law x = record { sound = enum_found takes fills law x; complete = enum_gets takes fills law x }
 
 -- what may be missing
-abbrev nothing_at : {X : Type 0} → Source → Result (Option X × Source) Refusal
+abbrev nothing_at : {X : Type 0} → Source → Result (Option X × Source) Refused
 nothing_at w = Ok (None, w)
 
 is_nothing_event : {P : Type 0} (e : Event) → is_nothing e ≡ true → ((text : List ℕ) (style : Style) → e ≡ events.Scalar text style → is_null text ≡ true → P) → P
 is_nothing_event (events.Scalar text style) h go = go text style refl h
 is_nothing_event e h go = absurd (true_false (sym h))
 
-option_found : {X : Type 0} (of_node : Option Tree → Option X) (read : Source → Result (X × Source) Refusal) → Reads of_node read
+option_found : {X : Type 0} (of_node : Option Tree → Option X) (read : Source → Result (X × Source) Refused) → Reads of_node read
     → (s : Source) (y : Option X) (m : Source) → option_at read s ≡ Ok (y, m) → Found (option_node of_node) s y m
 unfolding option_at
 option_found {X} of_node read law s y m h =
@@ -93,8 +93,8 @@ option_found {X} of_node read law s y m h =
   where
     missing : (e : Event) (w : Source) (t : Event × Source) → pull s ≡ Ok (e, w) → pull s ≡ Ok t → nothing_at t.1 ≡ Ok (y, m) → is_nothing e ≡ true → Found (option_node of_node) s y m
     missing e w t p q same null =
-        let one = ok_is {F = Refusal} (e, w) t (sym p ∙ q) in
-        let both = ok_is {F = Refusal} (None, t.1) (y, m) same in
+        let one = ok_is {F = Refused} (e, w) t (sym p ∙ q) in
+        let both = ok_is {F = Refused} (None, t.1) (y, m) same in
         let here : next s.state ≡ Ok (e, m.state) = pull_is s e w p ∙ ap (λ (v : Source). Ok (e, v.state)) (ap (λ (v : Event × Source). v.1) one ∙ ap (λ (v : Option X × Source). v.1) both) in
         is_nothing_event e null (λ text style is yes_null. record {
           node = Some (Leaf (record { text = text; style = style }));
@@ -115,7 +115,7 @@ option_found {X} of_node read law s y m h =
     by_test e w p true null h = let t = bind_ok (pull s) _ _ h in missing e w t.0 p t.1 t.2 null
     by_test e w p false null h =
         let t = bind_ok (read s) _ _ h in
-        let both = ok_is {F = Refusal} (Some t.0.0, t.0.1) (y, m) t.2 in
+        let both = ok_is {F = Refused} (Some t.0.0, t.0.1) (y, m) t.2 in
         let f = law.sound s t.0.0 m (t.1 ∙ ap (λ (v : Option X × Source). Ok (t.0.0, v.1)) both) in
         record { node = f.node; emitted = f.emitted; read = there e w t.0.0 (pull_is s e w p) null f.node f.emitted f.read ∙ ap (λ (v : Option X × Source). Some v.0) both }
 
@@ -127,7 +127,7 @@ map_some : {A B P : Type 0} (o : Option A) (f : A → B) (y : B) → option_map 
 map_some None f y h go = absurd (some_apart y h)
 map_some (Some x) f y h go = go x refl (some_is (f x) y h)
 
-option_gets : {X : Type 0} (of_node : Option Tree → Option X) (read : Source → Result (X × Source) Refusal) → Reads of_node read
+option_gets : {X : Type 0} (of_node : Option Tree → Option X) (read : Source → Result (X × Source) Refused) → Reads of_node read
     → (s : Source) (node : Option Tree) (z : State) (y : Option X) → Emits s.state node z → option_node of_node node ≡ Some y → Gets s.left y z (option_at read s)
 unfolding option_at
 option_gets {X} of_node read law s node z y run is = by_node node run is
@@ -149,11 +149,11 @@ option_gets {X} of_node read law s node z y run is = by_node node run is
     by_node (Some (Seq ts)) run is = inner (Some (Seq ts)) events.SequenceStart run.0 run.1 refl run is
     by_node (Some (Map ps)) run is = inner (Some (Map ps)) events.MappingStart run.0 run.1 refl run is
 
-pub option_reads : {X : Type 0} (of_node : Option Tree → Option X) (read : Source → Result (X × Source) Refusal) → Reads of_node read → Reads (option_node of_node) (option_at read)
+pub option_reads : {X : Type 0} (of_node : Option Tree → Option X) (read : Source → Result (X × Source) Refused) → Reads of_node read → Reads (option_node of_node) (option_at read)
 option_reads of_node read law = record { sound = option_found of_node read law; complete = option_gets of_node read law }
 
 -- lists of two and of three
-pair_found : {X Y : Type 0} (first : Option Tree → Option X) (second : Option Tree → Option Y) (read : Source → Result (X × Source) Refusal) (other : Source → Result (Y × Source) Refusal)
+pair_found : {X Y : Type 0} (first : Option Tree → Option X) (second : Option Tree → Option Y) (read : Source → Result (X × Source) Refused) (other : Source → Result (Y × Source) Refused)
     → Reads first read → Reads second other → (s : Source) (y : X × Y) (m : Source) → pair_at read other s ≡ Ok (y, m) → Found (pair_node first second) s y m
 unfolding pair_at
 pair_found {X} {Y} first second read other law rule s y m h =
@@ -166,7 +166,7 @@ pair_found {X} {Y} first second read other law rule s y m h =
     let g = item_found second other rule b.0.1 c.0.0 c.0.1 c.1 in
     let end = bracket_is brackets.ListEnd c.0.1 d.0.0 d.0.1 d.1 in
     joined a.0.1.state b.0.1.state c.0.1.state d.0.1 b.0.0 c.0.0 (start.1 ∙ ap (λ (v : Event). Ok (v, a.0.1.state)) (list_start start.0 start.2)) f.0 f.1 f.2 g.0 g.1 g.2
-    (end.1 ∙ ap (λ (v : Event). Ok (v, d.0.1.state)) (list_end end.0 end.2)) (ok_is {F = Refusal} ((b.0.0, c.0.0), d.0.1) (y, m) d.2)
+    (end.1 ∙ ap (λ (v : Event). Ok (v, d.0.1.state)) (list_end end.0 end.2)) (ok_is {F = Refused} ((b.0.0, c.0.0), d.0.1) (y, m) d.2)
   where
     joined : (i j k : State) (w : Source) (u : X) (v : Y) → next s.state ≡ Ok (events.SequenceStart, i) → (t : Tree) → Runs i (emitted t []) j → first (Some t) ≡ Some u → (o : Tree) → Runs j (emitted o []) k → second (Some o) ≡ Some v
         → next k ≡ Ok (events.SequenceEnd, w.state) → ◌≡◌ {A = (X × Y) × Source} ((u, v), w) (y, m) → Found (pair_node first second) s y m
@@ -181,7 +181,7 @@ pair_found {X} {Y} first second read other law rule s y m h =
       read = rw (is, true_is) (ap (λ (q : (X × Y) × Source). Some q.0) same);
     }
 
-pair_gets : {X Y : Type 0} (first : Option Tree → Option X) (second : Option Tree → Option Y) (read : Source → Result (X × Source) Refusal) (other : Source → Result (Y × Source) Refusal)
+pair_gets : {X Y : Type 0} (first : Option Tree → Option X) (second : Option Tree → Option Y) (read : Source → Result (X × Source) Refused) (other : Source → Result (Y × Source) Refused)
     → Reads first read → Reads second other → (s : Source) (node : Option Tree) (z : State) (y : X × Y) → Emits s.state node z → pair_node first second node ≡ Some y → Gets s.left y z (pair_at read other s)
 unfolding pair_at
 pair_gets first second read other law rule s None z y run is = absurd (some_apart y is)
@@ -207,12 +207,12 @@ pair_gets {X} {Y} first second read other law rule s (Some (Seq (more t (more u 
     lowest : (i j k m : Source) → m.left < s.left → k.left < m.left → j.left < k.left → i.left < j.left → i.left < s.left
     lowest i j k m less fewer lesser least = omega arith
 
-pub pair_reads : {X Y : Type 0} (first : Option Tree → Option X) (second : Option Tree → Option Y) (read : Source → Result (X × Source) Refusal) (other : Source → Result (Y × Source) Refusal)
+pub pair_reads : {X Y : Type 0} (first : Option Tree → Option X) (second : Option Tree → Option Y) (read : Source → Result (X × Source) Refused) (other : Source → Result (Y × Source) Refused)
     → Reads first read → Reads second other → Reads (pair_node first second) (pair_at read other)
 pair_reads first second read other law rule = record { sound = pair_found first second read other law rule; complete = pair_gets first second read other law rule }
 
-triple_found : {X Y Z : Type 0} (first : Option Tree → Option X) (second : Option Tree → Option Y) (third : Option Tree → Option Z) (read : Source → Result (X × Source) Refusal)
-    (other : Source → Result (Y × Source) Refusal) (final : Source → Result (Z × Source) Refusal)
+triple_found : {X Y Z : Type 0} (first : Option Tree → Option X) (second : Option Tree → Option Y) (third : Option Tree → Option Z) (read : Source → Result (X × Source) Refused)
+    (other : Source → Result (Y × Source) Refused) (final : Source → Result (Z × Source) Refused)
     → Reads first read → Reads second other → Reads third final → (s : Source) (y : X × Y × Z) (m : Source) → triple_at read other final s ≡ Ok (y, m) → Found (triple_node first second third) s y m
 unfolding triple_at
 triple_found {X} {Y} {Z} first second third read other final law rule norm s y m h =
@@ -227,7 +227,7 @@ triple_found {X} {Y} {Z} first second third read other final law rule norm s y m
     let i = item_found third final norm c.0.1 d.0.0 d.0.1 d.1 in
     let end = bracket_is brackets.ListEnd d.0.1 e.0.0 e.0.1 e.1 in
     joined a.0.1.state b.0.1.state c.0.1.state d.0.1.state e.0.1 b.0.0 c.0.0 d.0.0 (start.1 ∙ ap (λ (v : Event). Ok (v, a.0.1.state)) (list_start start.0 start.2)) f.0 f.1 f.2 g.0 g.1 g.2 i.0 i.1 i.2
-    (end.1 ∙ ap (λ (v : Event). Ok (v, e.0.1.state)) (list_end end.0 end.2)) (ok_is {F = Refusal} ((b.0.0, c.0.0, d.0.0), e.0.1) (y, m) e.2)
+    (end.1 ∙ ap (λ (v : Event). Ok (v, e.0.1.state)) (list_end end.0 end.2)) (ok_is {F = Refused} ((b.0.0, c.0.0, d.0.0), e.0.1) (y, m) e.2)
   where
     joined : (i j k l : State) (w : Source) (u : X) (v : Y) (x : Z) → next s.state ≡ Ok (events.SequenceStart, i) → (t : Tree) → Runs i (emitted t []) j → first (Some t) ≡ Some u → (o : Tree) → Runs j (emitted o []) k → second (Some o) ≡ Some v
         → (p : Tree) → Runs k (emitted p []) l → third (Some p) ≡ Some x → next l ≡ Ok (events.SequenceEnd, w.state) → ◌≡◌ {A = (X × Y × Z) × Source} ((u, v, x), w) (y, m) → Found (triple_node first second third) s y m
@@ -243,8 +243,8 @@ triple_found {X} {Y} {Z} first second third read other final law rule norm s y m
       read = rw (is, true_is, more_is) (ap (λ (q : (X × Y × Z) × Source). Some q.0) same);
     }
 
-triple_gets : {X Y Z : Type 0} (first : Option Tree → Option X) (second : Option Tree → Option Y) (third : Option Tree → Option Z) (read : Source → Result (X × Source) Refusal)
-    (other : Source → Result (Y × Source) Refusal) (final : Source → Result (Z × Source) Refusal)
+triple_gets : {X Y Z : Type 0} (first : Option Tree → Option X) (second : Option Tree → Option Y) (third : Option Tree → Option Z) (read : Source → Result (X × Source) Refused)
+    (other : Source → Result (Y × Source) Refused) (final : Source → Result (Z × Source) Refused)
     → Reads first read → Reads second other → Reads third final → (s : Source) (node : Option Tree) (z : State) (y : X × Y × Z) → Emits s.state node z → triple_node first second third node ≡ Some y → Gets s.left y z (triple_at read other final s)
 unfolding triple_at
 triple_gets first second third read other final law rule norm s None z y run is = absurd (some_apart y is)
@@ -275,59 +275,59 @@ triple_gets {X} {Y} {Z} first second third read other final law rule norm s (Som
     lowest : (i j k l m : Source) → m.left < s.left → k.left < m.left → j.left < k.left → l.left < j.left → i.left < l.left → i.left < s.left
     lowest i j k l m less fewer lesser minor least = omega arith
 
-pub triple_reads : {X Y Z : Type 0} (first : Option Tree → Option X) (second : Option Tree → Option Y) (third : Option Tree → Option Z) (read : Source → Result (X × Source) Refusal)
-    (other : Source → Result (Y × Source) Refusal) (final : Source → Result (Z × Source) Refusal)
+pub triple_reads : {X Y Z : Type 0} (first : Option Tree → Option X) (second : Option Tree → Option Y) (third : Option Tree → Option Z) (read : Source → Result (X × Source) Refused)
+    (other : Source → Result (Y × Source) Refused) (final : Source → Result (Z × Source) Refused)
     → Reads first read → Reads second other → Reads third final → Reads (triple_node first second third) (triple_at read other final)
 triple_reads first second third read other final law rule norm =
     record { sound = triple_found first second third read other final law rule norm; complete = triple_gets first second third read other final law rule norm }
 
 -- what was read, seen in another way
-mapped_found : {X Y : Type 0} (f : X → Y) (of_node : Option Tree → Option X) (read : Source → Result (X × Source) Refusal) → Reads of_node read
+mapped_found : {X Y : Type 0} (f : X → Y) (of_node : Option Tree → Option X) (read : Source → Result (X × Source) Refused) → Reads of_node read
     → (s : Source) (y : Y) (m : Source) → mapped_at f read s ≡ Ok (y, m) → Found (mapped_node f of_node) s y m
 mapped_found {X} {Y} f of_node read law s y m h =
     let a = bind_ok (read s) _ _ h in
-    let same = ok_is {F = Refusal} (f a.0.0, a.0.1) (y, m) a.2 in
+    let same = ok_is {F = Refused} (f a.0.0, a.0.1) (y, m) a.2 in
     let g = law.sound s a.0.0 m (a.1 ∙ ap (λ (v : Y × Source). Ok (a.0.0, v.1)) same) in
     record { node = g.node; emitted = g.emitted; read = ap (option_map f) g.read ∙ ap (λ (v : Y × Source). Some v.0) same }
 
-mapped_gets : {X Y : Type 0} (f : X → Y) (of_node : Option Tree → Option X) (read : Source → Result (X × Source) Refusal) → Reads of_node read
+mapped_gets : {X Y : Type 0} (f : X → Y) (of_node : Option Tree → Option X) (read : Source → Result (X × Source) Refused) → Reads of_node read
     → (s : Source) (node : Option Tree) (z : State) (y : Y) → Emits s.state node z → mapped_node f of_node node ≡ Some y → Gets s.left y z (mapped_at f read s)
 mapped_gets f of_node read law s node z y run is =
     map_some (of_node node) f y is (λ x value same. gets_then s.left s.left x z y z (read s) _ (law.complete s node z x run value) (λ m at less. (same, at, less)))
 
 -- a read whose value is put to something takes what it took
-pub mapped_reads : {X Y : Type 0} (f : X → Y) (of_node : Option Tree → Option X) (read : Source → Result (X × Source) Refusal) → Reads of_node read → Reads (mapped_node f of_node) (mapped_at f read)
+pub mapped_reads : {X Y : Type 0} (f : X → Y) (of_node : Option Tree → Option X) (read : Source → Result (X × Source) Refused) → Reads of_node read → Reads (mapped_node f of_node) (mapped_at f read)
 mapped_reads f of_node read law = record { sound = mapped_found f of_node read law; complete = mapped_gets f of_node read law }
 
 -- what was read, put to a test
-checked_found : {X Y : Type 0} (f : X → Result Y Refusal) (of_node : Option Tree → Option X) (read : Source → Result (X × Source) Refusal) → Reads of_node read
+checked_found : {X Y : Type 0} (f : X → Result Y Refusal) (of_node : Option Tree → Option X) (read : Source → Result (X × Source) Refused) → Reads of_node read
     → (s : Source) (y : Y) (m : Source) → checked_at f read s ≡ Ok (y, m) → Found (checked_node f of_node) s y m
 checked_found {X} {Y} f of_node read law s y m h =
     let a = bind_ok (read s) _ _ h in
-    let b = bind_ok (f a.0.0) _ _ a.2 in
-    let same = ok_is {F = Refusal} (b.0, a.0.1) (y, m) b.2 in
+    let b = bind_ok (found_at a.0.1 (f a.0.0)) _ _ a.2 in
+    let same = ok_is {F = Refused} (b.0, a.0.1) (y, m) b.2 in
     let g = law.sound s a.0.0 m (a.1 ∙ ap (λ (v : Y × Source). Ok (a.0.0, v.1)) same) in
     record {
       node = g.node;
       emitted = g.emitted;
-      read = ap (option_and_then (λ x. value_of (f x))) g.read ∙ ap value_of b.1 ∙ ap (λ (v : Y × Source). Some v.0) same;
+      read = ap (option_and_then (λ x. value_of (f x))) g.read ∙ ap value_of (found_is a.0.1 (f a.0.0) b.0 b.1) ∙ ap (λ (v : Y × Source). Some v.0) same;
     }
 
-checked_gets : {X Y : Type 0} (f : X → Result Y Refusal) (of_node : Option Tree → Option X) (read : Source → Result (X × Source) Refusal) → Reads of_node read
+checked_gets : {X Y : Type 0} (f : X → Result Y Refusal) (of_node : Option Tree → Option X) (read : Source → Result (X × Source) Refused) → Reads of_node read
     → (s : Source) (node : Option Tree) (z : State) (y : Y) → Emits s.state node z → checked_node f of_node node ≡ Some y → Gets s.left y z (checked_at f read s)
 checked_gets f of_node read law s node z y run is =
     then_some (of_node node) (λ x. value_of (f x)) y is (λ x value same.
     gets_then s.left s.left x z y z (read s) _ (law.complete s node z x run value) (λ m at less. value_gets (f x) same (λ e. rw e (refl, at, less))))
 
 -- a read whose value is put to a test takes what passes it
-pub checked_reads : {X Y : Type 0} (f : X → Result Y Refusal) (of_node : Option Tree → Option X) (read : Source → Result (X × Source) Refusal) → Reads of_node read → Reads (checked_node f of_node) (checked_at f read)
+pub checked_reads : {X Y : Type 0} (f : X → Result Y Refusal) (of_node : Option Tree → Option X) (read : Source → Result (X × Source) Refused) → Reads of_node read → Reads (checked_node f of_node) (checked_at f read)
 checked_reads f of_node read law = record { sound = checked_found f of_node read law; complete = checked_gets f of_node read law }
 
 -- one read or another
-pub choice_reads : {X : Type 0} (b : Bool) (first second : Option Tree → Option X) (read other : Source → Result (X × Source) Refusal) → Reads first read → Reads second other → Reads (cond b first second) (cond b read other)
+pub choice_reads : {X : Type 0} (b : Bool) (first second : Option Tree → Option X) (read other : Source → Result (X × Source) Refused) → Reads first read → Reads second other → Reads (cond b first second) (cond b read other)
 choice_reads true first second read other law rule = law
 choice_reads false first second read other law rule = rule
 
 -- a read that always refuses takes no node
 pub refused_reads : {X : Type 0} (refusal : Refusal) → Reads {X = X} refused_node (refused_at refusal)
-refused_reads refusal = record { sound = λ s x m h. absurd (err_apart refusal (x, m) h); complete = λ s node z x run is. absurd (some_apart x is) }
+refused_reads refusal = record { sound = λ s x m h. absurd (err_apart s refusal (x, m) h); complete = λ s node z x run is. absurd (some_apart x is) }

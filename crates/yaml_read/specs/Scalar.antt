@@ -6,7 +6,7 @@ use Rattle.yaml_small.specs.declared.event.Event.TheVariants as events
 use Rattle.yaml_small.specs.declared.event.Style.TheVariants as styles
 use Rattle.yaml_small.specs.Schema.{is_numeral}
 use Rattle.warg_values.specs.Reading.{◌>>=◌}
-use Rattle.yaml_read.specs.Source.{Source, Refusal, WrongScalar, WrongEvent, WrongNumber, taken}
+use Rattle.yaml_read.specs.Source.{Source, Refusal, WrongScalar, WrongEvent, WrongNumber, taken, Refused, found_at}
 
 -- a scalar's text, in any style, and in the plain style alone
 abbrev pub any_text : Event → Result (List ℕ) Refusal
@@ -68,26 +68,26 @@ unit events.StreamEnd = Ok tt
 unit event = Err (WrongEvent event)
 
 -- the next event as a scalar, of any style or plain, and what its text is taken for
-unfoldable pub any_at : Source → Result (List ℕ × Source) Refusal
+unfoldable pub any_at : Source → Result (List ℕ × Source) Refused
 any_at s = taken any_text s
 
-unfoldable pub plain_at : Source → Result (List ℕ × Source) Refusal
+unfoldable pub plain_at : Source → Result (List ℕ × Source) Refused
 plain_at s = taken plain_text s
 
-abbrev pub plain_as : {X : Type 0} → (List ℕ → Result X Refusal) → Source → Result (X × Source) Refusal
-plain_as f s = plain_at s >>= λ emitted. f emitted.0 >>= λ x. Ok (x, emitted.1)
+abbrev pub plain_as : {X : Type 0} → (List ℕ → Result X Refusal) → Source → Result (X × Source) Refused
+plain_as f s = plain_at s >>= λ emitted. found_at emitted.1 (f emitted.0) >>= λ x. Ok (x, emitted.1)
 
-abbrev pub bool_at : Source → Result (Bool × Source) Refusal
+abbrev pub bool_at : Source → Result (Bool × Source) Refused
 bool_at s = plain_as truth s
 
-abbrev pub char_at : Source → Result (ℕ × Source) Refusal
+abbrev pub char_at : Source → Result (ℕ × Source) Refused
 char_at s = plain_as character s
 
-abbrev pub unsigned_at : ℕ → Source → Result (ℕ × Source) Refusal
+abbrev pub unsigned_at : ℕ → Source → Result (ℕ × Source) Refused
 unsigned_at most s = plain_as (unsigned most) s
 
-abbrev pub signed_at : ℤ → ℤ → Source → Result (ℤ × Source) Refusal
+abbrev pub signed_at : ℤ → ℤ → Source → Result (ℤ × Source) Refused
 signed_at least most s = plain_as (signed least most) s
 
-abbrev pub unit_at : Source → Result (Unit {0} × Source) Refusal
+abbrev pub unit_at : Source → Result (Unit {0} × Source) Refused
 unit_at s = taken unit s

@@ -5,7 +5,7 @@ ghost use Rattle.yaml_small.specs.View.{view};
 ghost use Rattle.yaml_read.specs.Any as any;
 ghost use Rattle.yaml_read.specs.Collections as collections;
 ghost use Rattle.yaml_read.specs.Entries.{seen_entry};
-ghost use Rattle.yaml_read.specs.Answers.{source_of, ReadGives};
+ghost use Rattle.yaml_read.specs.Answers.{source_of, ReadTakes};
 
 use crate::bracket::Bracket;
 use crate::deserializer::{YamlDeserializer, is_stream_end, wrong_event};
@@ -24,7 +24,8 @@ impl<'de> YamlDeserializer<'de> {
     ///
     /// A scalar in the form of a real number is `RealForm`; the end of an empty document is `UnexpectedEvent`.
     pub fn read_any(&mut self, alloc: Global) -> Result<Yaml, DeError>
-        ensures { ReadGives (λ read. (view read, source_of self.new)) result (any.data_at 65 (source_of self.old)) }
+        ensures { ReadTakes (λ read. (view read, source_of self.new)) (source_of self.new) result
+            (any.data_at 65 (source_of self.old)) }
     {
         self.data_within(alloc, MOST_LEVELS)
     }
@@ -33,7 +34,8 @@ impl<'de> YamlDeserializer<'de> {
     #[cycle(data)]
     #[tactic(auto, using(crate::proofs::AnyLoops::data_none))]
     fn data_within(&mut self, alloc: Global, levels: usize) -> Result<Yaml, DeError>
-        ensures { ReadGives (λ read. (view read, source_of self.new)) result (any.data_at levels (source_of self.old)) }
+        ensures { ReadTakes (λ read. (view read, source_of self.new)) (source_of self.new) result
+            (any.data_at levels (source_of self.old)) }
     {
         if levels == 0 {
             return Err(DeError::Memory);
@@ -49,7 +51,8 @@ impl<'de> YamlDeserializer<'de> {
 
     /// What a scalar's text stands for.
     fn scalar_data(&mut self, alloc: Global) -> Result<Yaml, DeError>
-        ensures { ReadGives (λ read. (view read, source_of self.new)) result (any.scalar_at (source_of self.old)) }
+        ensures { ReadTakes (λ read. (view read, source_of self.new)) (source_of self.new) result
+            (any.scalar_at (source_of self.old)) }
     {
         let (text, mark) = self.read_scalar(alloc)?;
         match resolve(text.as_str()) {
@@ -65,7 +68,7 @@ impl<'de> YamlDeserializer<'de> {
     #[cycle(data)]
     #[tactic(auto, unfolding(crate::specs::Collections::seq_at))]
     fn list_within(&mut self, alloc: Global, levels: usize) -> Result<Yaml, DeError>
-        ensures { ReadGives (λ read. (view read, source_of self.new)) result
+        ensures { ReadTakes (λ read. (view read, source_of self.new)) (source_of self.new) result
             (any.nested_in (any.data_at levels) (source_of self.old)) }
     {
         self.bracket(alloc, Bracket::ListStart)?;
@@ -83,7 +86,7 @@ impl<'de> YamlDeserializer<'de> {
         most: u64,
         levels: usize,
     ) -> Result<Vec<Yaml>, DeError>
-        ensures { ReadGives (λ read. (map view read.items, source_of self.new)) result
+        ensures { ReadTakes (λ read. (map view read.items, source_of self.new)) (source_of self.new) result
             (collections.items_at (any.item_takes (any.data_at levels)) most 0 [] (source_of self.old)) }
     {
         let mut items = Vec::new(alloc);
@@ -101,7 +104,7 @@ impl<'de> YamlDeserializer<'de> {
     #[cycle(data)]
     #[tactic(auto, unfolding(crate::specs::Collections::item_at))]
     fn part_within(&mut self, alloc: Global, levels: usize) -> Result<Yaml, DeError>
-        ensures { ReadGives (λ read. (view read, source_of self.new)) result
+        ensures { ReadTakes (λ read. (view read, source_of self.new)) (source_of self.new) result
             (collections.item_at (any.data_at levels) (source_of self.old)) }
     {
         let (event, mark) = self.front(alloc)?;
@@ -121,7 +124,7 @@ impl<'de> YamlDeserializer<'de> {
     #[cycle(data)]
     #[tactic(auto, unfolding(crate::specs::Collections::map_at))]
     fn map_within(&mut self, alloc: Global, levels: usize) -> Result<Yaml, DeError>
-        ensures { ReadGives (λ read. (view read, source_of self.new)) result
+        ensures { ReadTakes (λ read. (view read, source_of self.new)) (source_of self.new) result
             (any.nested_under (any.data_at levels) (source_of self.old)) }
     {
         self.bracket(alloc, Bracket::MapStart)?;
@@ -139,7 +142,8 @@ impl<'de> YamlDeserializer<'de> {
         most: u64,
         levels: usize,
     ) -> Result<IndexMap<Text, Yaml>, DeError>
-        ensures { ReadGives (λ read. (map (seen_entry view) read.entries, source_of self.new)) result
+        ensures { ReadTakes (λ read. (map (seen_entry view) read.entries, source_of self.new))
+            (source_of self.new) result
             (collections.entries_at (any.entry_takes (any.data_at levels)) most [] (source_of self.old)) }
     {
         let mut entries = IndexMap::<Text, Yaml>::new(alloc);
@@ -158,7 +162,8 @@ impl<'de> YamlDeserializer<'de> {
     ///
     /// The end of an empty document is `UnexpectedEvent`.
     pub fn read_ignored(&mut self, alloc: Global) -> Result<(), DeError>
-        ensures { ReadGives (λ read. (read, source_of self.new)) result (any.ignored_at 65 (source_of self.old)) }
+        ensures { ReadTakes (λ read. (read, source_of self.new)) (source_of self.new) result
+            (any.ignored_at 65 (source_of self.old)) }
     {
         self.ignore_within(alloc, MOST_LEVELS)
     }
@@ -167,7 +172,8 @@ impl<'de> YamlDeserializer<'de> {
     #[cycle(ignored)]
     #[tactic(auto, using(crate::proofs::AnyLoops::ignored_none))]
     fn ignore_within(&mut self, alloc: Global, levels: usize) -> Result<(), DeError>
-        ensures { ReadGives (λ read. (read, source_of self.new)) result (any.ignored_at levels (source_of self.old)) }
+        ensures { ReadTakes (λ read. (read, source_of self.new)) (source_of self.new) result
+            (any.ignored_at levels (source_of self.old)) }
     {
         if levels == 0 {
             return Err(DeError::Memory);
@@ -188,7 +194,7 @@ impl<'de> YamlDeserializer<'de> {
     #[cycle(ignored)]
     #[tactic(auto, unfolding(crate::specs::Collections::item_at))]
     fn ignore_part(&mut self, alloc: Global, levels: usize) -> Result<(), DeError>
-        ensures { ReadGives (λ read. (read, source_of self.new)) result
+        ensures { ReadTakes (λ read. (read, source_of self.new)) (source_of self.new) result
             (collections.item_at (any.ignored_at levels) (source_of self.old)) }
     {
         let (event, mark) = self.front(alloc)?;
@@ -208,7 +214,7 @@ impl<'de> YamlDeserializer<'de> {
     #[cycle(ignored)]
     #[tactic(auto, unfolding(crate::specs::Collections::seq_at))]
     fn ignore_list(&mut self, alloc: Global, levels: usize) -> Result<(), DeError>
-        ensures { ReadGives (λ read. (read, source_of self.new)) result
+        ensures { ReadTakes (λ read. (read, source_of self.new)) (source_of self.new) result
             (collections.seq_at (any.item_passed (any.ignored_at levels)) tt (source_of self.old)) }
     {
         self.bracket(alloc, Bracket::ListStart)?;
@@ -220,7 +226,7 @@ impl<'de> YamlDeserializer<'de> {
     #[cycle(ignored)]
     #[tactic(auto, using(crate::proofs::AnyLoops::passed_step, crate::proofs::Loops::items_over, crate::proofs::Loops::items_start))]
     fn ignore_items(&mut self, alloc: Global, most: u64, levels: usize) -> Result<(), DeError>
-        ensures { ReadGives (λ read. (read, source_of self.new)) result
+        ensures { ReadTakes (λ read. (read, source_of self.new)) (source_of self.new) result
             (collections.items_at (any.item_passed (any.ignored_at levels)) most 0 tt (source_of self.old)) }
     {
         for _ in 0..most {
@@ -236,7 +242,7 @@ impl<'de> YamlDeserializer<'de> {
     #[cycle(ignored)]
     #[tactic(auto, unfolding(crate::specs::Collections::map_at))]
     fn ignore_map(&mut self, alloc: Global, levels: usize) -> Result<(), DeError>
-        ensures { ReadGives (λ read. (read, source_of self.new)) result
+        ensures { ReadTakes (λ read. (read, source_of self.new)) (source_of self.new) result
             (collections.map_at (any.value_passed (any.ignored_at levels)) tt (source_of self.old)) }
     {
         self.bracket(alloc, Bracket::MapStart)?;
@@ -248,7 +254,7 @@ impl<'de> YamlDeserializer<'de> {
     #[cycle(ignored)]
     #[tactic(auto, using(crate::proofs::AnyLoops::passed_entry_step, crate::proofs::Loops::entries_over, crate::proofs::Loops::entries_start))]
     fn ignore_entries(&mut self, alloc: Global, most: u64, levels: usize) -> Result<(), DeError>
-        ensures { ReadGives (λ read. (read, source_of self.new)) result
+        ensures { ReadTakes (λ read. (read, source_of self.new)) (source_of self.new) result
             (collections.entries_at (any.value_passed (any.ignored_at levels)) most tt (source_of self.old)) }
     {
         for _ in 0..most {

@@ -2,7 +2,7 @@
 
 ghost use Rattle.std.specs.Prelude.{◌≡◌, option_map};
 ghost use Rattle.yaml_read.specs.Collections as spec;
-ghost use Rattle.yaml_read.specs.Answers.{source_of, ReadGives};
+ghost use Rattle.yaml_read.specs.Answers.{source_of, ReadTakes};
 
 use crate::bracket::Bracket;
 use crate::deserializer::{YamlDeserializer, is_null, is_stream_end, wrong_event};
@@ -16,7 +16,8 @@ impl<'de> YamlDeserializer<'de> {
     /// Takes the start or the end of a list or map.
     #[tactic(auto, unfolding(crate::specs::Collections::bracket_at, crate::specs::Source::taken))]
     pub(crate) fn bracket(&mut self, alloc: Global, bracket: Bracket) -> Result<(), DeError>
-        ensures { ReadGives (λ read. (read, source_of self.new)) result (spec.bracket_at bracket (source_of self.old)) }
+        ensures { ReadTakes (λ read. (read, source_of self.new)) (source_of self.new) result
+            (spec.bracket_at bracket (source_of self.old)) }
     {
         let (event, mark) = self.pull(alloc)?;
         if bracket.is(&event) {
@@ -29,7 +30,8 @@ impl<'de> YamlDeserializer<'de> {
     /// Takes the end of a list or map where it stands here, and says whether it does.
     #[tactic(auto, unfolding(crate::specs::Collections::end_at))]
     pub(crate) fn at_end(&mut self, alloc: Global, bracket: Bracket) -> Result<bool, DeError>
-        ensures { ReadGives (λ read. (read, source_of self.new)) result (spec.end_at bracket (source_of self.old)) }
+        ensures { ReadTakes (λ read. (read, source_of self.new)) (source_of self.new) result
+            (spec.end_at bracket (source_of self.old)) }
     {
         let (event, _) = self.front(alloc)?;
         if bracket.is(&event) {
@@ -43,7 +45,7 @@ impl<'de> YamlDeserializer<'de> {
     /// An item of a list, put to a fill.
     #[tactic(auto, unfolding(crate::specs::Collections::item_at))]
     fn item<F: SeqFill>(&mut self, alloc: Global, at: u64, fill: &mut F) -> Result<(), DeError>
-        ensures { ReadGives (λ _. (F.seen fill.new, source_of self.new)) result
+        ensures { ReadTakes (λ _. (F.seen fill.new, source_of self.new)) (source_of self.new) result
             (spec.item_at (F.fills (F.seen fill.old) at) (source_of self.old)) }
     {
         let (event, mark) = self.front(alloc)?;
@@ -62,7 +64,7 @@ impl<'de> YamlDeserializer<'de> {
     /// A value of a map, put to a fill under its key.
     #[tactic(auto, unfolding(crate::specs::Collections::item_at))]
     fn value<F: MapFill>(&mut self, alloc: Global, key: Text, fill: &mut F) -> Result<(), DeError>
-        ensures { ReadGives (λ _. (F.seen fill.new, source_of self.new)) result
+        ensures { ReadTakes (λ _. (F.seen fill.new, source_of self.new)) (source_of self.new) result
             (spec.item_at (F.fills (F.seen fill.old) key) (source_of self.old)) }
     {
         let (event, mark) = self.front(alloc)?;
@@ -81,7 +83,8 @@ impl<'de> YamlDeserializer<'de> {
     /// A value within a list.
     #[tactic(auto, unfolding(crate::specs::Collections::item_at))]
     fn part<T: ReadYaml>(&mut self, alloc: Global) -> Result<T, DeError>
-        ensures { ReadGives (λ read. (T.seen read, source_of self.new)) result (spec.item_at T.read_at (source_of self.old)) }
+        ensures { ReadTakes (λ read. (T.seen read, source_of self.new)) (source_of self.new) result
+            (spec.item_at T.read_at (source_of self.old)) }
     {
         let (event, mark) = self.front(alloc)?;
         if is_stream_end(&event) {
@@ -99,7 +102,7 @@ impl<'de> YamlDeserializer<'de> {
     /// A key of a map and its value, put to a fill.
     #[tactic(auto, unfolding(crate::specs::Collections::entry_at))]
     fn entry<F: MapFill>(&mut self, alloc: Global, fill: &mut F) -> Result<(), DeError>
-        ensures { ReadGives (λ _. (F.seen fill.new, source_of self.new)) result
+        ensures { ReadTakes (λ _. (F.seen fill.new, source_of self.new)) (source_of self.new) result
             (spec.entry_at F.fills (F.seen fill.old) (source_of self.old)) }
     {
         let key = self.read_text(alloc)?;
@@ -112,7 +115,7 @@ impl<'de> YamlDeserializer<'de> {
     /// handed on.
     #[tactic(auto, unfolding(crate::specs::Collections::seq_at))]
     pub fn read_seq<F: SeqFill>(&mut self, alloc: Global, fill: &mut F) -> Result<(), DeError>
-        ensures { ReadGives (λ _. (F.seen fill.new, source_of self.new)) result
+        ensures { ReadTakes (λ _. (F.seen fill.new, source_of self.new)) (source_of self.new) result
             (spec.seq_at F.fills (F.seen fill.old) (source_of self.old)) }
     {
         self.bracket(alloc, Bracket::ListStart)?;
@@ -123,7 +126,7 @@ impl<'de> YamlDeserializer<'de> {
     /// The items of a list up to its end, at most so many.
     #[tactic(auto, using(crate::proofs::Loops::items_step, crate::proofs::Loops::items_over, crate::proofs::Loops::items_start))]
     fn items<F: SeqFill>(&mut self, alloc: Global, most: u64, fill: &mut F) -> Result<(), DeError>
-        ensures { ReadGives (λ _. (F.seen fill.new, source_of self.new)) result
+        ensures { ReadTakes (λ _. (F.seen fill.new, source_of self.new)) (source_of self.new) result
             (spec.items_at F.fills most 0 (F.seen fill.old) (source_of self.old)) }
     {
         for at in 0..most {
@@ -141,7 +144,7 @@ impl<'de> YamlDeserializer<'de> {
     /// on.
     #[tactic(auto, unfolding(crate::specs::Collections::map_at))]
     pub fn read_map<F: MapFill>(&mut self, alloc: Global, fill: &mut F) -> Result<(), DeError>
-        ensures { ReadGives (λ _. (F.seen fill.new, source_of self.new)) result
+        ensures { ReadTakes (λ _. (F.seen fill.new, source_of self.new)) (source_of self.new) result
             (spec.map_at F.fills (F.seen fill.old) (source_of self.old)) }
     {
         self.bracket(alloc, Bracket::MapStart)?;
@@ -152,7 +155,7 @@ impl<'de> YamlDeserializer<'de> {
     /// The entries of a map up to its end, at most so many.
     #[tactic(auto, using(crate::proofs::Loops::entries_step, crate::proofs::Loops::entries_over, crate::proofs::Loops::entries_start))]
     fn entries<F: MapFill>(&mut self, alloc: Global, most: u64, fill: &mut F) -> Result<(), DeError>
-        ensures { ReadGives (λ _. (F.seen fill.new, source_of self.new)) result
+        ensures { ReadTakes (λ _. (F.seen fill.new, source_of self.new)) (source_of self.new) result
             (spec.entries_at F.fills most (F.seen fill.old) (source_of self.old)) }
     {
         for _ in 0..most {
@@ -169,7 +172,7 @@ impl<'de> YamlDeserializer<'de> {
     /// What is no map of exactly one entry is `UnexpectedEvent`. What the fill refuses is handed on.
     #[tactic(auto, unfolding(crate::specs::Collections::enum_at))]
     pub fn read_enum<F: MapFill>(&mut self, alloc: Global, fill: &mut F) -> Result<(), DeError>
-        ensures { ReadGives (λ _. (F.seen fill.new, source_of self.new)) result
+        ensures { ReadTakes (λ _. (F.seen fill.new, source_of self.new)) (source_of self.new) result
             (spec.enum_at F.fills (F.seen fill.old) (source_of self.old)) }
     {
         self.bracket(alloc, Bracket::MapStart)?;
@@ -180,7 +183,7 @@ impl<'de> YamlDeserializer<'de> {
     /// A value that may be missing: `null` or `~` of any style is `None`.
     #[tactic(auto, unfolding(crate::specs::Collections::option_at))]
     pub fn read_option<T: ReadYaml>(&mut self, alloc: Global) -> Result<Option<T>, DeError>
-        ensures { ReadGives (λ read. (option_map T.seen read, source_of self.new)) result
+        ensures { ReadTakes (λ read. (option_map T.seen read, source_of self.new)) (source_of self.new) result
             (spec.option_at T.read_at (source_of self.old)) }
     {
         let (event, _) = self.front(alloc)?;
@@ -195,7 +198,7 @@ impl<'de> YamlDeserializer<'de> {
     /// Whether a scalar stands next. It stays.
     #[tactic(auto, unfolding(crate::specs::Collections::scalar_front))]
     pub fn at_scalar(&self, alloc: Global) -> Result<bool, DeError>
-        ensures { ReadGives (λ read. read) result (spec.scalar_front (source_of self.now)) }
+        ensures { ReadTakes (λ read. read) (source_of self.now) result (spec.scalar_front (source_of self.now)) }
     {
         let (event, _) = self.front(alloc)?;
         match event {
@@ -210,7 +213,7 @@ impl<'de> YamlDeserializer<'de> {
         &mut self,
         alloc: Global,
     ) -> Result<(A, B), DeError>
-        ensures { ReadGives (λ read. ((A.seen read.0, B.seen read.1), source_of self.new)) result
+        ensures { ReadTakes (λ read. ((A.seen read.0, B.seen read.1), source_of self.new)) (source_of self.new) result
             (spec.pair_at A.read_at B.read_at (source_of self.old)) }
     {
         self.bracket(alloc, Bracket::ListStart)?;
@@ -226,7 +229,8 @@ impl<'de> YamlDeserializer<'de> {
         &mut self,
         alloc: Global,
     ) -> Result<(A, B, C), DeError>
-        ensures { ReadGives (λ read. ((A.seen read.0, B.seen read.1, C.seen read.2), source_of self.new)) result
+        ensures { ReadTakes (λ read. ((A.seen read.0, B.seen read.1, C.seen read.2), source_of self.new))
+            (source_of self.new) result
             (spec.triple_at A.read_at B.read_at C.read_at (source_of self.old)) }
     {
         self.bracket(alloc, Bracket::ListStart)?;

@@ -6,7 +6,7 @@ ghost use Rattle.yaml_read.specs.Source as spec;
 ghost use Rattle.yaml_read.specs.Scalar as scalar;
 ghost use Rattle.yaml_read.specs.Collections as collections;
 ghost use Rattle.yaml_read.specs.Whole as whole;
-ghost use Rattle.yaml_read.specs.Answers.{source_of, ReadGives, IsRefusal};
+ghost use Rattle.yaml_read.specs.Answers.{source_of, ReadGives, IsRefusal, ReadTakes};
 
 use crate::error::DeError;
 use std::alloc::Global;
@@ -15,7 +15,7 @@ use yaml_small::{Event, Marker, Parser, Style};
 
 /// Reads typed values from the events of one YAML document.
 ///
-/// After a refusal the events taken so far stay taken.
+/// After a refusal the events taken so far stay taken, and no others.
 #[derive(Debug, Drop)]
 pub struct YamlDeserializer<'de> {
     parser: Parser<'de>,
@@ -28,7 +28,7 @@ impl<'de> YamlDeserializer<'de> {
     /// `Scan` where no document of a carried form begins; no other refusal but `Memory`.
     #[tactic(auto, unfolding(crate::specs::Whole::opened_at))]
     pub fn from_str(alloc: Global, text: &'de str) -> Result<Self, DeError>
-        ensures { ReadGives source_of result (whole.opened_at text.now) }
+        ensures { ReadGives source_of result (spec.why (whole.opened_at text.now)) }
     {
         let mut de = YamlDeserializer {
             parser: Parser::new(alloc, text),
@@ -47,7 +47,8 @@ impl<'de> YamlDeserializer<'de> {
     /// Another event is `NotEnded`, and `Scan` says that no document of a carried form goes on.
     #[tactic(auto, unfolding(crate::specs::Whole::closed_at))]
     pub fn finish(&mut self, alloc: Global) -> Result<(), DeError>
-        ensures { ReadGives (λ read. (read, source_of self.new)) result (whole.closed_at (source_of self.old)) }
+        ensures { ReadTakes (λ read. (read, source_of self.new)) (source_of self.new) result
+            (whole.closed_at (source_of self.old)) }
     {
         let (event, _) = self.front(alloc)?;
         if is_document_end(&event) {
@@ -59,7 +60,8 @@ impl<'de> YamlDeserializer<'de> {
     /// Takes the end of the stream.
     #[tactic(auto, unfolding(crate::specs::Whole::stream_end_at))]
     fn stream_end(&mut self, alloc: Global) -> Result<(), DeError>
-        ensures { ReadGives (λ read. (read, source_of self.new)) result (whole.stream_end_at (source_of self.old)) }
+        ensures { ReadTakes (λ read. (read, source_of self.new)) (source_of self.new) result
+            (whole.stream_end_at (source_of self.old)) }
     {
         let (event, mark) = self.front(alloc)?;
         if !is_stream_end(&event) {
@@ -72,7 +74,8 @@ impl<'de> YamlDeserializer<'de> {
     /// Takes the next event.
     #[tactic(auto, unfolding(crate::specs::Source::pull))]
     pub(crate) fn pull(&mut self, alloc: Global) -> Result<(Event, Marker), DeError>
-        ensures { ReadGives (λ emitted. (emitted.0, source_of self.new)) result (spec.pull (source_of self.old)) }
+        ensures { ReadTakes (λ emitted. (emitted.0, source_of self.new)) (source_of self.new) result
+            (spec.pull (source_of self.old)) }
     {
         if self.left == 0 {
             return Err(DeError::Memory);
@@ -85,7 +88,7 @@ impl<'de> YamlDeserializer<'de> {
     /// The next event, which stays.
     #[tactic(auto, unfolding(crate::specs::Source::pull, crate::specs::Source::front))]
     pub(crate) fn front(&self, alloc: Global) -> Result<(Event, Marker), DeError>
-        ensures { ReadGives (λ emitted. emitted.0) result (spec.front (source_of self.now)) }
+        ensures { ReadTakes (λ emitted. emitted.0) (source_of self.now) result (spec.front (source_of self.now)) }
     {
         if self.left == 0 {
             return Err(DeError::Memory);
@@ -104,7 +107,8 @@ impl<'de> YamlDeserializer<'de> {
     /// The text of a plain scalar.
     #[tactic(auto, unfolding(crate::specs::Scalar::plain_at, crate::specs::Source::taken))]
     fn plain(&mut self, alloc: Global, expected: &str) -> Result<(Text, Marker), DeError>
-        ensures { ReadGives (λ read. (read.0, source_of self.new)) result (scalar.plain_at (source_of self.old)) }
+        ensures { ReadTakes (λ read. (read.0, source_of self.new)) (source_of self.new) result
+            (scalar.plain_at (source_of self.old)) }
     {
         let (event, mark) = self.pull(alloc)?;
         match event {
@@ -117,7 +121,8 @@ impl<'de> YamlDeserializer<'de> {
     ///
     /// Another text is `UnexpectedScalar`, another event or style `UnexpectedEvent`.
     pub fn read_bool(&mut self, alloc: Global) -> Result<bool, DeError>
-        ensures { ReadGives (λ read. (read, source_of self.new)) result (scalar.bool_at (source_of self.old)) }
+        ensures { ReadTakes (λ read. (read, source_of self.new)) (source_of self.new) result
+            (scalar.bool_at (source_of self.old)) }
     {
         let (text, mark) = self.plain(alloc, "a plain scalar")?;
         match text.as_str() {
@@ -131,7 +136,8 @@ impl<'de> YamlDeserializer<'de> {
     ///
     /// Another text is `UnexpectedScalar`, another event or style `UnexpectedEvent`.
     pub fn read_char(&mut self, alloc: Global) -> Result<char, DeError>
-        ensures { ReadGives (λ read. (read, source_of self.new)) result (scalar.char_at (source_of self.old)) }
+        ensures { ReadTakes (λ read. (read, source_of self.new)) (source_of self.new) result
+            (scalar.char_at (source_of self.old)) }
     {
         let (text, mark) = self.plain(alloc, "a plain scalar")?;
         let bytes = text.as_str().as_bytes();
@@ -144,7 +150,8 @@ impl<'de> YamlDeserializer<'de> {
 
     /// A plain scalar that is a number up to a limit: digits behind an optional plus.
     fn unsigned(&mut self, alloc: Global, most: u64) -> Result<u64, DeError>
-        ensures read { ReadGives (λ read. (read, source_of self.new)) result (scalar.unsigned_at most (source_of self.old)) }
+        ensures read { ReadTakes (λ read. (read, source_of self.new)) (source_of self.new) result
+            (scalar.unsigned_at most (source_of self.old)) }
         ensures within { IfOk result (λ read. read ≤ most) }
     {
         let (text, _) = self.plain(alloc, "a plain number")?;
@@ -156,7 +163,8 @@ impl<'de> YamlDeserializer<'de> {
 
     /// A plain scalar that is a number within limits: digits behind an optional sign.
     fn signed(&mut self, alloc: Global, least: i64, most: i64) -> Result<i64, DeError>
-        ensures read { ReadGives (λ read. (read, source_of self.new)) result (scalar.signed_at least most (source_of self.old)) }
+        ensures read { ReadTakes (λ read. (read, source_of self.new)) (source_of self.new) result
+            (scalar.signed_at least most (source_of self.old)) }
         ensures above { IfOk result (λ read. least ≤ℤ read) }
         ensures within { IfOk result (λ read. read ≤ℤ most) }
     {
@@ -171,7 +179,8 @@ impl<'de> YamlDeserializer<'de> {
     ///
     /// Another text is `ParseNumber`, another event or style `UnexpectedEvent`.
     pub fn read_u8(&mut self, alloc: Global) -> Result<u8, DeError>
-        ensures { ReadGives (λ read. (read, source_of self.new)) result (scalar.unsigned_at 255 (source_of self.old)) }
+        ensures { ReadTakes (λ read. (read, source_of self.new)) (source_of self.new) result
+            (scalar.unsigned_at 255 (source_of self.old)) }
     {
         Ok(self.unsigned(alloc, u64::from(u8::MAX))? as u8)
     }
@@ -180,7 +189,8 @@ impl<'de> YamlDeserializer<'de> {
     ///
     /// Another text is `ParseNumber`, another event or style `UnexpectedEvent`.
     pub fn read_u16(&mut self, alloc: Global) -> Result<u16, DeError>
-        ensures { ReadGives (λ read. (read, source_of self.new)) result (scalar.unsigned_at 65535 (source_of self.old)) }
+        ensures { ReadTakes (λ read. (read, source_of self.new)) (source_of self.new) result
+            (scalar.unsigned_at 65535 (source_of self.old)) }
     {
         Ok(self.unsigned(alloc, u64::from(u16::MAX))? as u16)
     }
@@ -189,7 +199,8 @@ impl<'de> YamlDeserializer<'de> {
     ///
     /// Another text is `ParseNumber`, another event or style `UnexpectedEvent`.
     pub fn read_u32(&mut self, alloc: Global) -> Result<u32, DeError>
-        ensures { ReadGives (λ read. (read, source_of self.new)) result (scalar.unsigned_at 4294967295 (source_of self.old)) }
+        ensures { ReadTakes (λ read. (read, source_of self.new)) (source_of self.new) result
+            (scalar.unsigned_at 4294967295 (source_of self.old)) }
     {
         Ok(self.unsigned(alloc, u64::from(u32::MAX))? as u32)
     }
@@ -198,7 +209,7 @@ impl<'de> YamlDeserializer<'de> {
     ///
     /// Another text is `ParseNumber`, another event or style `UnexpectedEvent`.
     pub fn read_u64(&mut self, alloc: Global) -> Result<u64, DeError>
-        ensures { ReadGives (λ read. (read, source_of self.new)) result
+        ensures { ReadTakes (λ read. (read, source_of self.new)) (source_of self.new) result
             (scalar.unsigned_at 18446744073709551615 (source_of self.old)) }
     {
         self.unsigned(alloc, u64::MAX)
@@ -208,7 +219,7 @@ impl<'de> YamlDeserializer<'de> {
     ///
     /// Another text is `ParseNumber`, another event or style `UnexpectedEvent`.
     pub fn read_i8(&mut self, alloc: Global) -> Result<i8, DeError>
-        ensures { ReadGives (λ read. (read, source_of self.new)) result
+        ensures { ReadTakes (λ read. (read, source_of self.new)) (source_of self.new) result
             (scalar.signed_at (negsuc 127) (pos 127) (source_of self.old)) }
     {
         Ok(self.signed(alloc, i64::from(i8::MIN), i64::from(i8::MAX))? as i8)
@@ -218,7 +229,7 @@ impl<'de> YamlDeserializer<'de> {
     ///
     /// Another text is `ParseNumber`, another event or style `UnexpectedEvent`.
     pub fn read_i16(&mut self, alloc: Global) -> Result<i16, DeError>
-        ensures { ReadGives (λ read. (read, source_of self.new)) result
+        ensures { ReadTakes (λ read. (read, source_of self.new)) (source_of self.new) result
             (scalar.signed_at (negsuc 32767) (pos 32767) (source_of self.old)) }
     {
         Ok(self.signed(alloc, i64::from(i16::MIN), i64::from(i16::MAX))? as i16)
@@ -228,7 +239,7 @@ impl<'de> YamlDeserializer<'de> {
     ///
     /// Another text is `ParseNumber`, another event or style `UnexpectedEvent`.
     pub fn read_i32(&mut self, alloc: Global) -> Result<i32, DeError>
-        ensures { ReadGives (λ read. (read, source_of self.new)) result
+        ensures { ReadTakes (λ read. (read, source_of self.new)) (source_of self.new) result
             (scalar.signed_at (negsuc 2147483647) (pos 2147483647) (source_of self.old)) }
     {
         Ok(self.signed(alloc, i64::from(i32::MIN), i64::from(i32::MAX))? as i32)
@@ -238,7 +249,7 @@ impl<'de> YamlDeserializer<'de> {
     ///
     /// Another text is `ParseNumber`, another event or style `UnexpectedEvent`.
     pub fn read_i64(&mut self, alloc: Global) -> Result<i64, DeError>
-        ensures { ReadGives (λ read. (read, source_of self.new)) result
+        ensures { ReadTakes (λ read. (read, source_of self.new)) (source_of self.new) result
             (scalar.signed_at (negsuc 9223372036854775807) (pos 9223372036854775807) (source_of self.old)) }
     {
         self.signed(alloc, i64::MIN, i64::MAX)
@@ -249,7 +260,8 @@ impl<'de> YamlDeserializer<'de> {
     /// Another event is `UnexpectedEvent`.
     #[tactic(auto, unfolding(crate::specs::Scalar::any_at, crate::specs::Source::taken))]
     pub fn read_scalar(&mut self, alloc: Global) -> Result<(Text, Marker), DeError>
-        ensures { ReadGives (λ read. (read.0, source_of self.new)) result (scalar.any_at (source_of self.old)) }
+        ensures { ReadTakes (λ read. (read.0, source_of self.new)) (source_of self.new) result
+            (scalar.any_at (source_of self.old)) }
     {
         let (event, mark) = self.pull(alloc)?;
         match event {
@@ -262,7 +274,8 @@ impl<'de> YamlDeserializer<'de> {
     ///
     /// Another event is `UnexpectedEvent`.
     pub fn read_text(&mut self, alloc: Global) -> Result<Text, DeError>
-        ensures { ReadGives (λ read. (read, source_of self.new)) result (scalar.any_at (source_of self.old)) }
+        ensures { ReadTakes (λ read. (read, source_of self.new)) (source_of self.new) result
+            (scalar.any_at (source_of self.old)) }
     {
         let (text, _) = self.read_scalar(alloc)?;
         Ok(text)
@@ -271,7 +284,8 @@ impl<'de> YamlDeserializer<'de> {
     /// Nothing: `null` or `~` in any style, or the end of an empty document.
     #[tactic(auto, unfolding(crate::specs::Source::taken))]
     pub fn read_unit(&mut self, alloc: Global) -> Result<(), DeError>
-        ensures { ReadGives (λ read. (read, source_of self.new)) result (scalar.unit_at (source_of self.old)) }
+        ensures { ReadTakes (λ read. (read, source_of self.new)) (source_of self.new) result
+            (scalar.unit_at (source_of self.old)) }
     {
         let (event, mark) = self.pull(alloc)?;
         match event {

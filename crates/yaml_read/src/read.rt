@@ -2,9 +2,9 @@
 
 ghost use Rattle.std.specs.Prelude.{ℕ, List, Option, Result};
 ghost use Rattle.yaml_small.specs.Trees.{Tree};
-ghost use Rattle.yaml_read.specs.Source.{Source, Refusal};
+ghost use Rattle.yaml_read.specs.Source.{Source, Refused};
 ghost use Rattle.yaml_read.specs.Emitted.{Reads};
-ghost use Rattle.yaml_read.specs.Answers.{source_of, ReadGives};
+ghost use Rattle.yaml_read.specs.Answers.{source_of, ReadTakes};
 
 use crate::deserializer::YamlDeserializer;
 use crate::error::DeError;
@@ -23,11 +23,12 @@ pub trait ReadYaml: Sized + Drop {
     ghost of_node: { Option Tree → Option Seen };
 
     /// What is read from a place in the events.
-    ghost read_at: { Source → Result (Seen × Source) Refusal };
+    ghost read_at: { Source → Result (Seen × Source) Refused };
 
     /// Reads a value.
     fn read_yaml(alloc: Global, de: &mut YamlDeserializer<'_>) -> Result<Self, DeError>
-        ensures { ReadGives (λ read. (seen read, source_of de.new)) result (read_at (source_of de.old)) };
+        ensures { ReadTakes (λ read. (seen read, source_of de.new)) (source_of de.new) result
+            (read_at (source_of de.old)) };
 
     /// What is read from a place is what the node that is emitted there stands for.
     ghost reads: { Reads of_node read_at };
@@ -45,11 +46,12 @@ pub trait SeqFill: Drop {
     ghost takes: { Seen → ℕ → Option Tree → Option Seen };
 
     /// What it becomes by reading an item from a place in the events.
-    ghost fills: { Seen → ℕ → Source → Result (Seen × Source) Refusal };
+    ghost fills: { Seen → ℕ → Source → Result (Seen × Source) Refused };
 
     /// Reads an item. `at` counts the items before it.
     fn item(&mut self, alloc: Global, at: u64, de: &mut YamlDeserializer<'_>) -> Result<(), DeError>
-        ensures { ReadGives (λ _. (seen self.new, source_of de.new)) result (fills (seen self.old) at (source_of de.old)) };
+        ensures { ReadTakes (λ _. (seen self.new, source_of de.new)) (source_of de.new) result
+            (fills (seen self.old) at (source_of de.old)) };
 
     /// What is read from a place is what the node that is emitted there stands for.
     ghost reads: { (fill : Seen) (at : ℕ) → Reads (takes fill at) (fills fill at) };
@@ -67,7 +69,7 @@ pub trait MapFill: Drop {
     ghost takes: { Seen → List ℕ → Option Tree → Option Seen };
 
     /// What it becomes by reading a value under this key from a place in the events.
-    ghost fills: { Seen → List ℕ → Source → Result (Seen × Source) Refusal };
+    ghost fills: { Seen → List ℕ → Source → Result (Seen × Source) Refused };
 
     /// Reads a value of the map, behind its key.
     fn entry(
@@ -76,7 +78,8 @@ pub trait MapFill: Drop {
         key: Text,
         de: &mut YamlDeserializer<'_>,
     ) -> Result<(), DeError>
-        ensures { ReadGives (λ _. (seen self.new, source_of de.new)) result (fills (seen self.old) key (source_of de.old)) };
+        ensures { ReadTakes (λ _. (seen self.new, source_of de.new)) (source_of de.new) result
+            (fills (seen self.old) key (source_of de.old)) };
 
     /// What is read from a place is what the node that is emitted there stands for.
     ghost reads: { (fill : Seen) (key : List ℕ) → Reads (takes fill key) (fills fill key) };

@@ -10,7 +10,7 @@ use crate::read::ReadYaml;
 use std::alloc::Global;
 
 /// Reads the one value that a text holds: one document and nothing behind it.
-#[tactic(auto, unfolding(crate::specs::Whole::whole_at))]
+#[tactic(auto, unfolding(crate::specs::Whole::whole_from))]
 pub fn from_str<T: ReadYaml>(alloc: Global, text: &str) -> Result<T, DeError>
     // What is read stands in a carried document.
     ensures found { IfOk result (λ value. whole.Holds T.of_node text.now (T.seen value)) }
@@ -24,7 +24,7 @@ pub fn from_str<T: ReadYaml>(alloc: Global, text: &str) -> Result<T, DeError>
 }
 
 /// Reads the one value that a text holds, step by step.
-#[tactic(auto, unfolding(crate::specs::Whole::whole_at))]
+#[tactic(auto, unfolding(crate::specs::Whole::whole_from))]
 fn read_whole<T: ReadYaml>(alloc: Global, text: &str) -> Result<T, DeError>
     ensures { ReadGives T.seen result (whole.whole_at T.read_at text.now) }
 {

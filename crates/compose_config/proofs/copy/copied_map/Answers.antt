@@ -1,4 +1,4 @@
-use Rattle.std.proofs.Common.{◌≡◌, ◌∙◌, sym, ap, arith, map, ℕ, List, bytes_eq}
+use Rattle.std.proofs.Common.{◌∙◌, ap, arith, map, ℕ, List, bytes_eq}
 use Rattle.indexmap.specs.IndexMap.{insert_entry}
 use Rattle.yaml_read.specs.Entries.{seen_entry}
 use Rattle.compose_config.proofs.Copies.{copied_next, copied_none}
