@@ -6,5 +6,6 @@ pub mod hash;
 pub mod log;
 pub mod names;
 pub mod proof;
+pub mod prover;
 pub mod record;
 pub mod values;

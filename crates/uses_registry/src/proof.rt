@@ -1,13 +1,14 @@
 //! Callers of `warg_proof`.
 
-ghost use Rattle.std.specs.Prelude.{◌≡◌, List, IfOk, OnOk, bytes_eq, map};
+ghost use Rattle.std.specs.Prelude.{◌≡◌, ◌∷◌, [], List, IfOk, OnOk, bytes_eq, map};
 ghost use Rattle.warg_proof.specs.Leaves.{log_entry, leaf_entry};
 ghost use Rattle.warg_proof.specs.LogProofs.{LogProofs, IsLogBundle, ProvesInclusion, log_text};
 ghost use Rattle.warg_proof.specs.LogTree.{root};
 
 use std::alloc::Global;
 use warg_hash::AnyHash;
-use warg_proof::{LogBundle, LogLeaf, ProofFault, log_root};
+use warg_proof::laws::root_is_that_of_the_hashes;
+use warg_proof::{LogBundle, LogLeaf, ProofFault, hashed_root, leaf_hash, log_root};
 use warg_values::Memory;
 
 /// Judges the bytes of a bundle, whose first proof is to show that a record of a log stands at an index of a
@@ -41,4 +42,12 @@ pub fn rewritten(alloc: Global, bytes: &[u8]) -> Result<Vec<u8>, ProofFault>
 {
     let proofs = LogBundle::decode(alloc, bytes)?;
     Ok(proofs.encode(alloc)?)
+}
+
+/// The root of a log of two entries.
+pub fn root_of_two(first: &[u8], second: &[u8]) -> AnyHash
+    ensures { result ≡ root (first.now ∷ second.now ∷ []) }
+{
+    root_is_that_of_the_hashes();
+    AnyHash::from_digest(hashed_root(&[leaf_hash(first), leaf_hash(second)]))
 }

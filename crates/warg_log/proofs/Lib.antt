@@ -6,6 +6,7 @@ pub mod FactsLaws
 pub mod ReadLaws
 pub mod PermissionLaws
 pub mod AgreesLaws
+pub mod FormLaws
 pub mod FollowsLaws
 pub mod ChoiceLaws
 pub mod ListedLaws

@@ -1,7 +1,10 @@
 //! Laws over definitions alone.
 
-ghost use Rattle.std.specs.Prelude.{◌≡◌, ◌++◌, ◌∷◌, [], ◌↔◌, ℕ, List, Option, None, map};
+ghost use Rattle.std.specs.Prelude.{◌≡◌, ◌++◌, ◌∷◌, [], ◌↔◌, ℕ, List, Option, None, IfSome, map};
+ghost use Rattle.std.specs.List.{All};
+ghost use Rattle.semver.specs.Grammar.{IsValid};
 ghost use Rattle.semver.specs.Parse.{Parts, Held};
+ghost use Rattle.warg_hash.specs.Hash.{IsDigest};
 ghost use Rattle.warg_record.specs.Record.{Kind};
 ghost use Rattle.warg_log.specs.Choice.{IsChosen, choice};
 ghost use Rattle.warg_log.specs.History.{releases_of};
@@ -63,3 +66,9 @@ pub fn contents_determine_entries()
 {
     one_record();
 }
+
+/// Where each envelope is as it is read, each release has a version of the grammar, and its content is a digest.
+pub fn releases_have_the_form()
+    ensures { (kind : Kind) (log : List Signed) → AreRead kind log
+        → All (λ r. IsValid r.0 × IfSome r.1 IsDigest) (releases_of (entries_of log)) }
+{}

@@ -11,3 +11,7 @@ hashed_within (suc level) hashes =
     if nat_lt (2 ^ level) (length hashes)
     then branch_hash (hashed_within level (take (2 ^ level) hashes)) (hashed_within level (drop (2 ^ level) hashes))
     else hashed_within level hashes
+
+-- the root of entries whose leaves have these hashes: there are at most 2 ^ 64
+abbrev pub hashed_root : List (List ℕ) → List ℕ
+hashed_root hashes = hashed_within 64 hashes

@@ -1,12 +1,13 @@
 //! What a proof shows. Each law is the contract of a function that does nothing.
 
-ghost use Rattle.std.specs.Prelude.{◌≡◌, ◌⊎◌, ℕ, ◌+◌, ◌^◌, ◌<◌, ◌≤◌, List, [], ◌∷◌, length, take, drop, Some, slice_get, IsSomeAnd};
+ghost use Rattle.std.specs.Prelude.{◌≡◌, ◌⊎◌, ℕ, ◌+◌, ◌^◌, ◌<◌, ◌≤◌, List, [], ◌∷◌, length, take, drop, map, Some, slice_get, IsSomeAnd};
 ghost use Rattle.sha2.specs.Sha256.{sha256};
 ghost use Rattle.hex.specs.Hex.{IsBytes};
 ghost use Rattle.warg_hash.specs.Hash.{IsDigest};
 ghost use Rattle.warg_proof.specs.Leaves.{log_entry, map_value};
 ghost use Rattle.warg_proof.specs.Merkle.{AreBytes, AreHashes, IsClash, leaf_hash, branch_hash};
-ghost use Rattle.warg_proof.specs.LogTree.{root, inclusion_ranges, path_root, inclusion_clash, consistency_ranges, two_roots, consistency_clash};
+ghost use Rattle.warg_proof.specs.HashedTree.{hashed_root};
+ghost use Rattle.warg_proof.specs.LogTree.{root, ranges_beside, inclusion_ranges, path_root, inclusion_clash, ranges_joining, consistency_ranges, two_roots, consistency_clash};
 ghost use Rattle.warg_proof.specs.LogProofs.{LogProofs, asked_inclusion, ProvesInclusion, asked_consistency, ProvesConsistency};
 ghost use Rattle.warg_proof.specs.MapProofs.{MapPath, IsMapPath, siblings, log_key, ProvesValue};
 ghost use Rattle.warg_proof.specs.TrueProofs.{true_path, true_hashes, true_siblings, ListsTruly};
@@ -20,6 +21,21 @@ pub fn root_is_that_of_the_standard()
     ensures more { (entries : List (List ℕ)) (k : ℕ)
         → 2 ^ k < length entries → length entries ≤ 2 ^ (k + 1)
         → root entries ≡ branch_hash (root (take (2 ^ k) entries)) (root (drop (2 ^ k) entries)) }
+{}
+
+/// The root of entries, of which there are at most `2 ^ 64`, is that by the hashes of their leaves, and a digest.
+pub fn root_is_that_of_the_hashes()
+    ensures hashes { (entries : List (List ℕ)) → length entries ≤ 2 ^ 64
+        → hashed_root (map leaf_hash entries) ≡ root entries }
+    ensures digest { (entries : List (List ℕ)) → IsDigest (root entries) }
+{}
+
+/// The ranges that a proof needs are found from each level on that has room for the log.
+pub fn ranges_are_found_from_each_level()
+    ensures inclusion { (level count index : ℕ) → count ≤ 2 ^ level
+        → ranges_beside level 0 count index ≡ inclusion_ranges count index }
+    ensures consistency { (level old new : ℕ) → new ≤ 2 ^ level
+        → ranges_joining level 0 old new ≡ consistency_ranges old new }
 {}
 
 /// A path that gives the root of the entries is that of the entry at the index, or else two different byte strings of

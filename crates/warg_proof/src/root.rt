@@ -1,7 +1,7 @@
 //! The root of a log from its leaves.
 
 ghost use Rattle.std.specs.Prelude.{◌≡◌, ◌≤◌, ◌^◌, List, ℕ, length, map, IfOk};
-ghost use Rattle.warg_proof.specs.HashedTree.{hashed_within};
+ghost use Rattle.warg_proof.specs.HashedTree.{hashed_within, hashed_root as hashed_root_of};
 ghost use Rattle.warg_proof.specs.Leaves.{entry_hash, leaf_entry};
 ghost use Rattle.warg_proof.specs.LogTree.{root};
 
@@ -42,6 +42,15 @@ fn root_within(level: u8, hashes: &[[u8; 32]]) -> [u8; 32]
     branch_hash(&left, &right)
 }
 
+/// The root of entries whose leaves have these hashes, in order (RFC 6962, section 2.1).
+///
+/// It is found in one pass over the hashes.
+pub fn hashed_root(hashes: &[[u8; 32]]) -> [u8; 32]
+    ensures { result ≡ hashed_root_of hashes.now }
+{
+    root_within(TOP, hashes)
+}
+
 /// The hashes of leaves, in order.
 fn leaf_hashes(alloc: Global, leaves: &[LogLeaf]) -> Result<Vec<[u8; 32]>, Memory>
     ensures { IfOk result (λ hashes. hashes.items ≡ map entry_hash leaves.now) }
@@ -60,5 +69,5 @@ pub fn log_root(alloc: Global, leaves: &[LogLeaf]) -> Result<AnyHash, Memory>
     ensures { IfOk result (λ found. found ≡ root (map leaf_entry leaves.now)) }
 {
     let hashes = leaf_hashes(alloc, leaves)?;
-    Ok(AnyHash::from_digest(root_within(TOP, hashes.as_slice())))
+    Ok(AnyHash::from_digest(hashed_root(hashes.as_slice())))
 }

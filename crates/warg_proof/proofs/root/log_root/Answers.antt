@@ -5,6 +5,6 @@ use Rattle.warg_proof.proofs.root.log_root.Goals as goal
 
 pub returns : goal.returns
 returns c =
-    c.from_digest.ensures ∙ c.root_within.ensures
+    c.from_digest.ensures ∙ c.hashed_root.ensures
     ∙ ap (hashed_within 64) (c.as_slice.ensures.value ∙ c.in_ok-hashes.ensures)
     ∙ hashed-leaves c.args.leaves.now (omega arith)

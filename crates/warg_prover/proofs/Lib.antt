@@ -1,0 +1,5 @@
+pub mod Steps
+pub mod Bounds
+pub mod Order
+pub mod Listed
+pub mod Proving
