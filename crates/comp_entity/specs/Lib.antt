@@ -7,3 +7,4 @@ pub mod FitLaws
 pub mod Bounds
 pub mod Places
 pub mod Views
+pub mod Comparing

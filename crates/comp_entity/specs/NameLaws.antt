@@ -79,6 +79,85 @@ module _ (c b a : Change) (t : IsTwice c b a) where
     entries_twice d (entry name e m es) = ap (λ e. entry name e (c.mark (b.mark m)) (entries_by c d (entries_by b d es))) (entity_twice d e)
         ∙ ap (λ m. entry name (entity_by a d e) m (entries_by c d (entries_by b d es))) (t.mark m) ∙ ap (entry name (entity_by a d e) (a.mark m)) (entries_twice d es)
 
+-- a change that keeps each name
+pub record Keeps (c : Change) : Type 0 where
+  pub resource : (d : ℕ) (n : Name) → c.resource d n ≡ n
+  pub place : (d : ℕ) (n : Name) → c.place d n ≡ Some n
+  pub mark : (m : Bool) → c.mark m ≡ m
+
+module _ (c : Change) (k : Keeps c) where
+  place_kept : (d : ℕ) (p : Option Name) → place_by c d p ≡ p
+  place_kept d None = refl
+  place_kept d (Some n) = k.place d n
+
+  mutual
+    pub value_kept : (d : ℕ) (v : ValueTree) → value_by c d v ≡ v
+    value_kept d (Primitive p) = refl
+    value_kept d (TupleOf parts) = ap TupleOf (values_kept d parts)
+    value_kept d (RecordOf p fields) = λ i. RecordOf (place_kept d p i) (cases_kept d fields i)
+    value_kept d (VariantOf p cases) = λ i. VariantOf (place_kept d p i) (cases_kept d cases i)
+    value_kept d (ListOf v) = ap ListOf (value_kept d v)
+    value_kept d (FlagsOf p labels) = ap (λ p. FlagsOf p labels) (place_kept d p)
+    value_kept d (EnumOf p labels) = ap (λ p. EnumOf p labels) (place_kept d p)
+    value_kept d (OptionOf v) = ap OptionOf (value_kept d v)
+    value_kept d (ResultOf ok err) = λ i. ResultOf (payload_kept d ok i) (payload_kept d err i)
+    value_kept d (Own r) = ap Own (k.resource d r)
+    value_kept d (Borrow r) = ap Borrow (k.resource d r)
+
+    values_kept : (d : ℕ) (vs : ValueTrees) → values_by c d vs ≡ vs
+    values_kept d none = refl
+    values_kept d (more v vs) = λ i. more (value_kept d v i) (values_kept d vs i)
+
+    cases_kept : (d : ℕ) (cs : Cases) → cases_by c d cs ≡ cs
+    cases_kept d no_case = refl
+    cases_kept d (labelled label p cs) = λ i. labelled label (payload_kept d p i) (cases_kept d cs i)
+
+    payload_kept : (d : ℕ) (p : Payload) → payload_by c d p ≡ p
+    payload_kept d absent = refl
+    payload_kept d (present v) = ap present (value_kept d v)
+
+  params_kept : (d : ℕ) (ps : List (List ℕ × ValueTree)) → map (λ p. (p.0, value_by c d p.1)) ps ≡ ps
+  params_kept d [] = refl
+  params_kept d (p ∷ ps) = λ i. (p.0, value_kept d p.1 i) ∷ params_kept d ps i
+
+  result_kept : (d : ℕ) (r : Option ValueTree) → option_map (value_by c d) r ≡ r
+  result_kept d None = refl
+  result_kept d (Some v) = ap Some (value_kept d v)
+
+  pub func_kept : (d : ℕ) (f : FuncTree) → func_by c d f ≡ f
+  func_kept d f = λ i. record { params = params_kept d f.params i; result = result_kept d f.result i }
+
+  mutual
+    pub type_kept : (d : ℕ) (x : TypeShapeTree) → type_by c d x ≡ x
+    type_kept d (Value v) = ap Value (value_kept d v)
+    type_kept d (Resource r) = ap Resource (k.resource d r)
+    type_kept d (Func f) = ap Func (func_kept d f)
+    type_kept d (Instance es) = ap Instance (entries_kept (suc d) es)
+    type_kept d (Component is es) = λ i. Component (entries_kept (suc (suc d)) is i) (entries_kept (suc (suc d)) es i)
+
+    pub entity_kept : (d : ℕ) (e : EntityTree) → entity_by c d e ≡ e
+    entity_kept d (IsType x) = ap IsType (type_kept d x)
+    entity_kept d (IsFunc f) = ap IsFunc (func_kept d f)
+    entity_kept d (IsInstance es) = ap IsInstance (entries_kept d es)
+    entity_kept d (IsComponent is es) = λ i. IsComponent (entries_kept (suc (suc d)) is i) (entries_kept (suc (suc d)) es i)
+    entity_kept d (IsModule m) = refl
+    entity_kept d IsOwnModule = refl
+
+    pub entries_kept : (d : ℕ) (es : Entries) → entries_by c d es ≡ es
+    entries_kept d no_entry = refl
+    entries_kept d (entry name e m es) = λ i. entry name (entity_kept d e i) (k.mark m i) (entries_kept d es i)
+
+-- names of scopes around a tree that are called as they were
+outside_kept : (d : ℕ) (n : Name) → outside (λ n. n) d n ≡ n
+outside_kept d n = one (nat_lt n.out d) refl
+  where
+    one : (b : Bool) → nat_lt n.out d ≡ b → cond b n (deeper d (record n { out = n.out - d })) ≡ n
+    one true lt = refl
+    one false ge = let back : n.out - d + d ≡ n.out = grind arith in ap (λ m. record { out = m; number = n.number }) back
+
+pub unchanged : Keeps (changing (λ n. n) (λ n. n))
+unchanged = record { resource = outside_kept; place = λ d n. ap Some (outside_kept d n); mark = λ m. refl }
+
 -- ---- two names behind another, where both keep what lies within
 
 outside_deeper : (f : Name → Name) (d : ℕ) (n : Name) → outside f d (deeper d n) ≡ deeper d (f n)
