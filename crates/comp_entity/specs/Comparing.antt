@@ -50,7 +50,8 @@ abbrev pub resource_alike : Naming → Name → Name → Bool
 resource_alike n given asked = same_name given (outside (looking n).name (scopes_of n) asked)
 
 abbrev pub value_alike : Naming → ValueShape → ValueShape → Bool
-value_alike n given asked = values_equal same_name (value_tree given) (value_by (change_of n) (scopes_of n) (value_tree asked))
+value_alike n given asked =
+    values_equal same_name (value_tree given) (value_by (change_of n) (scopes_of n) (value_tree asked))
 
 abbrev pub boxed_alike : Naming → Box ValueShape Global → Box ValueShape Global → Bool
 boxed_alike n given asked = value_alike n given.value asked.value
@@ -62,41 +63,52 @@ abbrev pub case_alike : Naming → List ℕ × Option ValueShape → List ℕ ×
 case_alike n given asked = bytes_eq given.0 asked.0 && option_eq (value_alike n) given.1 asked.1
 
 abbrev pub func_alike : Naming → FuncShape → FuncShape → Bool
-func_alike n given asked = funcs_equal same_name (func_tree given) (func_by (change_of n) (scopes_of n) (func_tree asked))
+func_alike n given asked =
+    funcs_equal same_name (func_tree given) (func_by (change_of n) (scopes_of n) (func_tree asked))
 
 abbrev pub type_alike : Naming → TypeShape → TypeShape → Bool
-type_alike n given asked = types_equal same_name (type_tree given) (type_by (change_of n) (scopes_of n) (type_tree asked))
+type_alike n given asked =
+    types_equal same_name (type_tree given) (type_by (change_of n) (scopes_of n) (type_tree asked))
 
 abbrev pub entity_alike : Naming → Entity → Entity → Bool
-entity_alike n given asked = entities_equal same_name (entity_tree given) (entity_by (change_of n) (scopes_of n) (entity_tree asked))
+entity_alike n given asked =
+    entities_equal same_name (entity_tree given) (entity_by (change_of n) (scopes_of n) (entity_tree asked))
 
 abbrev pub entry_alike : Naming → List ℕ × Entity → List ℕ × Entity → Bool
 entry_alike n given asked = bytes_eq given.0 asked.0 && entity_alike n given.1 asked.1
 
 abbrev pub component_alike : Naming → ComponentShape → ComponentShape → Bool
 component_alike n given asked =
-    entries_equal same_name (component_sides given).imports (entries_by (change_of n) (suc (suc (scopes_of n))) (component_sides asked).imports)
-    && entries_equal same_name (component_sides given).exports (entries_by (change_of n) (suc (suc (scopes_of n))) (component_sides asked).exports)
+    entries_equal same_name (component_sides given).imports
+    (entries_by (change_of n) (suc (suc (scopes_of n))) (component_sides asked).imports)
+    && entries_equal same_name (component_sides given).exports
+    (entries_by (change_of n) (suc (suc (scopes_of n))) (component_sides asked).exports)
 
 -- the same, where both stand in the scope of their exports
 abbrev pub sides_alike : Naming → ComponentShape → ComponentShape → Bool
-sides_alike n given asked = pointwise (entry_alike n) given.imports.items asked.imports.items && pointwise (entry_alike n) given.exports.items asked.exports.items
+sides_alike n given asked =
+    pointwise (entry_alike n) given.imports.items asked.imports.items
+    && pointwise (entry_alike n) given.exports.items asked.exports.items
 
 abbrev pub entity_suits : Naming → Entity → Entity → Bool
-entity_suits n given asked = fits_with same_name (entity_tree given) (entity_by (change_of n) (scopes_of n) (entity_tree asked))
+entity_suits n given asked =
+    fits_with same_name (entity_tree given) (entity_by (change_of n) (scopes_of n) (entity_tree asked))
 
 abbrev pub exports_suit : Naming → List (List ℕ × Entity) → List (List ℕ × Entity) → Bool
-exports_suit n given asked = all_fit same_name (entries_of (named_entities given)) (entries_by (change_of n) (scopes_of n) (entries_of (named_entities asked)))
+exports_suit n given asked =
+    all_fit same_name (entries_of (named_entities given)) (entries_by (change_of n) (scopes_of n) (entries_of (named_entities asked)))
 
 -- an export that is asked for is there and fits
 abbrev pub export_suits : Naming → List (List ℕ × Entity) → List ℕ → Entity → Bool
 export_suits n given name asked =
-    option_map_or (λ (e : EntityTree × Bool). fits_with same_name e.0 (entity_by (change_of n) (scopes_of n) (entity_tree asked))) (under name (entries_of (named_entities given))) false
+    option_map_or (λ (e : EntityTree × Bool). fits_with same_name e.0 (entity_by (change_of n) (scopes_of n) (entity_tree asked)))
+    (under name (entries_of (named_entities given))) false
 
 -- what of the exports of a given instance stands for names in an export that is asked for, and in all of them
 abbrev pub export_stands : List (List ℕ × Entity) → List ℕ → Entity → List Stands
 export_stands given name asked =
-    option_map_or (λ (e : EntityTree × Bool). stands e.0 (entity_tree asked)) (under name (entries_of (named_entities given))) []
+    option_map_or (λ (e : EntityTree × Bool). stands e.0 (entity_tree asked))
+    (under name (entries_of (named_entities given))) []
 
 abbrev pub exports_stand : List (List ℕ × Entity) → List (List ℕ × Entity) → List Stands
 exports_stand given asked = all_stand (entries_of (named_entities given)) (entries_of (named_entities asked))

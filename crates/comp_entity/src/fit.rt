@@ -2,7 +2,8 @@
 
 ghost use Rattle.std.specs.Prelude.{◌≡◌};
 ghost use Rattle.std.specs.Cmp.Lexicographic.{pointwise};
-ghost use Rattle.comp_entity.specs.Comparing.{type_alike, entity_alike, entry_alike, component_alike, sides_alike, entity_suits, export_suits, exports_suit};
+ghost use Rattle.comp_entity.specs.Comparing.{type_alike, entity_alike, entry_alike, component_alike, sides_alike};
+ghost use Rattle.comp_entity.specs.Comparing.{entity_suits, export_suits, exports_suit};
 ghost use Rattle.comp_entity.specs.Fits.{equal, fits};
 ghost use Rattle.comp_entity.specs.Views.{entity_tree};
 
@@ -24,9 +25,11 @@ pub fn equal(a: &Entity, b: &Entity) -> bool
 
 /// Whether an entity can be given where another is asked for (`Explainer.md`, "Type Checking").
 ///
-/// An instance fits where each export that is asked for is there and fits, a core module where each export that is asked
-/// for is there and each of its imports is among those that are asked for; all else fits where it is equal. A resource
-/// that the asked entity is, or itself exports as a type, is fitted by any resource, which then stands for it.
+/// An instance fits where each export that is asked for is there and fits, a core module where each export that is
+/// asked for is there and each of its imports is among those that are asked for; all else fits where it is equal. A
+/// resource that the asked entity is, or itself exports as a type, is fitted by any resource, which then stands for it.
+///
+/// Both stand in one scope: what the asked entity mentions, and does not bring, is compared as it is.
 pub fn fits(given: &Entity, asked: &Entity) -> bool
     ensures { result ≡ fits (entity_tree given.now) (entity_tree asked.now) }
 {

@@ -1,5 +1,5 @@
-//! What a WebAssembly component imports and exports, as types with all indices followed, and which of these can be given
-//! where another is asked for.
+//! What a WebAssembly component imports and exports, as types with all indices followed, and which of these can be
+//! given where another is asked for.
 //!
 //! The terms are those of the Component Model's `Explainer.md`.
 #![tactic(auto)]

@@ -3,7 +3,8 @@
 ghost use Rattle.std.specs.Prelude.{◌≡◌};
 ghost use Rattle.std.specs.List.{list_any, list_all};
 ghost use Rattle.std.specs.Cmp.Lexicographic.{pointwise};
-ghost use Rattle.comp_entity.specs.Fits.{core_equal, core_imports_equal, core_exports_equal, modules_equal, module_fits};
+ghost use Rattle.comp_entity.specs.Fits.{core_equal, core_imports_equal, core_exports_equal};
+ghost use Rattle.comp_entity.specs.Fits.{modules_equal, module_fits};
 
 use crate::module::{CoreShape, ModuleShape};
 use warg_values::Text;
