@@ -1,0 +1,10 @@
+pub mod Entity
+pub mod PackingLaws
+pub mod Names
+pub mod NameLaws
+pub mod Fits
+pub mod FitLaws
+pub mod Bounds
+pub mod Places
+pub mod Views
+pub mod Comparing
