@@ -234,13 +234,18 @@ abbrev pub given_entries : {X : Type 0} → Option (List X) → List X
 given_entries (Some entries) = entries
 given_entries None = []
 
+-- where each missing content is to be sent, none where nothing is said
+abbrev pub missing_contents_in : Data → Meaning (List (List ℕ × List Endpoint))
+missing_contents_in d =
+    optional_as (codes "missingContent") (hashed_in missing_in) d >>= λ found. Ok (given_entries found)
+
 unfoldable pub publishing_in : Data → Meaning Publishing
 publishing_in d = do
   record_id ← member_as (codes "recordId") hash_in d
   state ← member_as (codes "state") record_state_in d
   reason ← reason_in state d
-  missing ← optional_as (codes "missingContent") (hashed_in missing_in) d
-  Ok (record { record_id = record_id; state = state; reason = reason; missing = given_entries missing })
+  missing ← missing_contents_in d
+  Ok (record { record_id = record_id; state = state; reason = reason; missing = missing })
 
 -- ---- proofs
 
