@@ -1,9 +1,12 @@
 //! Callers of the registry's crates, each proved from the crates' public contracts alone.
 #![tactic(auto)]
 
+pub mod exchange;
 pub mod hash;
+pub mod json;
 pub mod log;
 pub mod names;
 pub mod proof;
 pub mod record;
+pub mod registry_url;
 pub mod values;
