@@ -2,10 +2,13 @@
 #![tactic(auto)]
 
 pub mod body;
+pub mod exchange;
 pub mod hash;
+pub mod json;
 pub mod log;
 pub mod names;
 pub mod proof;
 pub mod prover;
 pub mod record;
+pub mod registry_url;
 pub mod values;

@@ -1,0 +1,4 @@
+pub mod Body
+pub mod Views
+pub mod Replies
+pub mod Requests

@@ -1,0 +1,12 @@
+use Rattle.std.proofs.Common.{◌≡◌, false, refl}
+use Rattle.std.proofs.lemmas.Bool.{false_from_ne_true}
+use Rattle.warg_hash.specs.Name.{is_package_name}
+use Rattle.warg_hash.specs.NameLaws.{is_package_name-name}
+use Rattle.warg_json.proofs.value.PackageNameFromBody.from_body.Goals as goal
+
+pub returns-in-Err-Form : goal.returns-in-Err-Form
+returns-in-Err-Form c =
+    let text = c.in_ok-text.text.now in
+    let none : is_package_name text ≡ false =
+    false_from_ne_true _ (λ t. c.new.ensures.form (cc (c.in-Err-Form.is, c.in-Err-Form.field-0-is)) (is_package_name-name text t)) in
+    rw (c.in_ok-text.ensures.meant, none) refl

@@ -1,0 +1,2 @@
+pub mod RegistryUrl
+pub mod Label
