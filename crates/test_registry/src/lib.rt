@@ -12,6 +12,8 @@ mod names;
 #[cfg(test)]
 mod proof;
 #[cfg(test)]
+mod prover;
+#[cfg(test)]
 mod record;
 #[cfg(test)]
 mod values;

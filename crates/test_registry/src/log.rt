@@ -1,17 +1,18 @@
-//! Small logs of a package and of an operator. The digests are computed by Python's `hashlib`.
+//! Small logs of a package and of an operator. Their records are bytes that Python wrote, and the digests are computed by
+//! Python's `hashlib`.
 
 use semver::{Version, VersionReq};
 use std::alloc::Global;
 use std::test::Fail;
 use warg_log::operator::{LogState as OperatorState, OperatorEntry};
-use warg_log::package::{LogState, PackageEntry, Permission};
+use warg_log::package::LogState;
 use warg_log::{
-    AnyHash, Envelope, JudgedEntry, ListedSigner, ListedVerifier, NamespaceState, PackageRecord,
-    PublicKey, Record, RecordId, SignError, Signature, Signer, ValidationError, Verifier,
+    AnyHash, Envelope, ListedSigner, ListedVerifier, NamespaceState, PackageRecord, PublicKey,
+    Record, SignError, Signature, Signer, ValidationError, Verifier,
 };
-use warg_values::{Moment, Text};
+use warg_values::Text;
 
-/// The id of the first record: Init, releases of 1.0.0 and 1.1.0, and a yank of 1.1.0.
+/// The id of the first record.
 const FIRST_ID: &str = "sha256:96821d936df6b0494b21fac7f5ef251be58d55d1f6198e13ba57f64a778d05c5";
 
 /// The SHA-256 of the text that is signed for it.
@@ -21,11 +22,107 @@ const SIGNED_DIGEST: &str =
 /// The id of the key `k:AA==`.
 const KEY_ID: &str = "sha256:4efe654bc30051152bd60218d04e883ec1e6b92f39f8623b4caa049a90f71205";
 
-/// A first record: its time is one second, and Init brings the key `k:AA==`.
-const FIRST: &[u8] = b"\x1a\x02\x08\x01\x22\x12\x0a\x10\x0a\x06k:AA==\x12\x06sha256";
+/// The id of the key `k:BA==`.
+const OTHER_ID: &str = "sha256:f6a34b9d6898ee770745f9a04b1cc8bb4222a92da9aa921d8bf29d0cf0564ebf";
 
 /// The SHA-256 of `a text`.
 const TEXT_DIGEST: &str = "sha256:734194ede5b063e654d63cb95a682ca1551b45e3cc86e88f1a85c1286eedd4ac";
+
+/// Init with the key `k:AA==`, releases of 1.0.0 and 1.1.0, and a yank of 1.1.0.
+const FIRST: &[u8] = b"\
+    \x1a\x02\x08\x01\x22\x12\x0a\x10\x0a\x06k:AA==\x12\x06sha256\x22R\x22P\x0a\x051.0.0\x12Gsha256:92521fc3cbd96\
+    4bdc9f584a991b89fddaa5754ed1cc96d6d42445338669c1305\x22R\x22P\x0a\x051.1.0\x12Gsha256:7fbd210ebec11f65a97190\
+    ef900795c4b8da3805af3f5a1b8d1d272556b292ca\x22\x09*\x07\x0a\x051.1.0";
+
+/// Init, releases of 1.2.0, 1.10.0, 2.0.0-rc.1 and 1.11.0, and a yank of 1.11.0.
+const NUMBERS: &[u8] = b"\
+    \x1a\x02\x08\x01\x22\x12\x0a\x10\x0a\x06k:AA==\x12\x06sha256\x22R\x22P\x0a\x051.2.0\x12Gsha256:9f77034b1eb57\
+    d24f21ac7deb65c9cc99f63b72775e311f1f280ab2b6c2e06a2\x22S\x22Q\x0a\x061.10.0\x12Gsha256:e91dee3b412922e56d788\
+    d757cd30eaaae92b0846323abdb99eeb58b9cfe30c1\x22W\x22U\x0a\x0a2.0.0-rc.1\x12Gsha256:f6136960062333a3fc2057263\
+    d36eab32360adea7b3b2dfb1d6ab4442991f755\x22S\x22Q\x0a\x061.11.0\x12Gsha256:f1deeb62e209be1a1fa35478861037ecd\
+    c5d1ad1d6f8fd692680f7f5cb1a4991\x22\x0a*\x08\x0a\x061.11.0";
+
+/// Init, and releases of 1.0.0-rc.2+1, 1.0.0-rc.2+2 and 1.0.0-rc.1.
+const CANDIDATES: &[u8] = b"\
+    \x1a\x02\x08\x01\x22\x12\x0a\x10\x0a\x06k:AA==\x12\x06sha256\x22Y\x22W\x0a\x0c1.0.0-rc.2+1\x12Gsha256:48e9de\
+    f4eb0037dddfee69677a78ed24422e53ecb7d00beeeee1bae108e364ee\x22Y\x22W\x0a\x0c1.0.0-rc.2+2\x12Gsha256:e16a3444\
+    523cbc658738f58825eb553aa4e4675dbec773b6fc01ce26a63d65b1\x22W\x22U\x0a\x0a1.0.0-rc.1\x12Gsha256:8fe5d2b604b1\
+    137eb59bd086b7528c06d258135e58b84fbf3b3c0d9e1d14b375";
+
+/// Init, and releases of 1.0.0, 1.0.0+1 and 1.1.0.
+const BUILDS: &[u8] = b"\
+    \x1a\x02\x08\x01\x22\x12\x0a\x10\x0a\x06k:AA==\x12\x06sha256\x22R\x22P\x0a\x051.0.0\x12Gsha256:92521fc3cbd96\
+    4bdc9f584a991b89fddaa5754ed1cc96d6d42445338669c1305\x22T\x22R\x0a\x071.0.0+1\x12Gsha256:20a7a6ab9c5348aef49e\
+    6e7873511d13d9516efadddfa1a01e14bdfce8f4e894\x22R\x22P\x0a\x051.1.0\x12Gsha256:7fbd210ebec11f65a97190ef90079\
+    5c4b8da3805af3f5a1b8d1d272556b292ca";
+
+/// A release of 1.2.0 after the first record, at the same time.
+const NEXT: &[u8] = b"\
+    \x0aGsha256:96821d936df6b0494b21fac7f5ef251be58d55d1f6198e13ba57f64a778d05c5\x1a\x02\x08\x01\x22R\x22P\x0a\
+    \x051.2.0\x12Gsha256:9f77034b1eb57d24f21ac7deb65c9cc99f63b72775e311f1f280ab2b6c2e06a2";
+
+/// The same in a record of another version of the form.
+const OTHER_FORM: &[u8] = b"\
+    \x0aGsha256:96821d936df6b0494b21fac7f5ef251be58d55d1f6198e13ba57f64a778d05c5\x10\x01\x1a\x02\x08\x01\x22R\
+    \x22P\x0a\x051.2.0\x12Gsha256:9f77034b1eb57d24f21ac7deb65c9cc99f63b72775e311f1f280ab2b6c2e06a2";
+
+/// The same without the record before it.
+const NOT_BEHIND: &[u8] = b"\
+    \x1a\x02\x08\x01\x22R\x22P\x0a\x051.2.0\x12Gsha256:9f77034b1eb57d24f21ac7deb65c9cc99f63b72775e311f1f280ab2b6\
+    c2e06a2";
+
+/// The same a second earlier.
+const EARLIER: &[u8] = b"\
+    \x0aGsha256:96821d936df6b0494b21fac7f5ef251be58d55d1f6198e13ba57f64a778d05c5\x1a\x00\x22R\x22P\x0a\x051.2.0\
+    \x12Gsha256:9f77034b1eb57d24f21ac7deb65c9cc99f63b72775e311f1f280ab2b6c2e06a2";
+
+/// The permission to yank for the key `k:BA==`.
+const GRANT: &[u8] = b"\
+    \x0aGsha256:96821d936df6b0494b21fac7f5ef251be58d55d1f6198e13ba57f64a778d05c5\x1a\x02\x08\x01\x22\x10\x12\x0e\
+    \x0a\x06k:BA==\x12\x04yank";
+
+/// Init again.
+const INIT_AGAIN: &[u8] = b"\
+    \x0aGsha256:96821d936df6b0494b21fac7f5ef251be58d55d1f6198e13ba57f64a778d05c5\x1a\x02\x08\x01\x22\x12\x0a\x10\
+    \x0a\x06k:AA==\x12\x06sha256";
+
+/// A release of 1.1.0 again.
+const RELEASE_AGAIN: &[u8] = b"\
+    \x0aGsha256:96821d936df6b0494b21fac7f5ef251be58d55d1f6198e13ba57f64a778d05c5\x1a\x02\x08\x01\x22R\x22P\x0a\
+    \x051.1.0\x12Gsha256:7fbd210ebec11f65a97190ef900795c4b8da3805af3f5a1b8d1d272556b292ca";
+
+/// A yank of 2.0.0.
+const YANK_UNRELEASED: &[u8] = b"\
+    \x0aGsha256:96821d936df6b0494b21fac7f5ef251be58d55d1f6198e13ba57f64a778d05c5\x1a\x02\x08\x01\x22\x09*\x07\
+    \x0a\x052.0.0";
+
+/// A yank of 1.1.0 again.
+const YANK_AGAIN: &[u8] = b"\
+    \x0aGsha256:96821d936df6b0494b21fac7f5ef251be58d55d1f6198e13ba57f64a778d05c5\x1a\x02\x08\x01\x22\x09*\x07\
+    \x0a\x051.1.0";
+
+/// The permission to release is taken from the key `k:AA==`, which then releases 1.2.0.
+const REVOKE_AND_RELEASE: &[u8] = b"\
+    \x0aGsha256:96821d936df6b0494b21fac7f5ef251be58d55d1f6198e13ba57f64a778d05c5\x1a\x02\x08\x01\x22T\x1aR\x0aGs\
+    ha256:4efe654bc30051152bd60218d04e883ec1e6b92f39f8623b4caa049a90f71205\x12\x07release\x22R\x22P\x0a\x051.2.0\
+    \x12Gsha256:9f77034b1eb57d24f21ac7deb65c9cc99f63b72775e311f1f280ab2b6c2e06a2";
+
+/// A first record that begins with a release.
+const WITHOUT_INIT: &[u8] = b"\
+    \x1a\x02\x08\x01\x22R\x22P\x0a\x051.0.0\x12Gsha256:92521fc3cbd964bdc9f584a991b89fddaa5754ed1cc96d6d424453386\
+    69c1305";
+
+/// A first record that asks for another hash.
+const OTHER_HASH: &[u8] = b"\x1a\x02\x08\x01\x22\x12\x0a\x10\x0a\x06k:AA==\x12\x06sha512";
+
+/// A registry's log: Init, and the namespace `a`.
+const NAMESPACE: &[u8] =
+    b"\x1a\x02\x08\x01\x22\x12\x0a\x10\x0a\x06k:AA==\x12\x06sha256\x22\x05\x22\x03\x0a\x01a";
+
+/// The same, and the namespace `a` again, from the registry `r`.
+const NAMESPACE_AGAIN: &[u8] = b"\
+    \x1a\x02\x08\x01\x22\x12\x0a\x10\x0a\x06k:AA==\x12\x06sha256\x22\x05\x22\x03\x0a\x01a\x22\x08*\x06\x0a\x01a\
+    \x12\x01r";
 
 /// Accepts every signature.
 #[derive(Debug, Drop)]
@@ -41,133 +138,34 @@ impl Verifier for EverySignature {
     }
 }
 
-/// What a record says beside its entries.
-#[derive(Clone, Copy, Debug)]
-struct Draft {
-    /// The version of the record's form.
-    version: u64,
-    /// The record before it.
-    prev: Option<RecordId>,
-    /// The seconds of its time.
-    seconds: u64,
-    /// Whether `k:BA==` signs it, and not `k:AA==`.
-    is_by_another: bool,
+/// The record of these contents, by the signer with this id, and the signature `k:BA==`.
+fn read(alloc: Global, contents: &[u8], signer: &str) -> Result<Envelope<PackageRecord>, Fail> {
+    Ok(Envelope::read(alloc, contents, signer, "k:BA==")?)
 }
 
-impl Draft {
-    /// A log's first record, of the time of one second, signed by `k:AA==`.
-    fn first() -> Self {
-        Draft {
-            version: 0,
-            prev: None,
-            seconds: 1,
-            is_by_another: false,
-        }
-    }
+/// The state of a log of one record.
+fn state_of(alloc: Global, contents: &[u8]) -> Result<LogState, Fail> {
+    let first = read(alloc, contents, KEY_ID)?;
+    let mut state = LogState::new(alloc);
+    state.validate(alloc, &EverySignature, &first)?;
+    Ok(state)
 }
 
-/// A record with these entries, and the signature `k:BA==`.
-fn envelope<E: JudgedEntry>(
-    alloc: Global,
-    draft: Draft,
-    entries: Vec<E>,
-) -> Result<Envelope<Record<E>>, Fail> {
-    let rec = Record {
-        prev: draft.prev,
-        version: draft.version,
-        time: Moment {
-            seconds: draft.seconds,
-            nanos: 0,
-        },
-        entries,
-    };
-    let contents = Envelope::write(alloc, &rec)?;
-    let signer = if draft.is_by_another {
-        "k:BA=="
-    } else {
-        "k:AA=="
-    };
-    let key_id = PublicKey::new(alloc, signer)?.id();
-    let signature = Signature::new(alloc, "k:BA==")?;
-    Ok(Envelope {
-        rec,
-        contents,
-        key_id,
-        signature,
-    })
-}
-
-/// An entry that brings the key `k:AA==`.
-fn init(alloc: Global, algorithm: &str) -> Result<PackageEntry, Fail> {
-    Ok(PackageEntry::Init {
-        key: PublicKey::new(alloc, "k:AA==")?,
-        hash_algorithm: Text::copy_of(alloc, algorithm)?,
-    })
-}
-
-/// An entry that releases a version, with the digest of the version's text.
-fn release(alloc: Global, version: &str) -> Result<PackageEntry, Fail> {
-    Ok(PackageEntry::Release {
-        version: Version::parse(alloc, version)?,
-        content: AnyHash::sha256_of(version.as_bytes()),
-    })
-}
-
-/// An entry that yanks a version.
-fn yank(alloc: Global, version: &str) -> Result<PackageEntry, Fail> {
-    Ok(PackageEntry::Yank {
-        version: Version::parse(alloc, version)?,
-    })
-}
-
-/// An entry that takes the permission to release from the key `k:AA==`.
-fn revoke(alloc: Global) -> Result<PackageEntry, Fail> {
-    Ok(PackageEntry::RevokeFlat {
-        key_id: PublicKey::new(alloc, "k:AA==")?.id(),
-        permissions: vec![in alloc; Permission::Release]?,
-    })
-}
-
-/// An entry that gives the permission to yank to the key `k:BA==`.
-fn grant(alloc: Global) -> Result<PackageEntry, Fail> {
-    Ok(PackageEntry::GrantFlat {
-        key: PublicKey::new(alloc, "k:BA==")?,
-        permissions: vec![in alloc; Permission::Yank]?,
-    })
-}
-
-/// A first record: Init, these releases, and then these yanks.
-fn record_of(
-    alloc: Global,
-    released: &[&str],
-    yanked: &[&str],
-) -> Result<Envelope<PackageRecord>, Fail> {
-    let mut entries = Vec::new(alloc);
-    entries.push(init(alloc, "sha256")?)?;
-    for version in released {
-        entries.push(release(alloc, version)?)?;
-    }
-    for version in yanked {
-        entries.push(yank(alloc, version)?)?;
-    }
-    envelope(alloc, Draft::first(), entries)
-}
-
-/// Init, releases of 1.0.0 and 1.1.0, and a yank of 1.1.0.
-fn first_record(alloc: Global) -> Result<Envelope<PackageRecord>, Fail> {
-    record_of(alloc, &["1.0.0", "1.1.0"], &["1.1.0"])
+/// The verifier that knows the one good signature of the first record.
+fn listed(alloc: Global) -> Result<ListedVerifier, Fail> {
+    let triple = (
+        PublicKey::new(alloc, "k:AA==")?,
+        AnyHash::from_text(alloc, SIGNED_DIGEST)?,
+        Signature::new(alloc, "k:BA==")?,
+    );
+    Ok(ListedVerifier::new(vec![in alloc; triple]?))
 }
 
 /// The text of the head's id after the first record, whose one good signature is listed.
 fn first_head(alloc: Global) -> Result<Text, Fail> {
-    let mut listed = Vec::new(alloc);
-    listed.push((
-        PublicKey::new(alloc, "k:AA==")?,
-        AnyHash::from_text(alloc, SIGNED_DIGEST)?,
-        Signature::new(alloc, "k:BA==")?,
-    ))?;
+    let (verifier, first) = (listed(alloc)?, read(alloc, FIRST, KEY_ID)?);
     let mut state = LogState::new(alloc);
-    state.validate(alloc, &ListedVerifier::new(listed), &first_record(alloc)?)?;
+    state.validate(alloc, &verifier, &first)?;
     let head = state.head().ok_or("a head")?;
     Ok(head.digest.text(alloc)?)
 }
@@ -178,16 +176,37 @@ fn a_listed_signature_is_good(rt: HostRuntime) -> Result<(), Fail> {
     Ok(())
 }
 
-/// The latest of these releases but for these yanked ones that meets a requirement; empty where there is none.
-fn latest(
+/// A version, where it is given.
+fn version(alloc: Global, text: Option<&str>) -> Result<Option<Version>, Fail> {
+    match text {
+        Some(text) => Ok(Some(Version::parse(alloc, text)?)),
+        None => Ok(None),
+    }
+}
+
+/// The release of a log of one record that meets a requirement, and has this version and the digest of this version's
+/// text, where they are given; empty where there is none.
+fn found(
     alloc: Global,
-    released: &[&str],
-    yanked: &[&str],
+    contents: &[u8],
     requirement: &str,
+    exact: Option<&str>,
+    content: Option<&str>,
 ) -> Result<String, Fail> {
-    let mut state = LogState::new(alloc);
-    state.validate(alloc, &EverySignature, &record_of(alloc, released, yanked)?)?;
     let requirement = VersionReq::parse(alloc, requirement)?;
+    let exact = version(alloc, exact)?;
+    let digest = content.map(|text| AnyHash::sha256_of(text.as_bytes()));
+    let state = state_of(alloc, contents)?;
+    match state.find_release(&requirement, exact.as_ref(), digest.as_ref()) {
+        Some(found) => Ok(format!(in alloc; "{}", found.version)?),
+        None => Ok(String::new(alloc)),
+    }
+}
+
+/// The latest release of a log of one record that meets a requirement; empty where there is none.
+fn latest(alloc: Global, contents: &[u8], requirement: &str) -> Result<String, Fail> {
+    let requirement = VersionReq::parse(alloc, requirement)?;
+    let state = state_of(alloc, contents)?;
     match state.find_latest_release(&requirement) {
         Some(found) => Ok(format!(in alloc; "{}", found.version)?),
         None => Ok(String::new(alloc)),
@@ -196,40 +215,18 @@ fn latest(
 
 #[test]
 fn the_greatest_open_release_is_chosen(rt: HostRuntime) -> Result<(), Fail> {
-    let yanked = latest(rt.alloc(), &["1.0.0", "1.1.0"], &["1.1.0"], "*")?;
-    assert_eq!(rt; yanked.as_str(), "1.0.0");
-    let numbers = latest(
-        rt.alloc(),
-        &["1.2.0", "1.10.0", "2.0.0-rc.1", "1.11.0"],
-        &["1.11.0"],
-        ">=1.0.0",
-    )?;
-    assert_eq!(rt; numbers.as_str(), "1.10.0");
-    let candidates = ["1.0.0-rc.2+1", "1.0.0-rc.2+2", "1.0.0-rc.1"];
-    assert_eq!(rt; latest(rt.alloc(), &candidates, &[], "*")?.as_str(), "");
-    assert_eq!(rt;
-        latest(rt.alloc(), &candidates, &[], ">=1.0.0-rc.1")?.as_str(),
-        "1.0.0-rc.2+2"
-    );
-    Ok(())
-}
-
-/// The release of 1.0.0, 1.0.0+1 and 1.1.0 that has this version and the digest of this version's text, where they are
-/// given; empty where there is none.
-fn found(alloc: Global, exact: Option<&str>, content: Option<&str>) -> Result<String, Fail> {
-    let mut state = LogState::new(alloc);
-    let first = record_of(alloc, &["1.0.0", "1.0.0+1", "1.1.0"], &[])?;
-    state.validate(alloc, &EverySignature, &first)?;
-    let any = VersionReq::parse(alloc, "*")?;
-    let exact = match exact {
-        Some(text) => Some(Version::parse(alloc, text)?),
-        None => None,
-    };
-    let digest = content.map(|text| AnyHash::sha256_of(text.as_bytes()));
-    match state.find_release(&any, exact.as_ref(), digest.as_ref()) {
-        Some(found) => Ok(format!(in alloc; "{}", found.version)?),
-        None => Ok(String::new(alloc)),
+    for (contents, requirement, version) in [
+        (FIRST, "*", "1.0.0"),
+        (NUMBERS, ">=1.0.0", "1.10.0"),
+        (CANDIDATES, "*", ""),
+        (CANDIDATES, ">=1.0.0-rc.1", "1.0.0-rc.2+2"),
+    ] {
+        assert_eq!(rt;
+            latest(rt.alloc(), contents, requirement)?.as_str(),
+            version
+        );
     }
+    Ok(())
 }
 
 #[test]
@@ -242,7 +239,10 @@ fn a_release_is_found_by_its_version_and_its_digest(rt: HostRuntime) -> Result<(
         (Some("1.0.0"), Some("1.0.0+1"), ""),
         (Some("1.2.0"), None, ""),
     ] {
-        assert_eq!(rt; found(rt.alloc(), exact, content)?.as_str(), version);
+        assert_eq!(rt;
+            found(rt.alloc(), BUILDS, "*", exact, content)?.as_str(),
+            version
+        );
     }
     Ok(())
 }
@@ -267,160 +267,89 @@ fn name_of(error: &ValidationError) -> &'static str {
     }
 }
 
-/// What `validate` answers of a record after the first one: the name of the error, or `accepted`.
-fn judged<V: Verifier>(
-    alloc: Global,
-    verifier: &V,
-    next: &Envelope<PackageRecord>,
-) -> Result<&'static str, Fail> {
-    let mut state = LogState::new(alloc);
-    state.validate(alloc, &EverySignature, &first_record(alloc)?)?;
-    match state.validate(alloc, verifier, next) {
-        Ok(()) => Ok("accepted"),
-        Err(error) => Ok(name_of(&error)),
+/// The name of the error of an answer, or `accepted`.
+fn name_in(answer: &Result<(), ValidationError>) -> &'static str {
+    match answer {
+        Ok(()) => "accepted",
+        Err(error) => name_of(error),
     }
 }
 
-/// What is answered of a record of one entry after the first one.
-fn answer(alloc: Global, draft: Draft, entry: PackageEntry) -> Result<&'static str, Fail> {
-    let next = envelope(alloc, draft, vec![in alloc; entry]?)?;
-    judged(alloc, &EverySignature, &next)
+/// What a state answers to a record: the name of the error, or `accepted`.
+fn judged<V: Verifier>(
+    alloc: Global,
+    verifier: &V,
+    state: &mut LogState,
+    contents: &[u8],
+    signer: &str,
+) -> Result<&'static str, Fail> {
+    let next = read(alloc, contents, signer)?;
+    Ok(name_in(&state.validate(alloc, verifier, &next)))
 }
 
-/// A record after the first one, at the same time.
-fn second(alloc: Global) -> Result<Draft, Fail> {
-    let prev = Some(RecordId::from_text(alloc, FIRST_ID)?);
-    Ok(Draft {
-        prev,
-        ..Draft::first()
-    })
+/// What is answered of a record after the first one.
+fn second_answer(alloc: Global, contents: &[u8], signer: &str) -> Result<&'static str, Fail> {
+    let mut state = state_of(alloc, FIRST)?;
+    judged(alloc, &EverySignature, &mut state, contents, signer)
 }
 
 #[test]
 fn the_rules_of_a_record_against_the_head_are_checked(rt: HostRuntime) -> Result<(), Fail> {
-    let alloc = rt.alloc();
-    let draft = second(alloc)?;
-    for (draft, name) in [
-        (draft, "accepted"),
-        (
-            Draft {
-                version: 1,
-                ..draft
-            },
-            "ProtocolVersion",
-        ),
-        (
-            Draft {
-                prev: None,
-                ..draft
-            },
-            "PreviousRecord",
-        ),
-        (
-            Draft {
-                seconds: 0,
-                ..draft
-            },
-            "TimeLower",
-        ),
-        (
-            Draft {
-                is_by_another: true,
-                ..draft
-            },
-            "UnknownKey",
-        ),
+    for (contents, signer, name) in [
+        (NEXT, KEY_ID, "accepted"),
+        (OTHER_FORM, KEY_ID, "ProtocolVersion"),
+        (NOT_BEHIND, KEY_ID, "PreviousRecord"),
+        (EARLIER, KEY_ID, "TimeLower"),
+        (NEXT, OTHER_ID, "UnknownKey"),
     ] {
-        assert_eq!(rt; answer(alloc, draft, release(alloc, "1.2.0")?)?, name);
+        assert_eq!(rt; second_answer(rt.alloc(), contents, signer)?, name);
     }
     Ok(())
-}
-
-/// What is answered of a record of one entry after the first one, at the same time.
-fn second_answer(alloc: Global, entry: PackageEntry) -> Result<&'static str, Fail> {
-    let prev = Some(RecordId::from_text(alloc, FIRST_ID)?);
-    let draft = Draft {
-        prev,
-        ..Draft::first()
-    };
-    answer(alloc, draft, entry)
 }
 
 #[test]
 fn the_rules_of_entries_are_checked(rt: HostRuntime) -> Result<(), Fail> {
-    let alloc = rt.alloc();
-    assert_eq!(rt; second_answer(alloc, grant(alloc)?)?, "accepted");
-    assert_eq!(rt; second_answer(alloc, init(alloc, "sha256")?)?, "InitAgain");
-    assert_eq!(rt;
-        second_answer(alloc, release(alloc, "1.1.0")?)?,
-        "ReleaseAgain"
-    );
-    assert_eq!(rt;
-        second_answer(alloc, yank(alloc, "2.0.0")?)?,
-        "YankUnreleased"
-    );
-    assert_eq!(rt; second_answer(alloc, yank(alloc, "1.1.0")?)?, "YankYanked");
+    for (contents, name) in [
+        (GRANT, "accepted"),
+        (INIT_AGAIN, "InitAgain"),
+        (RELEASE_AGAIN, "ReleaseAgain"),
+        (YANK_UNRELEASED, "YankUnreleased"),
+        (YANK_AGAIN, "YankYanked"),
+        (REVOKE_AND_RELEASE, "Unpermitted"),
+    ] {
+        assert_eq!(rt; second_answer(rt.alloc(), contents, KEY_ID)?, name);
+    }
     Ok(())
-}
-
-/// What is answered of a record that takes the permission to release from its signer, and then releases.
-fn answer_without_permission(alloc: Global) -> Result<&'static str, Fail> {
-    let mut entries = vec![in alloc; revoke(alloc)?]?;
-    entries.push(release(alloc, "1.2.0")?)?;
-    judged(
-        alloc,
-        &EverySignature,
-        &envelope(alloc, second(alloc)?, entries)?,
-    )
 }
 
 /// What is answered of a record whose signature nobody lists.
 fn answer_without_signature(alloc: Global) -> Result<&'static str, Fail> {
-    let next = envelope(
-        alloc,
-        second(alloc)?,
-        vec![in alloc; release(alloc, "1.2.0")?]?,
-    )?;
-    judged(alloc, &ListedVerifier::new(Vec::new(alloc)), &next)
+    let verifier = ListedVerifier::new(Vec::new(alloc));
+    let mut state = state_of(alloc, FIRST)?;
+    judged(alloc, &verifier, &mut state, NEXT, KEY_ID)
 }
 
-/// What is answered of a log's first record, of one entry.
-fn first_answer(alloc: Global, entry: PackageEntry) -> Result<&'static str, Fail> {
-    let first = envelope(alloc, Draft::first(), vec![in alloc; entry]?)?;
+/// What is answered of a log's first record.
+fn first_answer(alloc: Global, contents: &[u8]) -> Result<&'static str, Fail> {
     let mut state = LogState::new(alloc);
-    match state.validate(alloc, &EverySignature, &first) {
-        Ok(()) => Ok("accepted"),
-        Err(error) => Ok(name_of(&error)),
-    }
+    judged(alloc, &EverySignature, &mut state, contents, KEY_ID)
 }
 
 #[test]
-fn permissions_signatures_and_first_records_are_checked(rt: HostRuntime) -> Result<(), Fail> {
+fn signatures_and_first_records_are_checked(rt: HostRuntime) -> Result<(), Fail> {
     let alloc = rt.alloc();
-    assert_eq!(rt; answer_without_permission(alloc)?, "Unpermitted");
     assert_eq!(rt; answer_without_signature(alloc)?, "BadSignature");
-    assert_eq!(rt;
-        first_answer(alloc, release(alloc, "1.0.0")?)?,
-        "FirstEntryNotInit"
-    );
-    assert_eq!(rt;
-        first_answer(alloc, init(alloc, "sha512")?)?,
-        "HashAlgorithm"
-    );
+    assert_eq!(rt; first_answer(alloc, WITHOUT_INIT)?, "FirstEntryNotInit");
+    assert_eq!(rt; first_answer(alloc, OTHER_HASH)?, "HashAlgorithm");
     Ok(())
 }
 
-/// The text of the error of a record that is earlier than the head.
+/// The text of the error of a record that is earlier than the head; empty where it is accepted.
 fn text_of_an_earlier_time(alloc: Global) -> Result<String, Fail> {
-    let draft = Draft {
-        seconds: 0,
-        ..second(alloc)?
-    };
-    let next = envelope(alloc, draft, vec![in alloc; release(alloc, "1.2.0")?]?)?;
-    let mut state = LogState::new(alloc);
-    state.validate(alloc, &EverySignature, &first_record(alloc)?)?;
+    let next = read(alloc, EARLIER, KEY_ID)?;
+    let mut state = state_of(alloc, FIRST)?;
     match state.validate(alloc, &EverySignature, &next) {
-        Ok(()) => Err("a refusal".into()),
+        Ok(()) => Ok(String::new(alloc)),
         Err(error) => Ok(format!(in alloc; "{error}")?),
     }
 }
@@ -435,95 +364,63 @@ fn an_error_tells_times_as_people_read_them(rt: HostRuntime) -> Result<(), Fail>
     Ok(())
 }
 
-/// How many releases a replayed log has, and what is answered of its record as the next one.
+/// How many releases a replayed log of the first record has, and what is answered of that record as the next one.
 fn replayed(alloc: Global) -> Result<(usize, &'static str), Fail> {
-    let envs = vec![in alloc; first_record(alloc)?]?;
+    let envs = vec![in alloc; read(alloc, FIRST, KEY_ID)?]?;
     let mut state = LogState::replay(alloc, envs.as_slice())?.ok_or("a lawful log")?;
     let releases = state.releases().len();
-    match state.validate(alloc, &EverySignature, &first_record(alloc)?) {
-        Ok(()) => Ok((releases, "accepted")),
-        Err(error) => Ok((releases, name_of(&error))),
-    }
-}
-
-/// What is answered of a first record that was read, and of the same record as the second one.
-fn read_and_judged(alloc: Global) -> Result<(bool, &'static str), Fail> {
-    let first: Envelope<PackageRecord> = Envelope::read(alloc, FIRST, KEY_ID, "k:BA==")?;
-    let mut state = LogState::new(alloc);
-    let accepted = state.validate(alloc, &EverySignature, &first).is_ok();
-    match state.validate(alloc, &EverySignature, &first) {
-        Ok(()) => Ok((accepted, "accepted")),
-        Err(error) => Ok((accepted, name_of(&error))),
-    }
+    Ok((
+        releases,
+        judged(alloc, &EverySignature, &mut state, FIRST, KEY_ID)?,
+    ))
 }
 
 #[test]
 fn a_first_record_is_not_its_own_second(rt: HostRuntime) -> Result<(), Fail> {
     assert_eq!(rt; replayed(rt.alloc())?, (2, "PreviousRecord"));
-    assert_eq!(rt; read_and_judged(rt.alloc())?, (true, "PreviousRecord"));
+    assert_eq!(rt; second_answer(rt.alloc(), FIRST, KEY_ID)?, "PreviousRecord");
     Ok(())
 }
 
-/// A registry's log: Init, and the namespace `a` once or twice.
-fn operator_log(alloc: Global, twice: bool) -> Result<Envelope<Record<OperatorEntry>>, Fail> {
-    let mut entries = vec![in alloc;
-        OperatorEntry::Init {
-            key: PublicKey::new(alloc, "k:AA==")?,
-            hash_algorithm: Text::copy_of(alloc, "sha256")?,
-        },
-    ]?;
-    entries.push(OperatorEntry::DefineNamespace {
-        namespace: Text::copy_of(alloc, "a")?,
-    })?;
-    if twice {
-        entries.push(OperatorEntry::ImportNamespace {
-            namespace: Text::copy_of(alloc, "a")?,
-            registry: Text::copy_of(alloc, "r")?,
-        })?;
-    }
-    envelope(alloc, Draft::first(), entries)
-}
-
-/// What is answered of a registry's log.
-fn operator_answer(alloc: Global, twice: bool) -> Result<&'static str, Fail> {
+/// What is answered of a registry's log of one record, and whether it defines a namespace, where something is known of
+/// it.
+fn named(
+    alloc: Global,
+    contents: &[u8],
+    namespace: &str,
+) -> Result<(&'static str, Option<bool>), Fail> {
+    let env: Envelope<Record<OperatorEntry>> = Envelope::read(alloc, contents, KEY_ID, "k:BA==")?;
     let mut state = OperatorState::new(alloc);
-    match state.validate(alloc, &EverySignature, &operator_log(alloc, twice)?) {
-        Ok(()) => Ok("accepted"),
-        Err(error) => Ok(name_of(&error)),
-    }
-}
-
-/// Whether a namespace is defined by a registry's log, where something is known of it.
-fn is_defined(alloc: Global, namespace: &str) -> Result<Option<bool>, Fail> {
-    let mut state = OperatorState::new(alloc);
-    state.validate(alloc, &EverySignature, &operator_log(alloc, false)?)?;
-    let Some(known) = state.namespace_state(namespace) else {
-        return Ok(None);
-    };
-    Ok(Some(matches!(known, NamespaceState::Defined)))
+    let answer = name_in(&state.validate(alloc, &EverySignature, &env));
+    let known = state.namespace_state(namespace);
+    Ok((
+        answer,
+        known.map(|state| matches!(state, NamespaceState::Defined)),
+    ))
 }
 
 #[test]
 fn a_namespace_is_taken_once(rt: HostRuntime) -> Result<(), Fail> {
-    assert_eq!(rt; operator_answer(rt.alloc(), false)?, "accepted");
-    assert_eq!(rt; operator_answer(rt.alloc(), true)?, "NamespaceTaken");
-    assert!(rt; is_defined(rt.alloc(), "a")? == Some(true));
-    assert!(rt; is_defined(rt.alloc(), "b")?.is_none());
+    for (contents, namespace, answer) in [
+        (NAMESPACE, "a", ("accepted", Some(true))),
+        (NAMESPACE, "b", ("accepted", None)),
+        (NAMESPACE_AGAIN, "a", ("NamespaceTaken", None)),
+    ] {
+        assert_eq!(rt; named(rt.alloc(), contents, namespace)?, answer);
+    }
     Ok(())
 }
 
 /// A signer of `a text` and of `k:AA==`, whose second call fails.
 fn listed_signer(alloc: Global) -> Result<ListedSigner, Fail> {
-    let mut list = Vec::new(alloc);
-    list.push((
+    let (text, other) = (
         AnyHash::from_text(alloc, TEXT_DIGEST)?,
-        Signature::new(alloc, "k:BA==")?,
-    ))?;
-    list.push((
         AnyHash::from_text(alloc, KEY_ID)?,
-        Signature::new(alloc, "k:CA==")?,
-    ))?;
-    let mut signer = ListedSigner::new(alloc, PublicKey::new(alloc, "k:AA==")?, list);
+    );
+    let key = PublicKey::new(alloc, "k:AA==")?;
+    let mut list = vec![in alloc; (text, Signature::new(alloc, "k:BA==")?)]?;
+    list.push((other, Signature::new(alloc, "k:CA==")?))?;
+    let mut signer = ListedSigner::new(alloc, key, list);
     signer.fail_at(2)?;
     Ok(signer)
 }

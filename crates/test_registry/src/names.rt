@@ -10,137 +10,110 @@ use warg_names::{
     kindless_name, locked_package, marked, new_tree, version_string, versioned_package,
 };
 
-/// Names, each with what it asks for.
-const GOOD: [(&str, &str); 20] = [
-    (
-        "unlocked-dep=<foo:bar@{>=1.0.0 <2.0.0}>",
-        "foo:bar {>=1.0.0 <2.0.0} unlocked",
-    ),
-    ("unlocked-dep=<foo:bar@*>", "foo:bar * unlocked"),
-    ("unlocked-dep=<foo:bar>", "foo:bar * unlocked"),
-    (
-        "unlocked-dep=<a-b:c1-d@{<2.0.0}>",
-        "a-b:c1-d {<2.0.0} unlocked",
-    ),
-    ("unlocked-dep=<a:b@{>=1.0.0+x}>", "a:b {>=1.0.0} unlocked"),
-    (
-        "unlocked-dep=<a:b@{>=1.0.0-rc.1+x.01 <1.0.0+y}>",
-        "a:b {>=1.0.0-rc.1 <1.0.0} unlocked",
-    ),
-    (
-        "locked-dep=<foo:bar@1.0.0-rc.1>,integrity=<sha256-abc>",
-        "foo:bar =1.0.0-rc.1 locked sha256-abc exact 1.0.0-rc.1",
-    ),
-    ("locked-dep=<foo:bar>", "foo:bar * locked"),
-    (
-        "locked-dep=<foo:bar>,integrity=<x<y,>",
-        "foo:bar * locked x<y,",
-    ),
-    (
-        "locked-dep=<a:b@1.0.0+build.5>",
-        "a:b =1.0.0 locked exact 1.0.0+build.5",
-    ),
-    ("wasi:io/poll@0.2.0", "wasi:io/poll =0.2.0 interface 0.2.0"),
-    ("i1", "i1 * interface"),
-    ("@1.0.0", " =1.0.0 interface 1.0.0"),
-    (
-        "i@1.0.0-99999999999999999999",
-        "i =1.0.0-99999999999999999999 interface 1.0.0-99999999999999999999",
-    ),
-    (
-        "i@18446744073709551615.0.0",
-        "i =18446744073709551615.0.0 interface 18446744073709551615.0.0",
-    ),
-    ("i@1.0.0+a", "i =1.0.0 interface 1.0.0+a"),
-    ("unlocked-dep", "unlocked-dep * interface"),
-    ("Locked-dep=<a:b>", "Locked-dep=<a:b> * interface"),
-    (" locked-dep=<a:b>", " locked-dep=<a:b> * interface"),
-    ("A <b>", "A <b> * interface"),
-];
+/// Names, each with what it asks for, a line each.
+const GOOD: &str = "\
+unlocked-dep=<foo:bar@{>=1.0.0 <2.0.0}> -> foo:bar {>=1.0.0 <2.0.0} unlocked
+unlocked-dep=<foo:bar@*> -> foo:bar * unlocked
+unlocked-dep=<foo:bar> -> foo:bar * unlocked
+unlocked-dep=<a-b:c1-d@{<2.0.0}> -> a-b:c1-d {<2.0.0} unlocked
+unlocked-dep=<a:b@{>=1.0.0+x}> -> a:b {>=1.0.0} unlocked
+unlocked-dep=<a:b@{>=1.0.0-rc.1+x.01 <1.0.0+y}> -> a:b {>=1.0.0-rc.1 <1.0.0} unlocked
+locked-dep=<foo:bar@1.0.0-rc.1>,integrity=<sha256-abc> -> foo:bar =1.0.0-rc.1 locked sha256-abc exact 1.0.0-rc.1
+locked-dep=<foo:bar> -> foo:bar * locked
+locked-dep=<foo:bar>,integrity=<x<y,> -> foo:bar * locked x<y,
+locked-dep=<a:b@1.0.0+build.5> -> a:b =1.0.0 locked exact 1.0.0+build.5
+wasi:io/poll@0.2.0 -> wasi:io/poll =0.2.0 interface 0.2.0
+i1 -> i1 * interface
+@1.0.0 ->  =1.0.0 interface 1.0.0
+i@1.0.0-99999999999999999999 -> i =1.0.0-99999999999999999999 interface 1.0.0-99999999999999999999
+i@18446744073709551615.0.0 -> i =18446744073709551615.0.0 interface 18446744073709551615.0.0
+i@1.0.0+a -> i =1.0.0 interface 1.0.0+a
+unlocked-dep -> unlocked-dep * interface
+Locked-dep=<a:b> -> Locked-dep=<a:b> * interface
+ locked-dep=<a:b> ->  locked-dep=<a:b> * interface
+A <b> -> A <b> * interface
+";
 
 /// Names of dependencies whose package is not well written, each with what is wanted, and where.
-const PACKAGES: [(&str, &str); 24] = [
-    ("", "label at 0"),
-    ("unlocked-dep=", "`<` at 13"),
-    ("unlocked-dep=a:b", "`<` at 13"),
-    ("unlocked-dep=<", "label at 14"),
-    ("unlocked-dep=<>", "label at 14"),
-    ("unlocked-dep=<a", "`:` at 15"),
-    ("unlocked-dep=<a>", "`:` at 15"),
-    ("unlocked-dep=<a:", "label at 16"),
-    ("unlocked-dep=<a:>", "label at 16"),
-    ("unlocked-dep=<:b>", "label at 14"),
-    ("unlocked-dep=<a:b", "`>` at 17"),
-    ("unlocked-dep=<a:b>x", "end at 18"),
-    ("unlocked-dep=<a:b>>", "end at 18"),
-    ("unlocked-dep=<<a:b>>", "label at 14"),
-    ("unlocked-dep=<a:b>,integrity=<x>", "end at 18"),
-    ("unlocked-dep=<a_b:c>", "`:` at 15"),
-    ("unlocked-dep=<A:b>", "label at 14"),
-    ("unlocked-dep=<aB:b>", "`:` at 15"),
-    ("unlocked-dep=<a-:b>", "`:` at 15"),
-    ("unlocked-dep=<a--b:c>", "`:` at 15"),
-    ("unlocked-dep=<a-1:b>", "`:` at 15"),
-    ("unlocked-dep=<1a:b>", "label at 14"),
-    ("unlocked-dep=<a:b:c>", "`>` at 17"),
-    ("unlocked-dep=<a:b/c>", "`>` at 17"),
-];
+const PACKAGES: &str = "\
+unlocked-dep= -> `<` at 13
+unlocked-dep=a:b -> `<` at 13
+unlocked-dep=< -> label at 14
+unlocked-dep=<> -> label at 14
+unlocked-dep=<a -> `:` at 15
+unlocked-dep=<a> -> `:` at 15
+unlocked-dep=<a: -> label at 16
+unlocked-dep=<a:> -> label at 16
+unlocked-dep=<:b> -> label at 14
+unlocked-dep=<a:b -> `>` at 17
+unlocked-dep=<a:b>x -> end at 18
+unlocked-dep=<a:b>> -> end at 18
+unlocked-dep=<<a:b>> -> label at 14
+unlocked-dep=<a:b>,integrity=<x> -> end at 18
+unlocked-dep=<a_b:c> -> `:` at 15
+unlocked-dep=<A:b> -> label at 14
+unlocked-dep=<aB:b> -> `:` at 15
+unlocked-dep=<a-:b> -> `:` at 15
+unlocked-dep=<a--b:c> -> `:` at 15
+unlocked-dep=<a-1:b> -> `:` at 15
+unlocked-dep=<1a:b> -> label at 14
+unlocked-dep=<a:b:c> -> `>` at 17
+unlocked-dep=<a:b/c> -> `>` at 17
+ -> label at 0
+";
 
 /// Names of dependencies whose requirement is not well written.
-const REQUIREMENTS: [(&str, &str); 25] = [
-    ("unlocked-dep=<a:b@", "`{` at 18"),
-    ("unlocked-dep=<foo:bar@1.0.0>", "`{` at 22"),
-    ("unlocked-dep=<a:b@*", "`>` at 19"),
-    ("unlocked-dep=<a:b@**>", "`>` at 19"),
-    ("unlocked-dep=<a:b@*@*>", "`>` at 19"),
-    ("unlocked-dep=<a:b@{>", "`>=` at 19"),
-    ("unlocked-dep=<a:b@{x}>", "`>=` at 19"),
-    ("unlocked-dep=<a:b@{}>", "`>=` at 19"),
-    ("unlocked-dep=<a:b@{=1.0.0}>", "`>=` at 19"),
-    ("unlocked-dep=<a:b@{>=}>", "version at 21"),
-    ("unlocked-dep=<a:b@{>=1.0}>", "version at 21"),
-    ("unlocked-dep=<a:b@{>=01.0.0}>", "version at 21"),
-    ("unlocked-dep=<a:b@{<}>", "version at 20"),
-    ("unlocked-dep=<a:b@{>=1.0.0x}>", "`}` at 26"),
-    ("unlocked-dep=<a:b@{>=1.0.00}>", "`}` at 26"),
-    (
-        "unlocked-dep=<a:b@{>=1.0.18446744073709551616}>",
-        "`}` at 44",
-    ),
-    ("unlocked-dep=<a:b@{>=1.0.0-}>", "`}` at 26"),
-    ("unlocked-dep=<a:b@{>=1.0.0-01}>", "`}` at 28"),
-    ("unlocked-dep=<a:b@{>=1.0.0-a..b}>", "`}` at 28"),
-    ("unlocked-dep=<a:b@{>=1.0.0+}>", "`}` at 26"),
-    ("unlocked-dep=<a:b@{>=1.0.0 }>", "`<` at 27"),
-    ("unlocked-dep=<a:b@{>=1.0.0  <2.0.0}>", "`<` at 27"),
-    ("unlocked-dep=<a:b@{>=1.0.0 <2.0.0>", "`}` at 33"),
-    ("unlocked-dep=<a:b@{<2.0.0 >=1.0.0}>", "`}` at 25"),
-    ("unlocked-dep=<a:b@{>=1.0.0}", "`>` at 27"),
-];
+const REQUIREMENTS: &str = "\
+unlocked-dep=<a:b@ -> `{` at 18
+unlocked-dep=<foo:bar@1.0.0> -> `{` at 22
+unlocked-dep=<a:b@* -> `>` at 19
+unlocked-dep=<a:b@**> -> `>` at 19
+unlocked-dep=<a:b@*@*> -> `>` at 19
+unlocked-dep=<a:b@{> -> `>=` at 19
+unlocked-dep=<a:b@{x}> -> `>=` at 19
+unlocked-dep=<a:b@{}> -> `>=` at 19
+unlocked-dep=<a:b@{=1.0.0}> -> `>=` at 19
+unlocked-dep=<a:b@{>=}> -> version at 21
+unlocked-dep=<a:b@{>=1.0}> -> version at 21
+unlocked-dep=<a:b@{>=01.0.0}> -> version at 21
+unlocked-dep=<a:b@{<}> -> version at 20
+unlocked-dep=<a:b@{>=1.0.0x}> -> `}` at 26
+unlocked-dep=<a:b@{>=1.0.00}> -> `}` at 26
+unlocked-dep=<a:b@{>=1.0.18446744073709551616}> -> `}` at 44
+unlocked-dep=<a:b@{>=1.0.0-}> -> `}` at 26
+unlocked-dep=<a:b@{>=1.0.0-01}> -> `}` at 28
+unlocked-dep=<a:b@{>=1.0.0-a..b}> -> `}` at 28
+unlocked-dep=<a:b@{>=1.0.0+}> -> `}` at 26
+unlocked-dep=<a:b@{>=1.0.0 }> -> `<` at 27
+unlocked-dep=<a:b@{>=1.0.0  <2.0.0}> -> `<` at 27
+unlocked-dep=<a:b@{>=1.0.0 <2.0.0> -> `}` at 33
+unlocked-dep=<a:b@{<2.0.0 >=1.0.0}> -> `}` at 25
+unlocked-dep=<a:b@{>=1.0.0} -> `>` at 27
+";
 
 /// Names of locked packages and of interfaces that are not well written.
-const OTHERS: [(&str, &str); 20] = [
-    ("locked-dep=", "`<` at 11"),
-    ("locked-dep=<a:b", "`>` at 15"),
-    ("locked-dep=<a:b@>", "version at 16"),
-    ("locked-dep=<a:b@*>", "version at 16"),
-    ("locked-dep=<a:b@1.0.0", "`>` at 21"),
-    ("locked-dep=<a:b@1.0.0@2.0.0>", "`>` at 21"),
-    ("locked-dep=<a:b@1.0.0>x", "end at 22"),
-    ("locked-dep=<a:b>,x", "end at 16"),
-    ("locked-dep=<a:b>,integrity=<>", "end at 16"),
-    ("locked-dep=<a:b>,integrity=<x", "`>` at 29"),
-    ("locked-dep=<a:b>,integrity=<", "`>` at 28"),
-    ("locked-dep=<a:b>,integrity=<x>>", "end at 30"),
-    ("i@", "version at 2"),
-    ("i@v1.0.0", "version at 2"),
-    ("i@@1.0.0", "version at 2"),
-    ("@", "version at 1"),
-    ("i@18446744073709551616.0.0", "version at 2"),
-    ("i@1.0.0x", "end at 7"),
-    ("i@1.0.0@2.0.0", "end at 7"),
-    ("i@1.0.0 ", "end at 7"),
-];
+const OTHERS: &str = "\
+locked-dep= -> `<` at 11
+locked-dep=<a:b -> `>` at 15
+locked-dep=<a:b@> -> version at 16
+locked-dep=<a:b@*> -> version at 16
+locked-dep=<a:b@1.0.0 -> `>` at 21
+locked-dep=<a:b@1.0.0@2.0.0> -> `>` at 21
+locked-dep=<a:b@1.0.0>x -> end at 22
+locked-dep=<a:b>,x -> end at 16
+locked-dep=<a:b>,integrity=<> -> end at 16
+locked-dep=<a:b>,integrity=<x -> `>` at 29
+locked-dep=<a:b>,integrity=< -> `>` at 28
+locked-dep=<a:b>,integrity=<x>> -> end at 30
+i@ -> version at 2
+i@v1.0.0 -> version at 2
+i@@1.0.0 -> version at 2
+@ -> version at 1
+i@18446744073709551616.0.0 -> version at 2
+i@1.0.0x -> end at 7
+i@1.0.0@2.0.0 -> end at 7
+i@1.0.0  -> end at 7
+";
 
 /// The digest of `abc`.
 const DIGITS: &str = "ba7816bf8f01cfea414140de5dae2223b00361a396177a9cb410ff61f20015ad";
@@ -198,11 +171,14 @@ fn dependency_answer(alloc: Global, text: &str) -> Result<String, Fail> {
     }
 }
 
-/// The first name of a table that has another answer.
-fn wrong<'a>(alloc: Global, names: &'a [(&'a str, &'a str)]) -> Result<Option<&'a str>, Fail> {
-    for (name, wanted) in names {
-        if answer(alloc, name)?.as_str() != *wanted {
-            return Ok(Some(*name));
+/// The first line of a table whose name has another answer.
+fn wrong<'a>(alloc: Global, table: &'a str) -> Result<Option<&'a str>, Fail> {
+    for line in table.lines() {
+        let Some((name, wanted)) = line.split_once(" -> ") else {
+            return Ok(Some(line));
+        };
+        if answer(alloc, name)?.as_str() != wanted {
+            return Ok(Some(line));
         }
     }
     Ok(None)
@@ -210,15 +186,15 @@ fn wrong<'a>(alloc: Global, names: &'a [(&'a str, &'a str)]) -> Result<Option<&'
 
 #[test]
 fn names_ask_for_what_the_grammar_says(rt: HostRuntime) -> Result<(), Fail> {
-    assert_eq!(rt; wrong(rt.alloc(), &GOOD)?, None);
+    assert_eq!(rt; wrong(rt.alloc(), GOOD)?, None);
     Ok(())
 }
 
 #[test]
 fn refusals_tell_where_a_name_ends(rt: HostRuntime) -> Result<(), Fail> {
-    assert_eq!(rt; wrong(rt.alloc(), &PACKAGES)?, None);
-    assert_eq!(rt; wrong(rt.alloc(), &REQUIREMENTS)?, None);
-    assert_eq!(rt; wrong(rt.alloc(), &OTHERS)?, None);
+    assert_eq!(rt; wrong(rt.alloc(), PACKAGES)?, None);
+    assert_eq!(rt; wrong(rt.alloc(), REQUIREMENTS)?, None);
+    assert_eq!(rt; wrong(rt.alloc(), OTHERS)?, None);
     Ok(())
 }
 

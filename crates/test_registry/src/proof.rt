@@ -8,7 +8,7 @@ use warg_hash::{AnyHash, LogId, PackageName, RecordId};
 use warg_proof::{LogBundle, LogLeaf, MapBundle, MapLeaf, ProofFault, log_root};
 
 /// The entries of the reference tree.
-const ENTRIES: [&[u8]; 8] = [
+pub const ENTRIES: [&[u8]; 8] = [
     b"",
     b"\x00",
     b"\x10",
@@ -51,7 +51,7 @@ const ALL: [(u8, u64); 15] = [
 ];
 
 /// The root of the first entries of the reference tree.
-fn root(alloc: Global, length: u64) -> Result<AnyHash, Fail> {
+pub fn root(alloc: Global, length: u64) -> Result<AnyHash, Fail> {
     let text = ROOTS
         .get((length as usize).wrapping_sub(1))
         .ok_or("a length from 1 to 8")?;
@@ -85,6 +85,17 @@ fn count(length: usize) -> Result<[u8; 4], Fail> {
     Ok(count.to_be_bytes())
 }
 
+/// Where the hash of a node stands among those of the tree.
+fn place_among_all(level: u8, place: u64) -> usize {
+    let place = place as usize;
+    match level {
+        0 => place,
+        1 => place.wrapping_add(8),
+        2 => place.wrapping_add(12),
+        _ => place.wrapping_add(14),
+    }
+}
+
 /// A count and pairs of numbers.
 fn push_pairs(bytes: &mut Vec<u8>, pairs: &[(u64, u64)]) -> Result<(), Fail> {
     bytes.extend_from_slice(&count(pairs.len())?)?;
@@ -96,7 +107,7 @@ fn push_pairs(bytes: &mut Vec<u8>, pairs: &[(u64, u64)]) -> Result<(), Fail> {
 }
 
 /// The bytes of a bundle of some nodes of the reference tree, in the order given, and of pairs of numbers.
-fn bundle(
+pub fn bundle(
     alloc: Global,
     places: &[(u8, u64)],
     consistencies: &[(u64, u64)],
@@ -105,14 +116,13 @@ fn bundle(
     let hashes = tree(alloc)?;
     let mut bytes = vec![in alloc; 0]?;
     bytes.extend_from_slice(&count(places.len())?)?;
-    for place in places {
-        let at = ALL
-            .iter()
-            .position(|all| *all == *place)
+    for (level, place) in places {
+        let hash = hashes
+            .get(place_among_all(*level, *place))
             .ok_or("a node of the tree")?;
-        bytes.push(place.0)?;
-        bytes.extend_from_slice(&place.1.to_be_bytes())?;
-        bytes.extend_from_slice(hashes.get(at).ok_or("a hash of the tree")?)?;
+        bytes.push(*level)?;
+        bytes.extend_from_slice(&place.to_be_bytes())?;
+        bytes.extend_from_slice(hash)?;
     }
     push_pairs(&mut bytes, consistencies)?;
     push_pairs(&mut bytes, inclusions)?;
@@ -146,50 +156,58 @@ fn continued(
     Ok(proofs.consistency(asked.0, asked.1, &old_root, &new_root))
 }
 
-#[test]
-fn each_entry_of_the_reference_tree_is_proved_at_each_length(rt: HostRuntime) -> Result<(), Fail> {
+/// The first entry, index and length of the reference tree for which the answer is wrong.
+fn wrong_inclusion(alloc: Global) -> Result<Option<(u64, u64, u64)>, Fail> {
     for length in 1..=8u64 {
         for index in 0..length {
             for (at, entry) in (0..8u64).zip(ENTRIES.iter()) {
-                let judged = included(rt.alloc(), &ALL, (length, index), index, entry)?;
-                assert_eq!(rt;
-                    judged.is_ok(),
-                    at == index,
-                    "entry {at} at {index} of {length}"
-                );
+                let judged = included(alloc, &ALL, (length, index), index, entry)?;
+                if judged.is_ok() != (at == index) {
+                    return Ok(Some((at, index, length)));
+                }
             }
         }
     }
+    Ok(None)
+}
+
+#[test]
+fn each_entry_of_the_reference_tree_is_proved_at_each_length(rt: HostRuntime) -> Result<(), Fail> {
+    assert_eq!(rt; wrong_inclusion(rt.alloc())?, None);
     Ok(())
+}
+
+/// The first length, old length and new length of the reference tree for which the answer is wrong.
+fn wrong_consistency(alloc: Global) -> Result<Option<(u64, u64, u64)>, Fail> {
+    for new in 1..=8u64 {
+        for old in 1..=new {
+            for length in 1..=8u64 {
+                let judged = continued(alloc, &ALL, (old, new), length)?;
+                if judged.is_ok() != (length == old) {
+                    return Ok(Some((length, old, new)));
+                }
+            }
+        }
+    }
+    Ok(None)
 }
 
 #[test]
 fn each_length_of_the_reference_tree_continues_each_shorter_one(
     rt: HostRuntime,
 ) -> Result<(), Fail> {
-    for new in 1..=8u64 {
-        for old in 1..=new {
-            for length in 1..=8u64 {
-                let judged = continued(rt.alloc(), &ALL, (old, new), length)?;
-                assert_eq!(rt;
-                    judged.is_ok(),
-                    length == old,
-                    "{length} for {old} to {new}"
-                );
-            }
-        }
-    }
+    assert_eq!(rt; wrong_consistency(rt.alloc())?, None);
     Ok(())
 }
 
 /// The nodes that the standard's example of an inclusion needs.
-const INCLUSION: [(u8, u64); 4] = [(0, 1), (0, 6), (1, 1), (1, 2)];
+pub const INCLUSION: [(u8, u64); 4] = [(0, 1), (0, 6), (1, 1), (1, 2)];
 
 /// The nodes that the standard's example of a consistency needs, but for one.
 const LACKING: [(u8, u64); 4] = [(0, 3), (0, 6), (1, 0), (1, 2)];
 
 /// The nodes that the standard's example of a consistency needs.
-const CONSISTENCY: [(u8, u64); 5] = [(0, 2), (0, 3), (0, 6), (1, 0), (1, 2)];
+pub const CONSISTENCY: [(u8, u64); 5] = [(0, 2), (0, 3), (0, 6), (1, 0), (1, 2)];
 
 #[test]
 fn the_paths_of_the_standards_example_need_these_nodes(rt: HostRuntime) -> Result<(), Fail> {
@@ -395,34 +413,26 @@ const LOG_ROOTS: [&str; 6] = [
     "sha256:91b369e84e12682fb7c3baf213919d799f8c9d8ad2310ca5e498bcee2a63fa91",
 ];
 
+/// The texts of the records of these logs.
+const RECORDS: [&str; 5] = ["record 0", "record 1", "record 2", "record 3", "record 4"];
+
 /// The text of the root of a log of the first records.
-fn root_text(alloc: Global, records: &[&str]) -> Result<String, Fail> {
+fn root_text(alloc: Global, length: usize) -> Result<String, Fail> {
     let mut leaves = Vec::new(alloc);
-    for record in records {
+    for record in RECORDS.iter().take(length) {
         leaves.push(LogLeaf {
             log_id: LogId::operator_log(),
             record_id: RecordId::of(record.as_bytes()),
         })?;
     }
-    Ok(format!(in alloc; "{}", log_root(alloc, &leaves)?)?)
+    let root = log_root(alloc, &leaves)?;
+    Ok(format!(in alloc; "{root}")?)
 }
 
 #[test]
 fn roots_of_logs_are_those_of_another_program(rt: HostRuntime) -> Result<(), Fail> {
-    let alloc = rt.alloc();
-    assert_eq!(rt; root_text(alloc, &[])?.as_str(), LOG_ROOTS[0]);
-    assert_eq!(rt; root_text(alloc, &["record 0"])?.as_str(), LOG_ROOTS[1]);
-    assert_eq!(rt;
-        root_text(alloc, &["record 0", "record 1"])?.as_str(),
-        LOG_ROOTS[2]
-    );
-    assert_eq!(rt;
-        root_text(alloc, &["record 0", "record 1", "record 2"])?.as_str(),
-        LOG_ROOTS[3]
-    );
-    let four = ["record 0", "record 1", "record 2", "record 3"];
-    assert_eq!(rt; root_text(alloc, &four)?.as_str(), LOG_ROOTS[4]);
-    let five = ["record 0", "record 1", "record 2", "record 3", "record 4"];
-    assert_eq!(rt; root_text(alloc, &five)?.as_str(), LOG_ROOTS[5]);
+    for (length, root) in LOG_ROOTS.iter().enumerate() {
+        assert_eq!(rt; root_text(rt.alloc(), length)?.as_str(), *root);
+    }
     Ok(())
 }

@@ -2,7 +2,7 @@
 
 use std::alloc::Global;
 use std::test::Fail;
-use warg_hash::NameError;
+use warg_hash::{NameError, RecordId};
 use warg_record::{
     Envelope, EnvelopeError, LogEntry, OperatorEntry, PackageEntry, PackageRecord, PublicKey,
     Record, Signature,
@@ -19,6 +19,14 @@ const RELEASE_AND_YANK: &[u8] =
 const KEYS_AND_NAMESPACES: &[u8] =
     b"\x0aGsha256:e3b0c44298fc1c149afbf4c8996fb92427ae41e4649b934ca495991b7852b855\x1a\x04\x08\x01\x10\x05\x22\x12\x12\x10\x0a\x06k:AA==\x12\x06commit\x22S\x1aQ\x0aGsha256:e3b0c44298fc1c149afbf4c8996fb92427ae41e4649b934ca495991b7852b855\x12\x06commit\x22\x05\x22\x03\x0a\x01a\x22\x08\x2a\x06\x0a\x01b\x12\x01r";
 
+/// A record with each field, and an entry of each kind.
+const WHOLE: &[u8] = b"\
+    \x0aGsha256:e3b0c44298fc1c149afbf4c8996fb92427ae41e4649b934ca495991b7852b855\x10\x03\x1a\x05\x08\xac\x02\x10\
+    \x05\x22\x12\x0a\x10\x0a\x06k:AA==\x12\x06sha256\x22\x19\x12\x17\x0a\x06k:BA==\x12\x07release\x12\x04yank\
+    \x22Q\x1aO\x0aGsha256:4efe654bc30051152bd60218d04e883ec1e6b92f39f8623b4caa049a90f71205\x12\x04yank\x22R\x22P\
+    \x0a\x051.0.0\x12Gsha256:92521fc3cbd964bdc9f584a991b89fddaa5754ed1cc96d6d42445338669c1305\x22\x09*\x07\x0a\
+    \x051.0.0";
+
 /// Whether a record's message is what is written of the record that is read from it.
 fn is_rewritten<E: LogEntry>(alloc: Global, contents: &[u8]) -> Result<bool, Fail> {
     let env: Envelope<Record<E>> = Envelope::read(alloc, contents, ID, "k:BA==")?;
@@ -30,6 +38,46 @@ fn records_are_read_and_written_again(rt: HostRuntime) -> Result<(), Fail> {
     assert!(rt; is_rewritten::<PackageEntry>(rt.alloc(), FIRST)?);
     assert!(rt; is_rewritten::<PackageEntry>(rt.alloc(), RELEASE_AND_YANK)?);
     assert!(rt; is_rewritten::<OperatorEntry>(rt.alloc(), KEYS_AND_NAMESPACES)?);
+    Ok(())
+}
+
+/// What an entry is, the text of its key, and how many permissions it has.
+fn shown(entry: &PackageEntry) -> (&'static str, &str, usize) {
+    match entry {
+        PackageEntry::Init { key, .. } => ("init", key.as_str(), 0),
+        PackageEntry::GrantFlat { key, permissions } => ("grant", key.as_str(), permissions.len()),
+        PackageEntry::RevokeFlat { permissions, .. } => ("revoke", "", permissions.len()),
+        PackageEntry::Release { .. } => ("release", "", 0),
+        PackageEntry::Yank { .. } => ("yank", "", 0),
+    }
+}
+
+/// The record of the whole message.
+fn whole(alloc: Global) -> Result<PackageRecord, Fail> {
+    let env: Envelope<PackageRecord> = Envelope::read(alloc, WHOLE, ID, "k:BA==")?;
+    Ok(env.rec)
+}
+
+#[test]
+fn a_whole_record_has_each_field_of_its_bytes(rt: HostRuntime) -> Result<(), Fail> {
+    let rec = whole(rt.alloc())?;
+    assert!(rt; is_rewritten::<PackageEntry>(rt.alloc(), WHOLE)?);
+    assert_eq!(rt; rec.prev, Some(RecordId::of(b"")));
+    assert_eq!(rt;
+        (rec.version, rec.time.seconds, rec.time.nanos),
+        (3, 300, 5)
+    );
+    let entries = [
+        ("init", "k:AA==", 0),
+        ("grant", "k:BA==", 2),
+        ("revoke", "", 1),
+        ("release", "", 0),
+        ("yank", "", 0),
+    ];
+    assert_eq!(rt; rec.entries.len(), entries.len());
+    for (entry, wanted) in rec.entries.as_slice().iter().zip(entries.iter()) {
+        assert_eq!(rt; shown(entry), *wanted);
+    }
     Ok(())
 }
 
