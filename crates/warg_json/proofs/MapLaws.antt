@@ -1,10 +1,8 @@
 -- Laws of reading objects as maps.
-use Rattle.std.proofs.Common.{◌≡◌, ◌∷◌, [], List, ℕ, Bool, true, false, cond, refl, sym, ◌∙◌, ap, inl, inr}
+use Rattle.std.proofs.Common.{◌≡◌, ◌∷◌, [], List, ℕ, Bool, true, false, cond, refl, sym, ◌∙◌, ap}
 use Rattle.std.specs.Prelude.{Ok, Err, bytes_eq, map}
-use Rattle.std.proofs.lemmas.Bool.{cases_Bool}
 use Rattle.indexmap.specs.IndexMap.{insert_entry}
 use Rattle.serde_json.specs.Data.{Data, Members, no_members, member as member_of}
-use Rattle.warg_values.specs.Reading.{◌>>=◌}
 use Rattle.warg_exchange.specs.Body.{Meaning, BodyFault, each_member, Unexpected, NoHash}
 use Rattle.warg_json.specs.Answers.{BodyFails}
 use Rattle.warg_json.specs.declared.error.BodyError.{BodyError}

@@ -1,5 +1,5 @@
-use Rattle.std.proofs.Common.{◌≡◌, ◌∷◌, [], List, ℕ, Ok, sym, ◌∙◌, ap, subst}
-use Rattle.std.specs.Prelude.{String, string_bytes, bytes_eq}
+use Rattle.std.proofs.Common.{◌≡◌, [], List, Ok, sym, ◌∙◌, ap, subst}
+use Rattle.std.specs.Prelude.{String, string_bytes}
 use Rattle.std.specs.Global.{Global}
 use Rattle.std.specs.Map.Iter.{deref_pair}
 use Rattle.std.proofs.lemmas.Map.Iter.{rest_more, rest_all}
@@ -7,7 +7,6 @@ use Rattle.std.proofs.lemmas.Result.{err_from_is_err_and}
 use Rattle.serde_json.specs.declared.value.Value.{Value}
 use Rattle.serde_json.specs.Data.{member as member_of}
 use Rattle.serde_json.specs.View.{view, members_view}
-use Rattle.indexmap.specs.IndexMap.{insert_entry}
 use Rattle.warg_exchange.specs.Body.{each_member, digest_in_text}
 use Rattle.warg_json.specs.Answers.{BodyFails}
 use Rattle.warg_json.proofs.MapLaws.{seen, seen_insert, key_ends, value_ends, member_goes_on, members_done}

@@ -1,4 +1,4 @@
-use Rattle.std.proofs.Common.{◌≡◌, ◌∷◌, [], List, ℕ, Ok, sym, ◌∙◌, ap, subst}
+use Rattle.std.proofs.Common.{◌≡◌, [], List, Ok, sym, ◌∙◌, ap, subst}
 use Rattle.std.specs.Prelude.{String, string_bytes, bytes_eq}
 use Rattle.std.specs.Global.{Global}
 use Rattle.std.specs.Map.Iter.{deref_pair}
