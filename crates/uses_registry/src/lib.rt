@@ -1,6 +1,7 @@
 //! Callers of the registry's crates, each proved from the crates' public contracts alone.
 #![tactic(auto)]
 
+pub mod api;
 pub mod body;
 pub mod exchange;
 pub mod hash;

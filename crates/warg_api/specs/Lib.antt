@@ -1,0 +1,5 @@
+pub mod Link
+pub mod Answers
+pub mod Asking
+pub mod Errors
+pub mod Calls

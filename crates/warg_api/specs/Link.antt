@@ -1,0 +1,31 @@
+-- What a link was asked.
+use Rattle.std.specs.Prelude.{◌≡◌, ℕ, List, [], ◌∷◌, ◌++◌, Option, Some, None}
+use Rattle.warg_exchange.specs.declared.exchange.Request.{Request}
+use Rattle.warg_exchange.specs.declared.exchange.Reply.{Reply}
+
+-- a request, with its reply where one came
+pub record Asked : Type 0 where
+  pub request : Request
+  pub reply : Option Reply
+
+abbrev pub answered : Request → Reply → Asked
+answered request reply = record { request = request; reply = Some reply }
+
+abbrev pub unanswered : Request → Asked
+unanswered request = record { request = request; reply = None }
+
+-- recorded replies: those that are left, what was asked, and how often there was no reply
+pub record Recorded : Type 0 where
+  pub left : List Reply
+  pub asked : List Request
+  pub faults : ℕ
+
+-- the first reply that is left is given, or none is left
+abbrev pub IsTaken : List Reply → Option Reply → List Reply → Type 0
+IsTaken old (Some reply) new = old ≡ reply ∷ new
+IsTaken old None new = (old ≡ []) × (new ≡ [])
+
+-- what recorded replies become by a request, whatever it asks
+abbrev pub IsRecordedStep : Recorded → Asked → Recorded → Type 0
+IsRecordedStep old asked new =
+    (new.asked ≡ old.asked ++ asked.request ∷ []) × IsTaken old.left asked.reply new.left
