@@ -9,7 +9,7 @@ use Rattle.serde_json.specs.Data.{Data, Members, no_members, member, put, string
 use Rattle.serde_json.specs.Written.{has_float, members_have_float, items_have_float}
 use Rattle.serde_json.specs.View.{items_of}
 use Rattle.warg_hash.specs.Hash.{hash_text}
-use Rattle.warg_exchange.specs.Requests.{token_data, tokens_data, logs_data, ids_data}
+use Rattle.warg_exchange.specs.Requests.{token_data, logs_data, ids_data}
 
 or_none : (a b : Bool) → (a || b) ≡ false → (a ≡ false) × (b ≡ false)
 or_none false b e = (refl, e)

@@ -1,5 +1,5 @@
 -- Who asks, by a client.
-use Rattle.std.specs.Prelude.{ℕ, List, codes, Option, IfSome}
+use Rattle.std.specs.Prelude.{ℕ, List, Option, IfSome}
 use Rattle.http_header.specs.FieldValue.{IsFieldValue}
 use Rattle.url.specs.Parts.{Parts, serialize}
 use Rattle.warg_exchange.specs.Requests.{Asker, bearer}

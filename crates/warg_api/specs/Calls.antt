@@ -1,5 +1,5 @@
 -- What a call asks of its link, and why it gives no value.
-use Rattle.std.specs.Prelude.{◌≡◌, ◌⊎◌, Result, Ok, Err, Some, None}
+use Rattle.std.specs.Prelude.{◌≡◌, ◌⊎◌, Err}
 use Rattle.serde_json.specs.Data.{Data}
 use Rattle.warg_exchange.specs.declared.exchange.Request.{Request}
 use Rattle.warg_exchange.specs.declared.exchange.Reply.{Reply}

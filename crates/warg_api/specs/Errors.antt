@@ -1,5 +1,5 @@
 -- How calls tell what registries answer in place of what was asked.
-use Rattle.std.specs.Prelude.{ℕ, List, codes, Option, Some, None}
+use Rattle.std.specs.Prelude.{codes, Option, Some, None}
 use Rattle.http_header.specs.FieldValue.{FieldValue}
 use Rattle.warg_exchange.specs.declared.exchange.Reply.{Reply}
 use Rattle.warg_exchange.specs.declared.service.ServiceError.{ServiceError}

@@ -1,4 +1,4 @@
-use Rattle.std.proofs.Common.{◌≡◌, false, codes, sym, ◌∙◌, ap}
+use Rattle.std.proofs.Common.{◌≡◌, false, codes, ◌∙◌, ap}
 use Rattle.std.specs.Prelude.{option_copied}
 use Rattle.serde_json.specs.View.{view}
 use Rattle.serde_json.specs.Written.{has_float}
