@@ -2,17 +2,11 @@
 #![tactic(auto)]
 
 #[cfg(test)]
-mod body;
-#[cfg(test)]
 mod hash;
 #[cfg(test)]
 mod log;
 #[cfg(test)]
 mod names;
-#[cfg(test)]
-mod proof;
-#[cfg(test)]
-mod prover;
 #[cfg(test)]
 mod record;
 #[cfg(test)]
