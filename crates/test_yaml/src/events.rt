@@ -677,7 +677,7 @@ const SCALARS: [(&str, &str); 32] = [
 ];
 
 /// Doubtful corners of flows, keys and documents, with the events or the refusal of each text.
-const STRUCTURE: [(&str, &str); 38] = [
+const STRUCTURE: [(&str, &str); 44] = [
     ("a # c\n b", ":a !Form 2:1"),
     ("[a # c\n b]", "[ :a !Form 2:1"),
     ("a: b\n  c: d", "{ :a :b !NotCarried 2:2"),
@@ -704,6 +704,12 @@ const STRUCTURE: [(&str, &str); 38] = [
     ("a: # c\n- b", "{ :a [ :b ] }"),
     ("- a:\n  - b", "[ { :a [ :b ] } ]"),
     ("---", ":~"),
+    ("---\ta", "!NotCarried 1:3"),
+    ("--- \ta", "!NotCarried 1:4"),
+    ("---\t\na: 1", "{ :a :1 }"),
+    ("a\n...\t", ":a"),
+    ("---\u{1}", "!Form 1:3"),
+    ("[\n---: a]", "[ :--- !NotCarried 2:3"),
     ("...", "!Form 1:0"),
     ("a\n...\nb", ":a !NotCarried 3:0"),
     ("a\n...\n...", ":a !Form 3:0"),

@@ -81,11 +81,11 @@ step_moves : (m : Mode) (k : List Frame) (a : At) → Consistent m k a → Moves
 unfolding step_at done_at
 step_moves Begin k a consistent = start_moves k (length k) (top_of k) a consistent.nest consistent.mode_matches
 step_moves Document k a consistent = moves_document k a consistent.mode_matches consistent.nest
-step_moves (Root true) k a consistent = moves_explicit k (length k) a consistent.mode_matches consistent.nest
+step_moves (Root true) k a consistent = moves_explicit k (length k) a consistent.mode_matches.0 consistent.nest consistent.mode_matches.1
 step_moves (Root false) k a consistent = root_moves k (length k) (top_of k) a consistent.nest consistent.mode_matches.0
 step_moves (Item col) k a consistent = moves_item k (length k) col a consistent.mode_matches consistent.nest
 step_moves Key k a consistent = moves_keyed k a consistent.mode_matches consistent.nest
-step_moves (Value col) k a consistent = moves_value k (length k) col a consistent.mode_matches consistent.nest
+step_moves (Value col) k a consistent = moves_value k (length k) col a consistent.mode_matches.0 consistent.nest consistent.mode_matches.1
 step_moves Open k a consistent =
     elim ((innermost k).either) [
       | inl none ↦ absurd (off (sym (ap (in_flow false) none) ∙ consistent.mode_matches))

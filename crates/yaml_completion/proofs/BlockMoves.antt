@@ -1,7 +1,7 @@
 -- Steps outside flows, to a place where something else stands.
 use Rattle.std.proofs.Common.{◌≡◌, ℕ, ◌+◌, List, [], ◌∷◌, ◌++◌, Bool, true, false, ◌||◌, eqb, ltb, Option, Some, None, Result, Ok, refl, sym, ap, ◌∙◌, inl, inr, arith}
-use Rattle.std.proofs.lemmas.Bool.{eqb-true, le-leb}
-use Rattle.yaml_scan.specs.Bytes.{is_gap, spaces, whites}
+use Rattle.std.proofs.lemmas.Bool.{eqb-true, eq-eqb, ne_eqb, le-leb}
+use Rattle.yaml_scan.specs.Bytes.{is_gap, is_control, ends_mark, spaces, whites}
 use Rattle.yaml_scan.specs.Lines.{ends}
 use Rattle.yaml_scan.specs.Block.{is_deeper}
 use Rattle.yaml_small.specs.declared.event.Event.{Event}
@@ -15,16 +15,16 @@ use Rattle.yaml_small.specs.Step.{Transition, list_start, map_start, inline_at, 
 use Rattle.yaml_small.specs.Stream.{changed}
 use Rattle.yaml_small.proofs.Grows.{the_end}
 use Rattle.yaml_small.proofs.Runs.{popped}
-use Rattle.yaml_small.proofs.Marks.{and_parts, and_false, or_true, or_parts, no_key, opener_no_dash, seq_opens, map_opens}
+use Rattle.yaml_small.proofs.Marks.{and_parts, and_false, or_true, or_parts, both, no_key, opener_no_dash, seq_opens, map_opens}
 use Rattle.yaml_completion.proofs.Along.{stays, ahead, further, is_solid, not_ended, solid_white}
 use Rattle.yaml_completion.proofs.Contents.{place}
 use Rattle.yaml_completion.proofs.ScalarTokens.{scalar_token_place, key_place, key_ok, same_key}
-use Rattle.yaml_completion.proofs.Scans.{begins_low, same_begins}
+use Rattle.yaml_completion.proofs.Scans.{begins_low, low_control, same_begins}
 use Rattle.yaml_completion.proofs.Blocks.{Alike, Next, ready}
 use Rattle.yaml_completion.proofs.Frames.{in_flow, nested, flow_push, nested_push}
-use Rattle.yaml_completion.proofs.Moves.{Gap, Keyed, Moves, moves_err, moves_if, moves_map, moves_ok}
+use Rattle.yaml_completion.proofs.Moves.{Gap, BehindDashes, Keyed, Moves, moves_err, moves_if, moves_map, moves_ok}
 use Rattle.yaml_completion.proofs.Leaves.{head_byte, same_mode, done_out, untied, moves_scalar_token, moves_block, moves_missing, moves_opens, moves_map_opens, moves_key}
-use Rattle.yaml_completion.proofs.Wraps.{moves_next, moves_over, gap_over, same_white, alike_seq, alike_map, alike_dash, dash_gap, alike_scalar_tokens, alike_line}
+use Rattle.yaml_completion.proofs.Wraps.{moves_next, moves_over, gap_over, dashes_over, same_white, alike_seq, alike_map, alike_dash, dash_gap, alike_scalar_tokens, alike_line}
 
 -- what stands at a block scalar's head
 head_solid : (line : List ℕ) → begins_block line ≡ true → is_solid line ≡ true
@@ -35,12 +35,20 @@ head_solid (c ∷ cs) e = from (eqb c 124) refl e
     from true is e = ap (λ (x : ℕ). is_solid (x ∷ cs)) (eqb-true c 124 is)
     from false is e = ap (λ (x : ℕ). is_solid (x ∷ cs)) (eqb-true c 62 e)
 
+head_clean : (line : List ℕ) → begins_block line ≡ true → is_control line ≡ false
+head_clean [] e = refl
+head_clean (c ∷ cs) e = from (eqb c 124) refl e
+  where
+    from : (b : Bool) → eqb c 124 ≡ b → b || eqb c 62 ≡ true → is_control (c ∷ cs) ≡ false
+    from true is e = ap (λ (x : ℕ). is_control (x ∷ cs)) (eqb-true c 124 is) ∙ low_control 124 cs refl
+    from false is e = ap (λ (x : ℕ). is_control (x ∷ cs)) (eqb-true c 62 e) ∙ low_control 62 cs refl
+
 -- a node on one line, or a block scalar
-pub inline_block : (k : List Frame) (depth : ℕ) (parent : Option ℕ) (P : At → Type 0) (a : At) → in_flow false k ≡ false → nested false k ≡ true
+pub inline_block : (k : List Frame) (depth : ℕ) (parent : Option ℕ) (P : At → Type 0) (a : At) → in_flow false k ≡ false → nested false k ≡ true → (eqb a.col 0 ≡ true → is_key a ≡ false)
     → ((c : At) → begins 91 a.line ≡ true → begins 91 c.line ≡ true → c.col ≡ a.col → P c) → ((c : At) → begins 123 a.line ≡ true → begins 123 c.line ≡ true → c.col ≡ a.col → P c)
     → ((c : At) → Alike a c → (is_key a ≡ false → is_key c ≡ false) → P c) → Moves k P (inline_at false depth parent) a
 unfolding inline_at
-inline_block k depth parent P a flow nest seq map line =
+inline_block k depth parent P a flow nest free seq map line =
     moves_if k P (λ c. begins 91 c.line) _ _ a
     (λ is.
     moves_opens depth 91 SequenceStart (λ n. Open) (λ n. InSeq false) k (λ c. P c × (begins 91 c.line ≡ true)) a is nest (rw flow refl) (flow_push false k (InSeq false)) (λ flow low. refl)
@@ -54,9 +62,9 @@ inline_block k depth parent P a flow nest seq map line =
     moves_if k (λ c. (P c × (begins 91 c.line ≡ false)) × (begins 123 c.line ≡ false)) (λ c. begins_block c.line) _ _ a
     (λ is.
     moves_block k parent (λ c. ((P c × (begins 91 c.line ≡ false)) × (begins 123 c.line ≡ false)) × (begins_block c.line ≡ true)) a flow nest
-    (λ c same col. (((line c (alike_line a c (head_solid a.line is) same col) (same_key a c same col), ap (begins 91) same ∙ no_seq), ap (begins 123) same ∙ no_map), ap begins_block same ∙ is)))
+    (λ c same col. (((line c (alike_line a c (head_solid a.line is) (head_clean a.line is) same col) (same_key a c same col), ap (begins 91) same ∙ no_seq), ap (begins 123) same ∙ no_map), ap begins_block same ∙ is)))
     (λ no_block.
-    moves_scalar_token false k (λ c. ((P c × (begins 91 c.line ≡ false)) × (begins 123 c.line ≡ false)) × (begins_block c.line ≡ false)) a flow nest
+    moves_scalar_token false k (λ c. ((P c × (begins 91 c.line ≡ false)) × (begins 123 c.line ≡ false)) × (begins_block c.line ≡ false)) a flow nest (λ out. free)
     (λ w v c is too col first same.
     let alike = alike_scalar_tokens a c (scalar_token_place false a w is) (scalar_token_place false c v too) col in
     (((line c alike (same refl), same_begins 91 c.line a.line first ∙ no_seq), same_begins 123 c.line a.line first ∙ no_map), rw (same_begins 124 c.line a.line first, same_begins 62 c.line a.line first) no_block)))))
@@ -89,7 +97,7 @@ moves_node k depth parent a flow nest =
     let there = key_place d new.0 new.1 in
     ((alike_scalar_tokens a d (key_place a old.0 old.1) there keyed.col, there.dash), keyed.key)))
     (λ none.
-    inline_block k depth parent (λ c. (Alike a c × (is_dash c.line ≡ false)) × (is_key c ≡ false)) a flow nest
+    inline_block k depth parent (λ c. (Alike a c × (is_dash c.line ≡ false)) × (is_key c ≡ false)) a flow nest (λ top. none)
     (λ c p q col. ((alike_seq a c p q col, opener_no_dash 91 c.line seq_opens q), no_key 91 c seq_opens q))
     (λ c p q col. ((alike_map a c p q col, opener_no_dash 123 c.line map_opens q), no_key 123 c map_opens q))
     (λ c alike same. ((alike, alike.dash ∙ no_dash), same none))))
@@ -133,13 +141,13 @@ moves_under k depth col a flow nest =
     (λ c next. (next, at_next (at_dash col) a c false next (and_false (eqb 0 col)) (dash_same col a c) is)) (moves_below k depth (Some col) a flow nest))
 
 -- a node on a mark's line
-moves_inline : (k : List Frame) (depth : ℕ) (parent : Option ℕ) (a : At) → in_flow false k ≡ false → nested false k ≡ true → Moves k (Alike a) (inline_at false depth parent) a
-moves_inline k depth parent a flow nest = inline_block k depth parent (Alike a) a flow nest (alike_seq a) (alike_map a) (λ c alike same. alike)
+moves_inline : (k : List Frame) (depth : ℕ) (parent : Option ℕ) (a : At) → in_flow false k ≡ false → nested false k ≡ true → eqb a.col 0 ≡ false → Moves k (Alike a) (inline_at false depth parent) a
+moves_inline k depth parent a flow nest col = inline_block k depth parent (Alike a) a flow nest (λ top. absurd (both (eqb a.col 0) top col)) (alike_seq a) (alike_map a) (λ c alike same. alike)
 
 moves_alike_inline : (k : List Frame) (depth : ℕ) (parent : Option ℕ) (a : At) → in_flow false k ≡ false → nested false k ≡ true → is_dash a.line || is_key a ≡ false → Moves k (λ c. Alike a c × (is_dash c.line || is_key c ≡ false)) (inline_at false depth parent) a
 moves_alike_inline k depth parent a flow nest good =
     let o = or_parts (is_dash a.line) (is_key a) good in
-    inline_block k depth parent (λ c. Alike a c × (is_dash c.line || is_key c ≡ false)) a flow nest
+    inline_block k depth parent (λ c. Alike a c × (is_dash c.line || is_key c ≡ false)) a flow nest (λ top. o.1)
     (λ c p q col. (alike_seq a c p q col, rw (opener_no_dash 91 c.line seq_opens q) (no_key 91 c seq_opens q)))
     (λ c p q col. (alike_map a c p q col, rw (opener_no_dash 123 c.line map_opens q) (no_key 123 c map_opens q)))
     (λ c alike same. (alike, rw (alike.dash ∙ o.0) (same o.1)))
@@ -169,23 +177,34 @@ moves_item k depth col a flow nest =
     let solid = alike.instead.other in
     ((gap_over a s c more, not_ended s.front c.line s.all solid), same_white a s c.line (solid_white c.line solid) ∙ is))))
 
-pub moves_value : (k : List Frame) (depth col : ℕ) (a : At) → in_flow false k ≡ false → nested false k ≡ true → Moves k (Gap a) (value_at depth col) a
+over_col : (a : At) → eqb a.col 0 ≡ false → eqb (over a).col 0 ≡ false
+over_col a col = ne_eqb (over a).col 0 (λ none. let zero_col : a.col ≡ 0 = omega (arith, none) in both (eqb a.col 0) (eq-eqb a.col 0 zero_col) col)
+
+pub moves_value : (k : List Frame) (depth col : ℕ) (a : At) → in_flow false k ≡ false → nested false k ≡ true → eqb a.col 0 ≡ false → Moves k (Gap a) (value_at depth col) a
 unfolding value_at
-moves_value k depth col a flow nest =
+moves_value k depth col a flow nest behind =
     moves_if k (Gap a) (λ c. ends c.line) _ _ a
     (λ is. moves_next k (Next (next_at a.later)) (λ c. Gap a c × (ends c.line ≡ true)) (under depth col) a (moves_under k depth col (next_at a.later) flow nest) (ready (next_at a.later))
     (λ c line col. (behind_line a c line col, ap ends line ∙ is)))
-    (λ more. moves_over k (Alike (over a)) (λ c. Gap a c × (ends c.line ≡ false)) (inline_at false depth (Some col)) a (moves_inline k depth (Some col) (over a) flow nest) (λ c alike. alike.instead)
+    (λ more. moves_over k (Alike (over a)) (λ c. Gap a c × (ends c.line ≡ false)) (inline_at false depth (Some col)) a (moves_inline k depth (Some col) (over a) flow nest (over_col a behind)) (λ c alike. alike.instead)
     (λ s c alike. (gap_over a s c more, not_ended s.front c.line s.all alike.instead.other)))
 
-pub moves_explicit : (k : List Frame) (depth : ℕ) (a : At) → in_flow false k ≡ false → nested false k ≡ true → Moves k (Gap a) (explicit_at depth) a
+dashes_line : (a c : At) → c.line ≡ a.line → c.col ≡ a.col → BehindDashes a c
+dashes_line a c line col = record { col = col; mark = λ mark. ap ends_mark line ∙ mark }
+
+pub moves_explicit : (k : List Frame) (depth : ℕ) (a : At) → in_flow false k ≡ false → nested false k ≡ true → eqb a.col 0 ≡ false → Moves k (BehindDashes a) (explicit_at depth) a
 unfolding explicit_at
-moves_explicit k depth a flow nest =
-    moves_if k (Gap a) (λ c. ends c.line) _ _ a
-    (λ is. moves_next k (Next (next_at a.later)) (λ c. Gap a c × (ends c.line ≡ true)) (below depth None) a (moves_below k depth None (next_at a.later) flow nest) (ready (next_at a.later))
-    (λ c line col. (behind_line a c line col, ap ends line ∙ is)))
-    (λ more. moves_over k (Alike (over a)) (λ c. Gap a c × (ends c.line ≡ false)) (inline_at false depth None) a (moves_inline k depth None (over a) flow nest) (λ c alike. alike.instead)
-    (λ s c alike. (gap_over a s c more, not_ended s.front c.line s.all alike.instead.other)))
+moves_explicit k depth a flow nest behind =
+    moves_if k (BehindDashes a) (λ c. ends c.line) _ _ a
+    (λ is. moves_next k (Next (next_at a.later)) (λ c. BehindDashes a c × (ends c.line ≡ true)) (below depth None) a (moves_below k depth None (next_at a.later) flow nest) (ready (next_at a.later))
+    (λ c line col. (dashes_line a c line col, ap ends line ∙ is)))
+    (λ more.
+    moves_if k (λ c. BehindDashes a c × (ends c.line ≡ false)) (λ c. eqb (spaces c.line) (whites c.line)) _ _ a
+    (λ is. moves_over k (Alike (over a)) (λ c. (BehindDashes a c × (ends c.line ≡ false)) × (eqb (spaces c.line) (whites c.line) ≡ true)) (inline_at false depth None) a (moves_inline k depth None (over a) flow nest (over_col a behind)) (λ c alike. alike.instead)
+    (λ s c alike.
+    let solid = alike.instead.other in
+    ((dashes_over a s c alike.clean more, not_ended s.front c.line s.all solid), same_white a s c.line (solid_white c.line solid) ∙ is)))
+    (λ tab. moves_err k _ (λ c. NotCarried) a))
 
 pub moves_key_step : (k : List Frame) (a : At) → in_flow false k ≡ false → nested false k ≡ true → Moves k (Alike a) key_step a
 unfolding key_step

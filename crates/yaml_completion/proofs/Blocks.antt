@@ -2,7 +2,7 @@
 use Rattle.std.proofs.Common.{◌≡◌, ℕ, ◌+◌, ◌⊎◌, List, [], ◌∷◌, ◌++◌, drop, map, length, Bool, true, false, not, cond, ◌&&◌, ◌||◌, eqb, leb, Option, Some, None, Ok, Err, refl, sym, ap, ◌∙◌, subst, inl, inr, arith, append-nil, length-append}
 use Rattle.std.proofs.lemmas.Bool.{cases_Bool, eqb-true, eq-eqb, ne_eqb, le-leb}
 use Rattle.std.proofs.lemmas.List.{drop_all}
-use Rattle.yaml_scan.specs.Bytes.{is_space, is_white, is_clean, spaces, whites}
+use Rattle.yaml_scan.specs.Bytes.{is_space, is_white, is_control, is_clean, spaces, whites}
 use Rattle.yaml_scan.specs.Lines.{is_over, is_passed, is_white_line, is_dashes, is_dots, ends}
 use Rattle.yaml_scan.specs.Block.{is_document_mark, is_deeper, indent_of, is_inside, block_lines, behind_block, content, all_clean, between, is_joined, together, with_end, block_text}
 use Rattle.yaml_small.specs.Places.{At, next_at, begins, at_dashes, at_dots, is_dash}
@@ -13,13 +13,15 @@ use Rattle.yaml_completion.proofs.Along.{if_true, if_false, joined, Along, Befor
 use Rattle.yaml_completion.proofs.Contents.{Instead, Ready, Reads, place, next_reads, next_end, next_passed, passed_on, last_passed, not_end}
 use Rattle.yaml_completion.proofs.ScalarTokens.{read_scalar_token, scalar_token_is}
 
--- other content at the same column, which is a dash or a mark where the first one is
+-- Other content at the same column, which is a dash or a mark where the first one is; and that one is content, no
+-- control character.
 pub record Alike (a d : At) : Type 0 where
   pub instead : Instead a d
   pub dash : is_dash d.line ≡ is_dash a.line
   pub dashes : at_dashes d ≡ at_dashes a
   pub dots : at_dots d ≡ at_dots a
   pub percent : begins 37 d.line ≡ begins 37 a.line
+  pub clean : is_control a.line ≡ false
 
 pub record Next (a d : At) : Type 0 where
   pub either : (d ≡ the_end) ⊎ Alike a d

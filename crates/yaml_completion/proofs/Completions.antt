@@ -1,6 +1,7 @@
 -- Each state has an ending.
 use Rattle.std.proofs.Common.{◌≡◌, ℕ, ◌+◌, List, [], ◌∷◌, ◌++◌, length, Bool, true, false, not, ◌&&◌, ◌==◌, Some, Ok, refl, sym, ap, ◌∙◌, subst, inl, inr, append-nil}
 use Rattle.std.proofs.lemmas.Bool.{cases_Bool}
+use Rattle.yaml_scan.specs.Bytes.{ends_mark}
 use Rattle.yaml_scan.specs.Plain.{plain_len}
 use Rattle.yaml_small.specs.declared.state.Mode.{Mode}
 use Rattle.yaml_small.specs.declared.state.Mode.TheVariants.{Begin, Document, Root, Item, Key, Value, Open, AfterKey, Done, Trailing, Last, Ended}
@@ -16,7 +17,7 @@ use Rattle.yaml_small.proofs.Runs.{state}
 use Rattle.yaml_completion.proofs.Final.{FinalAt, final_at, comma_next}
 use Rattle.yaml_completion.proofs.ScalarTokens.{scalar_token_reads, plain_stops}
 use Rattle.yaml_completion.proofs.Along.{if_true, if_false, is_solid}
-use Rattle.yaml_completion.proofs.Contents.{place, end_behind, comma_behind}
+use Rattle.yaml_completion.proofs.Contents.{place, end_behind, Parting, by_tab, by_line_end, by_nothing, comma_behind}
 use Rattle.yaml_completion.proofs.Scans.{begins_low, low, Near}
 use Rattle.yaml_completion.proofs.Frames.{is_flow, nested, in_flow, flow_push, nested_pop, innermost, pairs_flow}
 use Rattle.yaml_completion.proofs.Moves.{Flowing, Fits, Consistent, is_tied, Lasts, weaker}
@@ -149,7 +150,8 @@ final_flowing rest a x = record {
   col = x.same;
   reads = λ b w e at quoted.
       scalar_token_reads true b w x.at e (x.same ∙ sym (ap (λ (y : At). y.col) at)) x.free
-      (λ plain. subst (λ (y : At). Near true y.line x.at.line) (sym at) (x.near (ap (λ (y : At). plain_len true false y.line) (sym at) ∙ plain_stops true b w e plain)));
+      (λ plain. subst (λ (y : At). Near true y.line x.at.line) (sym at) (x.near (ap (λ (y : At). plain_len true false y.line) (sym at) ∙ plain_stops true b w e plain)))
+      (λ plain. x.mark (ap (λ (y : At). plain_len true false y.line) (sym at) ∙ plain_stops true b w e plain) ∙ ap (λ (y : At). ends_mark y.line) (sym at));
   closes = λ is. (ap (λ (y : At). closes_value y.line) x.to, λ q. ap (λ (y : At). is_flow_colon q y.line) x.to, x.part);
 }
 
@@ -219,13 +221,13 @@ low_there false e = absurd cc
 pub ending : (m : Mode) (k : List Frame) (a : At) → is_tied m (in_flow false k) (begins_low a.line) ≡ false → Consistent m k a → EndingAt m k a
 ending Begin k a e consistent = blank_end Begin k a the_end refl (record { either = inl refl }) refl refl (at_begin k)
 ending Document k a e consistent = blank_end Document k a the_end refl (record { either = inl refl }) refl refl (at_document k)
-ending (Root true) k a e consistent = blank_end (Root true) k a (place a.col [] []) refl (record { col = refl; gap = λ gap. refl }) refl refl (at_explicit k a.col consistent.mode_matches consistent.nest)
+ending (Root true) k a e consistent = blank_end (Root true) k a (place a.col [] []) refl (record { col = refl; mark = λ mark. refl }) refl refl (at_explicit k a.col consistent.mode_matches.0 consistent.nest)
 ending (Root false) k a e consistent =
     blank_end (Root false) k a (place a.col (39 ∷ 39 ∷ []) []) refl
     (record { instead = record { col = refl; some = consistent.mode_matches.1; other = refl }; dashes = λ none. and_false (a.col == 0); percent = λ none. refl }) refl refl (at_node k a.col consistent.mode_matches.0 consistent.nest)
 ending (Item col) k a e consistent = blank_end (Item col) k a (place a.col [] []) refl (record { col = refl; gap = λ gap. refl }) refl refl (at_item k col a.col consistent.mode_matches consistent.nest)
 ending Key k a e consistent = blank_end Key k a (place a.col (39 ∷ 39 ∷ 58 ∷ []) []) refl (record { col = refl; key = key_there a.col }) refl refl (at_key k a.col consistent.mode_matches consistent.nest)
-ending (Value col) k a e consistent = blank_end (Value col) k a (place a.col [] []) refl (record { col = refl; gap = λ gap. refl }) refl refl (at_value k col a.col consistent.mode_matches consistent.nest)
+ending (Value col) k a e consistent = blank_end (Value col) k a (place a.col [] []) refl (record { col = refl; gap = λ gap. refl }) refl refl (at_value k col a.col consistent.mode_matches.0 consistent.nest)
 ending Open k a e consistent =
     elim ((innermost k).either) [
       | inl none ↦ absurd (off (sym (ap (in_flow false) none) ∙ consistent.mode_matches))
@@ -260,23 +262,25 @@ end_finish k a true continues out nest = record { tidy = λ old. refl; lows = re
 end_finish k a false continues out nest = record { tidy = λ old. refl; lows = refl; ending = at_end k continues out nest }
 
 -- within a flow, with a comma and the closing brackets
-comma_finish : (m n : Mode) (k : List Frame) (a : At) (tab : Bool) (col : ℕ) → is_tied m (in_flow false k) (begins_low a.line) ≡ true → SameMode m n → Consistent m k a → in_flow false k ≡ true → Finish a (comma_behind tab col (closers k)) (state n k (comma_behind tab col (closers k)))
-comma_finish m n k a tab col tie same consistent inside =
-    let d = comma_behind tab col (closers k) in
-    let to = comma_next tab col (closers k) in
+comma_finish : (m n : Mode) (k : List Frame) (a : At) (p : Parting) (col : ℕ) → is_tied m (in_flow false k) (begins_low a.line) ≡ true → SameMode m n → Consistent m k a → in_flow false k ≡ true → Finish a (comma_behind p col (closers k)) (state n k (comma_behind p col (closers k)))
+comma_finish m n k a p col tie same consistent inside =
+    let d = comma_behind p col (closers k) in
+    let to = comma_next p col (closers k) in
     record {
-      tidy = λ old. clean tab;
-      lows = first tab;
+      tidy = λ old. clean p;
+      lows = first p;
       ending = from m n tie same consistent d to.0 to.1;
     }
   where
-    clean : (tab : Bool) → no_feeds ((comma_behind tab col (closers k)).line ∷ (comma_behind tab col (closers k)).later) ≡ true
-    clean true = rw (closers_clean k) refl
-    clean false = rw (closers_clean k) refl
+    clean : (p : Parting) → no_feeds ((comma_behind p col (closers k)).line ∷ (comma_behind p col (closers k)).later) ≡ true
+    clean by_tab = rw (closers_clean k) refl
+    clean by_line_end = rw (closers_clean k) refl
+    clean by_nothing = rw (closers_clean k) refl
 
-    first : (tab : Bool) → low (comma_behind tab col (closers k)).line ≡ true
-    first true = refl
-    first false = refl
+    first : (p : Parting) → low (comma_behind p col (closers k)).line ≡ true
+    first by_tab = refl
+    first by_line_end = refl
+    first by_nothing = refl
 
     from : (m n : Mode) → is_tied m (in_flow false k) (begins_low a.line) ≡ true → SameMode m n → Consistent m k a → (d : At) (c : ℕ) → flow_next d ≡ place c (44 ∷ closers k) [] → Ending (state n k d)
     from Begin n tie same consistent d c to = absurd cc

@@ -93,10 +93,17 @@ tab_if false = []
 abbrev pub end_behind : Bool → At
 end_behind tab = place 0 (tab_if tab) []
 
--- a comma behind a tab or a line end, and what stands behind it
-abbrev pub comma_behind : Bool → ℕ → List ℕ → At
-comma_behind true col rest = place col (9 ∷ 44 ∷ rest) []
-comma_behind false col rest = place col [] ((44 ∷ rest) ∷ [])
+-- what parts a scalar from a comma behind it
+pub data Parting : Type 0 where
+  by_tab : Parting
+  by_line_end : Parting
+  by_nothing : Parting
+
+-- a comma, and what stands behind it
+abbrev pub comma_behind : Parting → ℕ → List ℕ → At
+comma_behind by_tab col rest = place col (9 ∷ 44 ∷ rest) []
+comma_behind by_line_end col rest = place col [] ((44 ∷ rest) ∷ [])
+comma_behind by_nothing col rest = place col (44 ∷ rest) []
 
 pub spaced : (v r : List ℕ) (ms : List (List ℕ)) → all_of is_space v ≡ true → stops is_space r ≡ true → place (spaces (v ++ r)) (drop (spaces (v ++ r)) (v ++ r)) ms ≡ place (length v) r ms
 spaced v r ms all stop = ap (λ (n : ℕ). place n (drop n (v ++ r)) ms) (counted is_space v r all stop) ∙ ap (λ (x : List ℕ). place (length v) x ms) (dropped v r)

@@ -1,5 +1,5 @@
 -- Steps within flows, to a place where something else stands.
-use Rattle.std.proofs.Common.{◌≡◌, ℕ, List, [], ◌∷◌, ◌++◌, drop, Bool, true, false, not, ◌&&◌, ◌||◌, eqb, ltb, Option, None, Ok, refl, sym, ap, ◌∙◌, subst, inl, inr}
+use Rattle.std.proofs.Common.{◌≡◌, ℕ, List, [], ◌∷◌, ◌++◌, drop, Bool, true, false, not, ◌&&◌, ◌||◌, eqb, Option, None, Ok, refl, sym, ap, ◌∙◌, subst, inl, inr}
 use Rattle.std.proofs.lemmas.Bool.{cases_Bool, eqb-true}
 use Rattle.yaml_scan.specs.Bytes.{is_white}
 use Rattle.yaml_scan.specs.Lines.{is_passed, ends}
@@ -12,12 +12,12 @@ use Rattle.yaml_small.specs.Places.{At, past, over, next_at, flow_next, begins, 
 use Rattle.yaml_small.specs.Scalars.{ScalarToken, scalar_token_at}
 use Rattle.yaml_small.specs.Grammar.{closes_value, is_flow_colon}
 use Rattle.yaml_small.specs.Step.{inline_at, seq_entry, pairs_entry, flow_fault, flow_value, after_key_at, seq_fault, seq_done, pairs_done}
-use Rattle.yaml_small.proofs.Marks.{and_parts}
+use Rattle.yaml_small.proofs.Marks.{and_parts, both}
 use Rattle.yaml_completion.proofs.Along.{if_false, all_of, is_solid}
 use Rattle.yaml_completion.proofs.Contents.{Instead, place, spaced_at}
 use Rattle.yaml_completion.proofs.Scans.{begins_low, first_of, same_begins, same_parts, Looks, looks_comma, looks_bracket, looks_brace, looks_colon, near_of}
 use Rattle.yaml_completion.proofs.ScalarTokens.{scalar_token_place, head_line}
-use Rattle.yaml_completion.proofs.Stops.{emitted_white}
+use Rattle.yaml_completion.proofs.Stops.{white_begins}
 use Rattle.yaml_completion.proofs.Tokens.{Token}
 use Rattle.yaml_completion.proofs.Frames.{in_flow, nested, flow_push, pairs_push, nested_push, agree, agrees}
 use Rattle.yaml_completion.proofs.Moves.{Flowing, Moves, moves_err, moves_if, moves_map, reads_from, weaker}
@@ -52,7 +52,7 @@ inline_flow k depth parent a flow nest =
     moves_opens depth 123 MappingStart (λ n. Open) (λ n. InPairs true) k (λ c. (Entry a c × (begins 91 c.line ≡ false)) × (begins 123 c.line ≡ true)) a is nest flow (flow_push false k (InPairs true)) (λ flow low. refl)
     (λ d fits. (fits, ((entry_at 123 a d.line d.later is refl, refl), refl))))
     (λ no_map.
-    moves_scalar_token true k (λ c. (Entry a c × (begins 91 c.line ≡ false)) × (begins 123 c.line ≡ false)) a flow nest
+    moves_scalar_token true k (λ c. (Entry a c × (begins 91 c.line ≡ false)) × (begins 123 c.line ≡ false)) a flow nest (λ out. absurd (both true refl out))
     (λ w v c is too col first same. ((scalar_token_entry a c w v is too col first, same_begins 91 c.line a.line first ∙ no_seq), same_begins 123 c.line a.line first ∙ no_map))))
   where
     scalar_token_entry : (a c : At) (w v : ScalarToken) → scalar_token_at true a ≡ Ok w → scalar_token_at true c ≡ Ok v → c.col ≡ a.col → first_of c.line ≡ first_of a.line → Entry a c
@@ -107,7 +107,7 @@ closed_colon q (c ∷ cs) e = ap (λ (b : Bool). b && (q || parts true cs)) (fro
 pub flowing_at : (strict : Bool) (a c : At) (t : Token a c) → Mark strict (flow_next a) c → Flowing strict a t.at
 flowing_at strict a c t m = record {
   col = t.col;
-  reads = reads_from strict a t.at t.col (t.free m.free) (λ is. near_of true a.line t.at.line (t.looks (m.looks is)));
+  reads = reads_from strict a t.at t.col (t.free m.free) (λ is. near_of true a.line t.at.line (t.looks (m.looks is))) (λ is. (t.looks (m.looks is)).mark);
   closes = λ is. (
     ap (λ (x : At). closes_value x.line) t.to ∙ closes_first c.line (flow_next a).line m.first ∙ is,
     λ q. ap (λ (x : At). is_flow_colon q x.line) t.to ∙ closed_colon q c.line (closes_first c.line (flow_next a).line m.first ∙ is),
@@ -168,14 +168,14 @@ mark_begins : (v r : List ℕ) → all_of is_white v ≡ true → closes_value r
 mark_begins [] [] all e = refl
 mark_begins [] (c ∷ cs) all e = from (eqb c 44) refl e
   where
-    from : (b : Bool) → eqb c 44 ≡ b → b || eqb c 125 ≡ true → ltb c 160 ≡ true
-    from true is e = ap (λ (x : ℕ). ltb x 160) (eqb-true c 44 is)
-    from false is e = ap (λ (x : ℕ). ltb x 160) (eqb-true c 125 e)
-mark_begins (c ∷ v) r all e = (emitted_white c (and_parts (is_white c) (all_of is_white v) all).0).small
+    from : (b : Bool) → eqb c 44 ≡ b → b || eqb c 125 ≡ true → begins_low (c ∷ cs) ≡ true
+    from true is e = ap (λ (x : ℕ). begins_low (x ∷ cs)) (eqb-true c 44 is)
+    from false is e = ap (λ (x : ℕ). begins_low (x ∷ cs)) (eqb-true c 125 e)
+mark_begins (c ∷ v) r all e = white_begins c (v ++ r) (and_parts (is_white c) (all_of is_white v) all).0
 
 ended_begins : (line : List ℕ) → ends line ≡ true → begins_low line ≡ true
 ended_begins [] e = refl
-ended_begins (c ∷ cs) e = (emitted_white c (and_parts (is_white c) (is_passed (c ∷ cs)) e).0).small
+ended_begins (c ∷ cs) e = white_begins c cs (and_parts (is_white c) (is_passed (c ∷ cs)) e).0
 
 closes_low : (a : At) → closes_value (flow_next a).line ≡ true → begins_low a.line ≡ true
 unfolding flow_next

@@ -1,8 +1,8 @@
 -- Single steps to a place where something else stands: scalars, and the starts and ends of lists and maps.
-use Rattle.std.proofs.Common.{not, ◌≡◌, ℕ, ◌+◌, ◌⊎◌, ◌&&◌, List, [], ◌∷◌, ◌++◌, drop, Bool, true, false, cond, ltb, Option, Ok, refl, sym, ap, ◌∙◌, subst, inl, inr, append-nil}
+use Rattle.std.proofs.Common.{not, ◌≡◌, ℕ, ◌+◌, ◌⊎◌, ◌&&◌, List, [], ◌∷◌, ◌++◌, drop, Bool, true, false, cond, eqb, ltb, Option, Ok, refl, sym, ap, ◌∙◌, subst, inl, inr, append-nil}
 use Rattle.std.proofs.lemmas.Bool.{cases_Bool, eqb-true}
 use Rattle.warg_values.specs.Reading.{◌>>=◌}
-use Rattle.yaml_scan.specs.Bytes.{is_white}
+use Rattle.yaml_scan.specs.Bytes.{is_white, ends_mark}
 use Rattle.yaml_scan.specs.Lines.{ends}
 use Rattle.yaml_small.specs.declared.event.Event.{Event}
 use Rattle.yaml_small.specs.declared.state.Mode.{Mode}
@@ -20,9 +20,9 @@ use Rattle.yaml_small.proofs.Runs.{popped}
 use Rattle.yaml_small.proofs.Marks.{and_parts, both}
 use Rattle.yaml_small.proofs.Depth.{settled_change}
 use Rattle.yaml_completion.proofs.Along.{not_true, if_true, if_false, Along, stays, ahead, further, all_of, white_ends}
-use Rattle.yaml_completion.proofs.Contents.{place, spaced_at, tab_if, end_behind, comma_behind, next_end, next_below}
+use Rattle.yaml_completion.proofs.Contents.{place, spaced_at, tab_if, end_behind, by_tab, comma_behind, next_end, next_below}
 use Rattle.yaml_completion.proofs.Scans.{begins_low, first_of, looks_same, Near, near_of}
-use Rattle.yaml_completion.proofs.ScalarTokens.{ScalarTokenReads, scalar_token_reads, key_reads, key_gap, same_key}
+use Rattle.yaml_completion.proofs.ScalarTokens.{ScalarTokenReads, scalar_token_reads, key_reads, key_gap, key_col, same_key}
 use Rattle.yaml_completion.proofs.ScalarTokenEnds.{scalar_token_halts, halts_no_key, scalar_token_commas}
 use Rattle.yaml_completion.proofs.Blocks.{Next, ready, block_moves}
 use Rattle.yaml_completion.proofs.Tokens.{ended_free}
@@ -89,7 +89,7 @@ untied false low out tie = absurd cc
 high_there : (flow low : Bool) → flow && not low ≡ true → low ≡ false
 high_there flow low tie = not_true low (and_parts flow (not low) tie).1
 
--- before a high byte in a flow, or where more stood on the line outside flows
+-- before a colon or a high byte in a flow, or where more stood on the line outside flows
 settled_tied : (k : List Frame) (flow g : Bool) (e : Event) (h : Transition) (a : At) → in_flow false (changed (settled flow g e h.change a).change k) ≡ flow → tied k (settled flow g e h.change a) ≡ true
     → ((flow ≡ true) × ((settled flow g e h.change a).mode ≡ Done g) × ((settled flow g e h.change a).at ≡ a) × (begins_low a.line ≡ false)) ⊎ ((flow ≡ false) × ((settled flow g e h.change a).at ≡ over a))
 unfolding settled
@@ -146,12 +146,13 @@ reads_of true a w c e like = like.reads a w e refl (λ none. absurd cc)
 reads_of false a w c e like =
     scalar_token_reads false a w c e like.1 (ap (begins 39) like.0 ∙ ended_free w.end.line like.2)
     (λ plain. subst (λ (x : List ℕ). Near false w.end.line x) (sym like.0) (near_of false w.end.line w.end.line (looks_same false w.end.line)))
+    (λ plain. ap ends_mark like.0)
 
 -- a plain or quoted scalar
-pub moves_scalar_token : (fl : Bool) (k : List Frame) (P : At → Type 0) (a : At) → in_flow false k ≡ fl → nested false k ≡ true
+pub moves_scalar_token : (fl : Bool) (k : List Frame) (P : At → Type 0) (a : At) → in_flow false k ≡ fl → nested false k ≡ true → (fl ≡ false → eqb a.col 0 ≡ true → is_key a ≡ false)
     → ((w v : ScalarToken) (c : At) → scalar_token_at fl a ≡ Ok w → scalar_token_at fl c ≡ Ok v → c.col ≡ a.col → first_of c.line ≡ first_of a.line → (fl ≡ false → is_key a ≡ false → is_key c ≡ false) → P c)
     → Moves k P (λ c. scalar_token_at fl c >>= λ w. Ok (scalar_token_transition fl w)) a
-moves_scalar_token fl k P a flow nest like = moves_read k P (scalar_token_at fl) (λ c w. scalar_token_transition fl w) a back end_back (λ w is. settled_consistent k fl (continues_below w.scalar.style w.end) (scalar_event w.scalar) (missing_transition a) w.end nest flow)
+moves_scalar_token fl k P a flow nest free like = moves_read k P (scalar_token_at fl) (λ c w. scalar_token_transition fl w) a back end_back (λ w is. settled_consistent k fl (continues_below w.scalar.style w.end) (scalar_event w.scalar) (missing_transition a) w.end nest flow)
   where
     landed : (w : ScalarToken) (d : At) → Fits (in_flow false (changed (scalar_token_transition fl w).change k)) (scalar_token_transition fl w).mode (scalar_token_transition fl w).at d → Landing fl w.end (scalar_event w.scalar) (continues_below w.scalar.style w.end) (missing_transition a) d
     landed w d fits =
@@ -175,12 +176,12 @@ moves_scalar_token fl k P a flow nest like = moves_read k P (scalar_token_at fl)
           is = n.1.1 ∙ settled_keeps fl (continues_below w.scalar.style w.end) (scalar_event w.scalar) (missing_transition a) w.end d n.0;
         }
 
-    -- before a high byte in a flow
+    -- before a colon or a high byte in a flow
     comma : (w : ScalarToken) (rest : List ℕ) → scalar_token_at fl a ≡ Ok w → in_flow false (changed (scalar_token_transition fl w).change k) ≡ fl → fl ≡ true → (scalar_token_transition fl w).mode ≡ Done (continues_below w.scalar.style w.end) → (scalar_token_transition fl w).at ≡ w.end → begins_low w.end.line ≡ false
         → ReadEndBack k P (scalar_token_at fl) (λ c w. scalar_token_transition fl w) a w rest
     comma w rest is inside within mode at high =
         let h = scalar_token_commas a w rest (ap (λ (b : Bool). scalar_token_at b a) (sym within) ∙ is) high in
-        let end = comma_behind h.tab w.end.col rest in
+        let end = comma_behind h.parting w.end.col rest in
         let v : ScalarToken = record { scalar = w.scalar; end = end } in
         let continues = continues_below w.scalar.style end in
         let read = ap (λ (b : Bool). scalar_token_at b h.reads.at) within ∙ h.reads.is in
@@ -194,7 +195,7 @@ moves_scalar_token fl k P a flow nest like = moves_read k P (scalar_token_at fl)
           to = end;
           mode = Done continues;
           comes = subst (λ (b : Bool). Lasts b (scalar_token_transition fl w).mode rest end end (Done continues)) (sym (inside ∙ within))
-              ((h.tab, (w.end.col, refl)), refl, subst (λ (m : Mode). SameMode m (Done continues)) (sym mode) (done_same (continues_below w.scalar.style w.end) continues));
+              ((h.parting, (w.end.col, refl)), refl, subst (λ (m : Mode). SameMode m (Done continues)) (sym mode) (done_same (continues_below w.scalar.style w.end) continues));
           is = ap (λ (b : Bool). settled b continues (scalar_event w.scalar) (missing_transition a).change end) within ∙ settled_flow continues (scalar_event w.scalar) (missing_transition a) end
               ∙ settled_keeps fl (continues_below w.scalar.style w.end) (scalar_event w.scalar) (missing_transition a) w.end end (Done continues);
         }
@@ -202,7 +203,7 @@ moves_scalar_token fl k P a flow nest like = moves_read k P (scalar_token_at fl)
     -- with nothing more on the line outside flows
     halt : (w : ScalarToken) (rest : List ℕ) → scalar_token_at fl a ≡ Ok w → in_flow false (changed (scalar_token_transition fl w).change k) ≡ fl → fl ≡ false → (scalar_token_transition fl w).at ≡ over w.end → ReadEndBack k P (scalar_token_at fl) (λ c w. scalar_token_transition fl w) a w rest
     halt w rest is inside out at =
-        let h = scalar_token_halts a w (ap (λ (b : Bool). scalar_token_at b a) (sym out) ∙ is) in
+        let h = scalar_token_halts a w (ap (λ (b : Bool). scalar_token_at b a) (sym out) ∙ is) (free out) in
         let end = place w.end.col (h.front ++ tab_if h.tab) [] in
         let v : ScalarToken = record { scalar = w.scalar; end = end } in
         let continues = continues_below w.scalar.style end in
@@ -323,7 +324,7 @@ moves_key k P a flow nest like = moves_read k P key_at (λ c w. key_transition c
       same = same_mode (Value a.col);
       is = ap (λ (n : ℕ). key_transition n (record { scalar = w.scalar; end = d })) r.col;
     })
-    (λ w is rest tie. absurd cc) (λ w is. record { nest = nest; mode_matches = flow })
+    (λ w is rest tie. absurd cc) (λ w is. record { nest = nest; mode_matches = (flow, key_col a w is) })
 
 -- a key of a flow map
 pub moves_flow_key : (k : List Frame) (P : At → Type 0) (a : At) → in_pairs false k ≡ true → nested false k ≡ true
@@ -349,7 +350,7 @@ moves_flow_key k P a pairs nest like = moves_read k P (scalar_token_at true) (λ
     end_back : (w : ScalarToken) → scalar_token_at true a ≡ Ok w → (rest : List ℕ) → tied k (flow_key w) ≡ true → ReadEndBack k P (scalar_token_at true) (λ c w. flow_key w) a w rest
     end_back w is rest tie =
         let h = scalar_token_commas a w rest is (not_true (begins_low w.end.line) tie) in
-        let end = comma_behind h.tab w.end.col rest in
+        let end = comma_behind h.parting w.end.col rest in
         let q = is_quoted w.scalar in
         let g = continues_below w.scalar.style w.end in
         let n = continues_below w.scalar.style end in
@@ -362,7 +363,7 @@ moves_flow_key k P a pairs nest like = moves_read k P (scalar_token_at true) (λ
           along = h.reads.along;
           to = end;
           mode = AfterKey q n;
-          comes = subst (λ (b : Bool). Lasts b (AfterKey q g) rest end end (AfterKey q n)) (sym (pairs_flow k pairs)) ((h.tab, (w.end.col, refl)), refl, inr (inr (q, (g, (n, (refl, refl))))));
+          comes = subst (λ (b : Bool). Lasts b (AfterKey q g) rest end end (AfterKey q n)) (sym (pairs_flow k pairs)) ((h.parting, (w.end.col, refl)), refl, inr (inr (q, (g, (n, (refl, refl))))));
           is = refl;
         }
 
@@ -396,7 +397,7 @@ moves_closes x e inner k f P a here nest inside like =
     comma : (rest : List ℕ) → in_flow false (changed (closed e inner a).change (k ++ (f ∷ []))) ≡ inner → inner ≡ true → (closed e inner a).mode ≡ Done false → (closed e inner a).at ≡ past 1 a → EndBack (k ++ (f ∷ [])) P (λ c. closed e inner c) a rest
     comma rest behind within mode at =
         let h = block_end e a in
-        let b = comma_behind true (a.col + 1) rest in
+        let b = comma_behind by_tab (a.col + 1) rest in
         let c = place a.col (x ∷ b.line) [] in
         record {
           at = c;
@@ -405,7 +406,7 @@ moves_closes x e inner k f P a here nest inside like =
           along = subst (λ (y : At). Along a y c b) (sym at) (ahead (x ∷ []) a (past 1 a) c b (head_byte x a.line here) refl refl refl);
           to = b;
           mode = Done false;
-          comes = subst (λ (y : Bool). Lasts y (closed e inner a).mode rest b b (Done false)) (sym (behind ∙ within)) ((true, (a.col + 1, refl)), refl, subst (λ (m : Mode). SameMode m (Done false)) (sym mode) (same_mode (Done false)));
+          comes = subst (λ (y : Bool). Lasts y (closed e inner a).mode rest b b (Done false)) (sym (behind ∙ within)) ((by_tab, (a.col + 1, refl)), refl, subst (λ (m : Mode). SameMode m (Done false)) (sym mode) (same_mode (Done false)));
           is = ap (λ (y : Bool). settled y false e h.change b) within ∙ settled_flow false e h b ∙ settled_keeps inner false e h (past 1 a) b (Done false);
         }
 

@@ -1,9 +1,10 @@
 pub mod Along
 pub mod Contents
 pub mod Scans
+pub mod Stops
+pub mod DocumentMarks
 pub mod ScalarTokens
 pub mod Blocks
-pub mod Stops
 pub mod ScalarTokenEnds
 pub mod Tokens
 pub mod Frames

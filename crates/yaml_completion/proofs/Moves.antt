@@ -1,8 +1,8 @@
 -- Steps to a place are the same where something else stands at that place.
-use Rattle.std.proofs.Common.{◌≡◌, ℕ, List, Bool, true, false, not, ◌&&◌, cond, Result, Ok, Err, refl, sym, ap, ◌∙◌, subst, inl, inr}
+use Rattle.std.proofs.Common.{◌≡◌, ℕ, List, Bool, true, false, not, ◌&&◌, cond, eqb, Result, Ok, Err, refl, sym, ap, ◌∙◌, subst, inl, inr}
 use Rattle.std.proofs.lemmas.Bool.{cases_Bool}
 use Rattle.warg_values.specs.Reading.{◌>>=◌}
-use Rattle.yaml_scan.specs.Bytes.{is_gap}
+use Rattle.yaml_scan.specs.Bytes.{is_gap, ends_mark}
 use Rattle.yaml_scan.specs.Plain.{parts}
 use Rattle.yaml_small.specs.declared.state.Mode.{Mode}
 use Rattle.yaml_small.specs.declared.state.Mode.TheVariants.{Begin, Document, Root, Item, Key, Value, Open, AfterKey, Done, Trailing, Last, Ended}
@@ -16,16 +16,21 @@ use Rattle.yaml_small.proofs.Grows.{the_end, SameMode}
 use Rattle.yaml_small.proofs.Found.{transition_is}
 use Rattle.yaml_small.proofs.Marks.{both}
 use Rattle.yaml_completion.proofs.Along.{if_true, if_false, Along}
-use Rattle.yaml_completion.proofs.Contents.{Instead, Ready, end_behind, comma_behind}
+use Rattle.yaml_completion.proofs.Contents.{Instead, Ready, end_behind, Parting, comma_behind}
 use Rattle.yaml_completion.proofs.Scans.{begins_low, Near}
 use Rattle.yaml_completion.proofs.ScalarTokens.{ScalarTokenReads, scalar_token_reads}
 use Rattle.yaml_completion.proofs.Blocks.{Next}
 use Rattle.yaml_completion.proofs.Frames.{in_flow, in_pairs, nested}
 
--- behind a dash, a colon or three dashes
+-- behind a dash or a colon
 pub record Gap (a d : At) : Type 0 where
   pub col : d.col ≡ a.col
   pub gap : is_gap a.line ≡ true → is_gap d.line ≡ true
+
+-- behind three dashes
+pub record BehindDashes (a d : At) : Type 0 where
+  pub col : d.col ≡ a.col
+  pub mark : ends_mark a.line ≡ true → ends_mark d.line ≡ true
 
 -- where a key stands, and where a document begins without dashes
 pub record Keyed (a d : At) : Type 0 where
@@ -47,11 +52,12 @@ strictly : (strict q : Bool) → (strict ≡ false → q ≡ true) → q ≡ fal
 strictly true q h plain = refl
 strictly false q h plain = absurd (both q (h refl) plain)
 
-pub reads_from : (strict : Bool) (a d : At) → d.col ≡ a.col → begins 39 d.line ≡ false → (strict ≡ true → Near true a.line d.line) → (b : At) (w : ScalarToken) → scalar_token_at true b ≡ Ok w → w.end ≡ a → (strict ≡ false → is_quoted w.scalar ≡ true)
+pub reads_from : (strict : Bool) (a d : At) → d.col ≡ a.col → begins 39 d.line ≡ false → (strict ≡ true → Near true a.line d.line) → (strict ≡ true → ends_mark d.line ≡ ends_mark a.line) → (b : At) (w : ScalarToken) → scalar_token_at true b ≡ Ok w → w.end ≡ a → (strict ≡ false → is_quoted w.scalar ≡ true)
     → ScalarTokenReads true (scalar_token_at true) b w d
-reads_from strict a d col free near b w e at quoted =
+reads_from strict a d col free near mark b w e at quoted =
     scalar_token_reads true b w d e (col ∙ sym (ap (λ (x : At). x.col) at)) free
     (λ plain. subst (λ (x : At). Near true x.line d.line) (sym at) (near (strictly strict (is_quoted w.scalar) quoted plain)))
+    (λ plain. mark (strictly strict (is_quoted w.scalar) quoted plain) ∙ ap (λ (x : At). ends_mark x.line) (sym at))
 
 -- whether the scalar before is quoted is asked less
 pub weaker : (strict : Bool) (a d : At) → Flowing true a d → Flowing strict a d
@@ -61,7 +67,7 @@ weaker strict a d f = record { col = f.col; reads = λ b w e at quoted. f.reads 
 abbrev pub Fits : Bool → Mode → At → At → Type 0
 Fits flow Begin a d = Ready a d
 Fits flow Document a d = Ready a d
-Fits flow (Root true) a d = Gap a d
+Fits flow (Root true) a d = BehindDashes a d
 Fits flow (Root false) a d = Starts a d
 Fits flow (Item col) a d = Gap a d
 Fits flow Key a d = Keyed a d
@@ -74,15 +80,16 @@ Fits flow Trailing a d = ⊥
 Fits flow Last a d = d ≡ the_end
 Fits flow Ended a d = d ≡ the_end
 
--- what is open where this is looked for, and where a document's node is there is one
+-- What is open where this is looked for. Where a document's node is there is one, and behind a mark the line does not
+-- begin.
 abbrev pub ModeMatches : Mode → List Frame → At → Type 0
 ModeMatches Begin k a = in_flow false k ≡ false
 ModeMatches Document k a = in_flow false k ≡ false
-ModeMatches (Root true) k a = in_flow false k ≡ false
+ModeMatches (Root true) k a = (in_flow false k ≡ false) × (eqb a.col 0 ≡ false)
 ModeMatches (Root false) k a = (in_flow false k ≡ false) × (is_end a ≡ false)
 ModeMatches (Item col) k a = in_flow false k ≡ false
 ModeMatches Key k a = in_flow false k ≡ false
-ModeMatches (Value col) k a = in_flow false k ≡ false
+ModeMatches (Value col) k a = (in_flow false k ≡ false) × (eqb a.col 0 ≡ false)
 ModeMatches Open k a = in_flow false k ≡ true
 ModeMatches (AfterKey quoted continues) k a = in_pairs false k ≡ true
 ModeMatches (Done continues) k a = Unit {0}
@@ -121,7 +128,7 @@ pub data Wanted (k : List Frame) (g : Transition) : Type 0 where
 -- an end: outside flows nothing more, and within one a comma and what is to stand behind it
 abbrev pub Lasts : Bool → Mode → List ℕ → At → At → Mode → Type 0
 Lasts false m rest there to n = ((tab : Bool) × (there ≡ end_behind tab)) × (to ≡ the_end) × ((continues : Bool) × (n ≡ Done continues))
-Lasts true m rest there to n = ((tab : Bool) × ((col : ℕ) × (there ≡ comma_behind tab col rest))) × (to ≡ there) × SameMode m n
+Lasts true m rest there to n = ((parting : Parting) × ((col : ℕ) × (there ≡ comma_behind parting col rest))) × (to ≡ there) × SameMode m n
 
 -- what stands there, and where the step comes to then
 abbrev pub Comes : (k : List Frame) (g : Transition) → Wanted k g → At → At → Mode → Type 0

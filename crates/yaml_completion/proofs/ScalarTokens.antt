@@ -1,8 +1,8 @@
 -- Scalars on one line, when something else stands behind them.
 use Rattle.std.proofs.Common.{◌≡◌, ℕ, ◌+◌, ◌-◌, List, [], ◌∷◌, ◌++◌, take, drop, length, Bool, true, false, not, cond, ◌||◌, eqb, Result, Ok, Err, refl, sym, ap, ◌∙◌, subst, inl, inr, arith, length-append, take-append-drop, length-take, append_assoc}
-use Rattle.std.proofs.lemmas.Bool.{cases_Bool, eqb-true}
+use Rattle.std.proofs.lemmas.Bool.{cases_Bool, eqb-true, ne_eqb}
 use Rattle.warg_values.specs.Reading.{◌>>=◌}
-use Rattle.yaml_scan.specs.Bytes.{is_white, is_gap, is_control}
+use Rattle.yaml_scan.specs.Bytes.{is_white, is_gap, is_control, ends_mark}
 use Rattle.yaml_scan.specs.Plain.{is_indicator, plain_len, begins_plain, parts}
 use Rattle.yaml_scan.specs.Quoted.{Found, Open, Bad, single_at, double_quoted_at}
 use Rattle.yaml_small.specs.declared.event.Style.{Style}
@@ -14,7 +14,8 @@ use Rattle.yaml_small.specs.Scalars.{Fault, Form, is_plain, ScalarToken, scalar_
 use Rattle.yaml_small.proofs.Marks.{and_parts, and_false, or_parts, not_so, both, scalar_token_opener}
 use Rattle.yaml_completion.proofs.Along.{if_true, if_false, Along, ahead, further, all_of, parted, is_solid, dropped, gone_over}
 use Rattle.yaml_completion.proofs.Contents.{place}
-use Rattle.yaml_completion.proofs.Scans.{first_of, same_begins, Looks, looks_far, looks_colon, plain_within, found_is, Closed, no_quote, anything, single_closed, double_closed, Near, near_of, near_far, looks_behind, plain_some, rest_stops}
+use Rattle.yaml_completion.proofs.DocumentMarks.{Unmarking, LastByte, last_byte, Behind, behind_near, same_at_mark}
+use Rattle.yaml_completion.proofs.Scans.{low_control, first_of, same_begins, Looks, looks_far, looks_colon, plain_within, found_is, Closed, no_quote, anything, single_closed, double_closed, Near, near_of, looks_behind, plain_some, rest_stops}
 
 -- A scalar is read at a place, and with another place behind it at a place that looks the same.
 pub record ScalarTokenReads (flow : Bool) (read : At → Result ScalarToken Fault) (a : At) (w : ScalarToken) (d : At) : Type 0 where
@@ -46,12 +47,8 @@ read_on flow read a w d front is later first e = record {
   later = refl;
 }
 
--- a mark looks the same at a place that looks the same
-pub same_mark : (flow : Bool) (a d : At) → d.col ≡ a.col → Looks flow a.line d.line → at_mark d ≡ at_mark a
-same_mark flow a d col looks = rw (col, looks.dashes [], looks.dots []) refl
-
-pub same_begin : (flow : Bool) (a d : At) → d.col ≡ a.col → Looks flow a.line d.line → begins_at flow d ≡ begins_at flow a
-same_begin flow a d col looks = rw (same_mark flow a d col looks, looks.begun) refl
+same_begin : (flow : Bool) (a d : At) → at_mark d ≡ at_mark a → Looks flow a.line d.line → begins_at flow d ≡ begins_at flow a
+same_begin flow a d mark looks = rw (mark, looks.begun) refl
 
 record Begun (flow : Bool) (a : At) (w : ScalarToken) : Type 0 where
   begun : begins_at flow a ≡ true
@@ -81,15 +78,22 @@ plain_text flow a w e =
     let b = plain_begun flow a w e in
     let s = plain_some flow a.line (and_parts (not (at_mark a)) (begins_plain flow a.line) b.begun).1 in (s.0, (s.1.0, sym (ap (λ (x : ScalarToken). x.scalar.text) b.is) ∙ s.1.1))
 
--- a plain scalar looks the same before what looks nearly the same
-pub plain_looks : (flow : Bool) (a : At) (w : ScalarToken) (t : List ℕ) → plain_at flow a ≡ Ok w → Near flow w.end.line t → Looks flow (w.scalar.text ++ w.end.line) (w.scalar.text ++ t)
-plain_looks flow a w t e near =
-    let s = plain_text flow a w e in
-    subst (λ (v : List ℕ). Looks flow (v ++ w.end.line) (v ++ t)) (sym s.1.1) (looks_behind flow s.0 (s.1.0 ++ w.end.line) (s.1.0 ++ t) (near_far flow s.1.0 w.end.line t near s.0))
+-- where a plain scalar ends none goes on
+plain_ends : (flow : Bool) (a : At) (w : ScalarToken) → plain_at flow a ≡ Ok w → plain_len flow false w.end.line ≡ 0
+plain_ends flow a w e =
+    let b = plain_begun flow a w e in
+    let s = plain_some flow a.line (and_parts (not (at_mark a)) (begins_plain flow a.line) b.begun).1 in
+    elim (rest_stops flow false a.line) [
+      | inl none ↦ absurd (empty s.0 s.1.0 (sym (ap (λ (n : ℕ). take n a.line) none) ∙ s.1.1))
+      | inr stop ↦ ap (λ (x : ScalarToken). plain_len flow false x.end.line) (sym b.is) ∙ stop
+    ]
+  where
+    empty : (c : ℕ) (u : List ℕ) → take {A = ℕ} 0 a.line ≡ c ∷ u → ⊥
+    empty c u e = absurd cc
 
-plain_reads : (flow : Bool) (a : At) (w : ScalarToken) (d : At) → plain_at flow a ≡ Ok w → d.col ≡ w.end.col → Looks flow (w.scalar.text ++ w.end.line) (w.scalar.text ++ d.line) → ScalarTokenReads flow (plain_at flow) a w d
+plain_reads : (flow : Bool) (a : At) (w : ScalarToken) (d : At) → plain_at flow a ≡ Ok w → d.col ≡ w.end.col → Behind flow w.scalar.text w.end.line d.line → Unmarking a.col w.scalar.text w.end.line d.line → ScalarTokenReads flow (plain_at flow) a w d
 unfolding plain_at
-plain_reads flow a w d e col looks =
+plain_reads flow a w d e col same kept =
     let b = plain_begun flow a w e in
     let n = plain_len flow false a.line in
     let u = take n a.line in
@@ -97,9 +101,14 @@ plain_reads flow a w d e col looks =
     let line : a.line ≡ u ++ w.end.line = sym (take-append-drop n a.line) ∙ ap (λ (x : List ℕ). u ++ x) (ap (λ (x : ScalarToken). x.end.line) b.is) in
     let c = place a.col (u ++ d.line) d.later in
     let near : Looks flow (u ++ w.end.line) (u ++ d.line) =
-    subst (λ (v : List ℕ). Looks flow (v ++ w.end.line) (v ++ d.line)) (sym (ap (λ (x : ScalarToken). x.scalar.text) b.is)) looks in
+    subst (λ (v : List ℕ). Looks flow (v ++ w.end.line) (v ++ d.line)) (sym (ap (λ (x : ScalarToken). x.scalar.text) b.is)) same.looks in
     let far : Looks flow a.line (u ++ d.line) = subst (λ (x : List ℕ). Looks flow x (u ++ d.line)) (sym line) near in
-    let here : begins_at flow c ≡ true = same_begin flow a c refl far ∙ b.begun in
+    let text : w.scalar.text ≡ u = sym (ap (λ (x : ScalarToken). x.scalar.text) b.is) in
+    let mark : at_mark c ≡ at_mark a =
+    ap (λ (x : List ℕ). at_mark (place a.col (x ++ d.line) d.later)) (sym text)
+    ∙ same_at_mark flow a.col w.scalar.text w.end.line d.line a.later d.later (plain_ends flow a w e) same kept
+    ∙ ap (λ (x : List ℕ). at_mark (place a.col x a.later)) (ap (λ (x : List ℕ). x ++ w.end.line) text ∙ sym line) in
+    let here : begins_at flow c ≡ true = same_begin flow a c mark far ∙ b.begun in
     let long : plain_len flow false (u ++ d.line) ≡ n = far.plain false in
     read_on flow (plain_at flow) a w d u line (ap (λ (x : ScalarToken). x.end.later) b.is) far.first
     (ap (λ (b : Bool). cond b (Ok (scalar_token (take (plain_len flow false c.line) c.line) styles.Plain (past (plain_len flow false c.line) c))) (Err (start_fault c))) here
@@ -155,9 +164,9 @@ plain_style flow a w e = ap (λ (x : ScalarToken). is_quoted x.scalar) (sym (pla
 
 -- a scalar before what does not change how it is read
 pub scalar_token_again : (flow : Bool) (a : At) (w : ScalarToken) (d : At) → scalar_token_at flow a ≡ Ok w → d.col ≡ w.end.col → begins 39 d.line ≡ false
-    → (plain_at flow a ≡ Ok w → Looks flow (w.scalar.text ++ w.end.line) (w.scalar.text ++ d.line)) → ScalarTokenReads flow (scalar_token_at flow) a w d
+    → (plain_at flow a ≡ Ok w → Behind flow w.scalar.text w.end.line d.line) → (plain_at flow a ≡ Ok w → Unmarking a.col w.scalar.text w.end.line d.line) → ScalarTokenReads flow (scalar_token_at flow) a w d
 unfolding scalar_token_at
-scalar_token_again flow a w d e col free looks =
+scalar_token_again flow a w d e col free behind kept =
     elim (cases_Bool (begins 39 a.line)) [
       | inl single ↦
           let r = quoted_reads flow styles.SingleQuoted 39 single_at no_quote a w d (single_closed (drop 1 a.line)) single (sym (first _ _ single) ∙ e) col (rw free refl) in
@@ -168,7 +177,7 @@ scalar_token_again flow a w d e col free looks =
             record { at = r.at; is = second _ _ _ (same_begins 39 r.at.line a.line r.first ∙ no_single) (same_begins 34 r.at.line a.line r.first ∙ double) ∙ r.is; along = r.along; col = r.col; first = r.first; whole = r.whole; later = r.later }
         | inr no_double ↦
             let plain = sym (third _ _ _ no_single no_double) ∙ e in
-            let r = plain_reads flow a w d plain col (looks plain) in
+            let r = plain_reads flow a w d plain col (behind plain) (kept plain) in
             record { at = r.at; is = third _ _ _ (same_begins 39 r.at.line a.line r.first ∙ no_single) (same_begins 34 r.at.line a.line r.first ∙ no_double) ∙ r.is; along = r.along; col = r.col; first = r.first; whole = r.whole; later = r.later }
       ]
     ]
@@ -182,8 +191,17 @@ scalar_token_again flow a w d e col free looks =
     third : {b c : Bool} (x y z : Result ScalarToken Fault) → b ≡ false → c ≡ false → cond b x (cond c y z) ≡ z
     third x y z e f = rw (e, f) refl
 
-pub scalar_token_reads : (flow : Bool) (a : At) (w : ScalarToken) (d : At) → scalar_token_at flow a ≡ Ok w → d.col ≡ w.end.col → begins 39 d.line ≡ false → (is_quoted w.scalar ≡ false → Near flow w.end.line d.line) → ScalarTokenReads flow (scalar_token_at flow) a w d
-scalar_token_reads flow a w d e col free near = scalar_token_again flow a w d e col free (λ plain. plain_looks flow a w d.line plain (near (plain_style flow a w plain)))
+pub plain_last : (flow : Bool) (a : At) (w : ScalarToken) → plain_at flow a ≡ Ok w → LastByte w.scalar.text
+plain_last flow a w e = let t = plain_text flow a w e in subst LastByte (sym t.1.1) (last_byte t.0 t.1.0)
+
+pub plain_behind : (flow : Bool) (a : At) (w : ScalarToken) (t : List ℕ) → plain_at flow a ≡ Ok w → Near flow w.end.line t → Behind flow w.scalar.text w.end.line t
+plain_behind flow a w t e near = behind_near flow w.scalar.text w.end.line t (plain_last flow a w e) near (plain_ends flow a w e)
+
+pub scalar_token_reads : (flow : Bool) (a : At) (w : ScalarToken) (d : At) → scalar_token_at flow a ≡ Ok w → d.col ≡ w.end.col → begins 39 d.line ≡ false → (is_quoted w.scalar ≡ false → Near flow w.end.line d.line)
+    → (is_quoted w.scalar ≡ false → ends_mark d.line ≡ ends_mark w.end.line) → ScalarTokenReads flow (scalar_token_at flow) a w d
+scalar_token_reads flow a w d e col free near mark =
+    scalar_token_again flow a w d e col free (λ plain. plain_behind flow a w d.line plain (near (plain_style flow a w plain)))
+    (λ plain bare. mark (plain_style flow a w plain))
 
 -- behind white space stands no other quote
 pub white_free : (v r : List ℕ) → all_of is_white v ≡ true → begins 39 r ≡ false → begins 39 (v ++ r) ≡ false
@@ -253,7 +271,7 @@ key_reads a w d e col gap = from (scalar_token_at false a) refl e
         let b = place v.end.col (c.front ++ (58 ∷ d.line)) d.later in
         let looks : Looks false v.end.line b.line =
         subst (λ (x : List ℕ). Looks false x b.line) (sym c.line) (looks_far false c.front (58 ∷ w.end.line) (58 ∷ d.line) (looks_colon false w.end.line d.line (gap_part w.end.line c.gap) (gap_part d.line gap))) in
-        let r = scalar_token_reads false a v b is refl (white_free c.front (58 ∷ d.line) c.all refl) (λ plain. near_of false v.end.line b.line looks) in
+        let r = scalar_token_reads false a v b is refl (white_free c.front (58 ∷ d.line) c.all refl) (λ plain. near_of false v.end.line b.line looks) (λ plain. looks.mark) in
         record {
           at = r.at;
           is = ap (λ (x : Result ScalarToken Fault). x >>= colon_behind) r.is ∙ colon_over v w d c col gap;
@@ -272,6 +290,15 @@ key_gap a w e = from (scalar_token_at false a) e
     from : (r : Result ScalarToken Fault) → (r >>= colon_behind) ≡ Ok w → is_gap w.end.line ≡ true
     from (Err f) e = absurd cc
     from (Ok v) e = (coloned v w e).gap
+
+-- and it stands behind the line's start
+pub key_col : (a : At) (w : ScalarToken) → key_at a ≡ Ok w → eqb w.end.col 0 ≡ false
+unfolding key_at
+key_col a w e = from (scalar_token_at false a) e
+  where
+    from : (r : Result ScalarToken Fault) → (r >>= colon_behind) ≡ Ok w → eqb w.end.col 0 ≡ false
+    from (Err f) e = absurd cc
+    from (Ok v) e = ne_eqb w.end.col 0 (λ none. absurd (omega (arith, (coloned v w e).col)))
 
 -- a key stands on a line whatever lines follow
 pub key_ok : (a : At) → is_key a ≡ true → (w : ScalarToken) × (key_at a ≡ Ok w)
@@ -297,6 +324,7 @@ pub record ScalarTokenPlace (a : At) : Type 0 where
   pub dashes : at_dashes a ≡ false
   pub dots : at_dots a ≡ false
   pub percent : begins 37 a.line ≡ false
+  pub clean : is_control a.line ≡ false
 
 quote_place : (c : ℕ) (a : At) → ((cs : List ℕ) → ScalarTokenPlace (place a.col (c ∷ cs) a.later)) → begins c a.line ≡ true → ScalarTokenPlace a
 quote_place c a each e = subst (λ (x : List ℕ). ScalarTokenPlace (place a.col x a.later)) (sym (head_line c a.line e)) (each (drop 1 a.line))
@@ -312,8 +340,15 @@ plain_place flow a (c ∷ cs) is mark begun dash =
       dashes = m.0;
       dots = m.1;
       percent = ap (begins 37) is ∙ no_byte 37 refl;
+      clean = ap is_control is ∙ not_control (is_white c) (is_indicator c) (is_control (c ∷ cs)) p.0;
     }
   where
+    not_control : (a b c : Bool) → not (a || b || c) ≡ true → c ≡ false
+    not_control true b c e = absurd cc
+    not_control false true c e = absurd cc
+    not_control false false true e = absurd cc
+    not_control false false false e = refl
+
     white : (a b c : Bool) → not (a || b || c) ≡ true → a ≡ false
     white true b c e = absurd cc
     white false b c e = refl
@@ -325,9 +360,9 @@ pub scalar_token_place : (flow : Bool) (a : At) (w : ScalarToken) → scalar_tok
 unfolding scalar_token_at
 scalar_token_place flow a w e =
     elim (cases_Bool (begins 39 a.line)) [
-      | inl single ↦ quote_place 39 a (λ cs. record { solid = refl; dash = refl; dashes = and_false (eqb a.col 0); dots = and_false (eqb a.col 0); percent = refl }) single
+      | inl single ↦ quote_place 39 a (λ cs. record { solid = refl; dash = refl; dashes = and_false (eqb a.col 0); dots = and_false (eqb a.col 0); percent = refl; clean = low_control 39 cs refl }) single
       | inr no_single ↦ elim (cases_Bool (begins 34 a.line)) [
-        | inl double ↦ quote_place 34 a (λ cs. record { solid = refl; dash = refl; dashes = and_false (eqb a.col 0); dots = and_false (eqb a.col 0); percent = refl }) double
+        | inl double ↦ quote_place 34 a (λ cs. record { solid = refl; dash = refl; dashes = and_false (eqb a.col 0); dots = and_false (eqb a.col 0); percent = refl; clean = low_control 34 cs refl }) double
         | inr no_double ↦
             let plain = sym (if_false (begins 39 a.line) _ _ no_single ∙ if_false (begins 34 a.line) _ _ no_double) ∙ e in
             let b = and_parts (not (at_mark a)) (begins_plain flow a.line) (plain_begun flow a w plain).begun in
@@ -367,13 +402,4 @@ unquoted flow a w e plain =
     ]
 
 pub plain_stops : (flow : Bool) (a : At) (w : ScalarToken) → scalar_token_at flow a ≡ Ok w → is_quoted w.scalar ≡ false → plain_len flow false w.end.line ≡ 0
-plain_stops flow a w e plain =
-    let b = plain_begun flow a w (unquoted flow a w e plain) in
-    let s = plain_some flow a.line (and_parts (not (at_mark a)) (begins_plain flow a.line) b.begun).1 in
-    elim (rest_stops flow false a.line) [
-      | inl none ↦ absurd (empty s.0 s.1.0 (sym (ap (λ (n : ℕ). take n a.line) none) ∙ s.1.1))
-      | inr stop ↦ ap (λ (x : ScalarToken). plain_len flow false x.end.line) (sym b.is) ∙ stop
-    ]
-  where
-    empty : (c : ℕ) (u : List ℕ) → take {A = ℕ} 0 a.line ≡ c ∷ u → ⊥
-    empty c u e = absurd cc
+plain_stops flow a w e plain = plain_ends flow a w (unquoted flow a w e plain)

@@ -1,11 +1,10 @@
 -- Scans of one line, when something else stands behind what they read.
-use Rattle.std.proofs.Common.{◌≡◌, ℕ, zero, suc, ◌≤◌, ◌+◌, ◌-◌, ◌*◌, ◌⊎◌, List, [], ◌∷◌, ◌++◌, drop, length, Bool, true, false, not, cond, ◌&&◌, ◌||◌, eqb, ltb, Option, Some, None, Ok, Err, nat_eq, refl, sym, ap, ◌∙◌, subst, inl, inr, arith, append_assoc, take}
+use Rattle.std.proofs.Common.{◌≡◌, ℕ, zero, suc, ◌≤◌, ◌+◌, ◌-◌, ◌*◌, ◌⊎◌, List, [], ◌∷◌, ◌++◌, drop, length, Bool, true, false, not, cond, ◌&&◌, ◌||◌, eqb, ltb, Option, Some, None, Ok, Err, nat_eq, refl, sym, ap, ◌∙◌, subst, inl, inr, arith, take}
 use Rattle.std.specs.List.{starts_with}
 use Rattle.std.specs.Char.{digit_value, is_digit}
 use lib.Utf8.{scalar}
 use Rattle.std.proofs.lemmas.Bool.{eqb-true}
-use Rattle.yaml_scan.specs.Bytes.{is_space, is_white, is_gap, is_control, is_flow_mark}
-use Rattle.yaml_scan.specs.Lines.{is_dashes, is_dots}
+use Rattle.yaml_scan.specs.Bytes.{is_space, is_white, is_control_byte, is_control, is_flow_mark, ends_mark}
 use Rattle.yaml_scan.specs.Plain.{is_indicator, parts, ends_plain, with_byte, plain_len, begins_plain}
 use Rattle.yaml_scan.specs.Quoted.{Found, Open, Bad, with_text, single_at, Turn, text_turn, escape_turn, hex_turn, digit_turn, digits_wanted, escaped, turn_at, continued, closes, double_at, double_quoted_at}
 use Rattle.yaml_small.specs.Places.{begins}
@@ -23,10 +22,10 @@ abbrev pub low : List ℕ → Bool
 low [] = true
 low (c ∷ cs) = is_low c
 
--- no byte above those of ASCII and of the control characters behind it begins the line
+-- neither a colon begins the line, nor a byte above those of ASCII and of the control characters behind it
 abbrev pub begins_low : List ℕ → Bool
 begins_low [] = true
-begins_low (c ∷ cs) = ltb c 160
+begins_low (c ∷ cs) = ltb c 160 && not (eqb c 58)
 
 pub white_low : (c : ℕ) → is_white c ≡ true → is_low c ≡ true
 white_low c e = from (eqb c 32) refl e
@@ -83,35 +82,28 @@ pub record Looks (flow : Bool) (r t : List ℕ) : Type 0 where
   pub part : parts flow t ≡ parts flow r
   pub begun : begins_plain flow t ≡ begins_plain flow r
   pub first : first_of t ≡ first_of r
-  pub dashes : (u : List ℕ) → is_dashes (u ++ t) ≡ is_dashes (u ++ r)
-  pub dots : (u : List ℕ) → is_dots (u ++ t) ≡ is_dots (u ++ r)
+  pub mark : ends_mark t ≡ ends_mark r
 
 pub looks_same : (flow : Bool) (r : List ℕ) → Looks flow r r
-looks_same flow r = record { plain = λ white. refl; control = λ c. refl; part = refl; begun = refl; first = refl; dashes = λ u. refl; dots = λ u. refl }
+looks_same flow r = record { plain = λ white. refl; control = λ c. refl; part = refl; begun = refl; first = refl; mark = refl }
 
 -- the same, but for how the rests begin: behind one byte, and behind each
 pub record NearTo (flow : Bool) (c : ℕ) (r t : List ℕ) : Type 0 where
   pub plain : (white : Bool) → plain_len flow white t ≡ plain_len flow white r
   pub control : is_control (c ∷ t) ≡ is_control (c ∷ r)
   pub part : parts flow t ≡ parts flow r
-  pub dashes : (u : List ℕ) → is_dashes (u ++ t) ≡ is_dashes (u ++ r)
-  pub dots : (u : List ℕ) → is_dots (u ++ t) ≡ is_dots (u ++ r)
 
 abbrev pub Near : Bool → List ℕ → List ℕ → Type 0
 Near flow r t = (c : ℕ) → NearTo flow c r t
 
 pub near_of : (flow : Bool) (r t : List ℕ) → Looks flow r t → Near flow r t
-near_of flow r t l = λ c. record { plain = l.plain; control = l.control c; part = l.part; dashes = l.dashes; dots = l.dots }
+near_of flow r t l = λ c. record { plain = l.plain; control = l.control c; part = l.part }
 
 plain_behind : (flow white : Bool) (c : ℕ) (r t : List ℕ) → NearTo flow c r t → plain_len flow white (c ∷ t) ≡ plain_len flow white (c ∷ r)
 plain_behind flow white c r t l = rw (l.part, l.control, l.plain (is_white c)) refl
 
 control_behind : (c d : ℕ) (r t : List ℕ) → is_control (c ∷ d ∷ t) ≡ is_control (c ∷ d ∷ r)
 control_behind c d r t = refl
-
-mark_behind : (test : List ℕ → Bool) (c : ℕ) (r t : List ℕ) → ((u : List ℕ) → test (u ++ t) ≡ test (u ++ r)) → (u : List ℕ) → test (u ++ (c ∷ t)) ≡ test (u ++ (c ∷ r))
-mark_behind test c r t e u =
-    ap test (sym (append_assoc u (c ∷ []) t)) ∙ e (u ++ (c ∷ [])) ∙ ap test (append_assoc u (c ∷ []) r)
 
 part_behind : (flow : Bool) (c : ℕ) (r t : List ℕ) → parts flow (c ∷ t) ≡ parts flow (c ∷ r)
 part_behind flow c r t = refl
@@ -127,35 +119,21 @@ looks_behind flow c r t l = record {
   part = part_behind flow c r t;
   begun = begun_behind flow c r t l;
   first = refl;
-  dashes = mark_behind is_dashes c r t l.dashes;
-  dots = mark_behind is_dots c r t l.dots;
+  mark = ap (λ (b : Bool). is_white c || b) l.control;
 }
 
 pub looks_far : (flow : Bool) (u r t : List ℕ) → Looks flow r t → Looks flow (u ++ r) (u ++ t)
 looks_far flow [] r t l = l
 looks_far flow (c ∷ u) r t l = looks_behind flow c (u ++ r) (u ++ t) (near_of flow (u ++ r) (u ++ t) (looks_far flow u r t l) c)
 
-pub near_far : (flow : Bool) (u r t : List ℕ) → Near flow r t → Near flow (u ++ r) (u ++ t)
-near_far flow [] r t n = n
-near_far flow (c ∷ u) r t n = near_of flow (c ∷ (u ++ r)) (c ∷ (u ++ t)) (looks_behind flow c (u ++ r) (u ++ t) (near_far flow u r t n c))
-
--- a byte that ends a plain scalar, and is no part of a document's mark
-no_mark : (mark c : ℕ) (r t : List ℕ) → eqb mark c ≡ false → (u : List ℕ)
-    → starts_with nat_eq (u ++ (c ∷ t)) (mark ∷ mark ∷ mark ∷ []) && is_gap (drop 3 (u ++ (c ∷ t))) ≡ starts_with nat_eq (u ++ (c ∷ r)) (mark ∷ mark ∷ mark ∷ []) && is_gap (drop 3 (u ++ (c ∷ r)))
-no_mark mark c r t e [] = rw e refl
-no_mark mark c r t e (x ∷ []) = rw e (none (eqb mark x) _ _)
+-- a byte that begins no control character of two bytes
+pub low_control : (c : ℕ) (r : List ℕ) → eqb c 194 ≡ false → is_control (c ∷ r) ≡ is_control (c ∷ [])
+low_control c [] e = refl
+low_control c (d ∷ r) e = ap (λ (b : Bool). is_control_byte c || (b && ltb d 160)) e ∙ alone (is_control_byte c)
   where
-    none : (a p q : Bool) → (a && false) && p ≡ (a && false) && q
-    none true p q = refl
-    none false p q = refl
-no_mark mark c r t e (x ∷ y ∷ []) = rw e (none (eqb mark x) (eqb mark y))
-  where
-    none : (a b : Bool) → (a && (b && false)) && is_gap t ≡ (a && (b && false)) && is_gap r
-    none true true = refl
-    none true false = refl
-    none false b = refl
-no_mark mark c r t e (x ∷ y ∷ z ∷ []) = refl
-no_mark mark c r t e (x ∷ y ∷ z ∷ w ∷ u) = refl
+    alone : (b : Bool) → b || false ≡ b
+    alone true = refl
+    alone false = refl
 
 record IsStop (flow : Bool) (c : ℕ) (r : List ℕ) : Type 0 where
   ends : (white : Bool) → ends_plain flow white (c ∷ r) ≡ true
@@ -164,31 +142,30 @@ record IsStop (flow : Bool) (c : ℕ) (r : List ℕ) : Type 0 where
 stop_len : (flow white : Bool) (c : ℕ) (r : List ℕ) → IsStop flow c r → plain_len flow white (c ∷ r) ≡ 0
 stop_len flow white c r s = ap (λ (b : Bool). cond b 0 (with_byte c (plain_len flow (is_white c) r))) (s.ends white)
 
-looks_stop : (flow : Bool) (c : ℕ) (r t : List ℕ) → eqb 45 c ≡ false → eqb 46 c ≡ false → IsStop flow c r → IsStop flow c t → Looks flow (c ∷ r) (c ∷ t)
-looks_stop flow c r t dash dot s z = record {
+looks_stop : (flow : Bool) (c : ℕ) (r t : List ℕ) → eqb c 194 ≡ false → IsStop flow c r → IsStop flow c t → Looks flow (c ∷ r) (c ∷ t)
+looks_stop flow c r t other s z = record {
   plain = λ white. stop_len flow white c t z ∙ sym (stop_len flow white c r s);
   control = λ b. refl;
   part = refl;
   begun = z.begun ∙ sym s.begun;
   first = refl;
-  dashes = no_mark 45 c r t dash;
-  dots = no_mark 46 c r t dot;
+  mark = ap (λ (b : Bool). is_white c || b) (low_control c t other ∙ sym (low_control c r other));
 }
 
 pub looks_comma : (r t : List ℕ) → Looks true (44 ∷ r) (44 ∷ t)
-looks_comma r t = looks_stop true 44 r t refl refl (record { ends = λ white. refl; begun = refl }) (record { ends = λ white. refl; begun = refl })
+looks_comma r t = looks_stop true 44 r t refl (record { ends = λ white. refl; begun = refl }) (record { ends = λ white. refl; begun = refl })
 
 pub looks_bracket : (r t : List ℕ) → Looks true (93 ∷ r) (93 ∷ t)
-looks_bracket r t = looks_stop true 93 r t refl refl (record { ends = λ white. refl; begun = refl }) (record { ends = λ white. refl; begun = refl })
+looks_bracket r t = looks_stop true 93 r t refl (record { ends = λ white. refl; begun = refl }) (record { ends = λ white. refl; begun = refl })
 
 pub looks_brace : (r t : List ℕ) → Looks true (125 ∷ r) (125 ∷ t)
-looks_brace r t = looks_stop true 125 r t refl refl (record { ends = λ white. refl; begun = refl }) (record { ends = λ white. refl; begun = refl })
+looks_brace r t = looks_stop true 125 r t refl (record { ends = λ white. refl; begun = refl }) (record { ends = λ white. refl; begun = refl })
 
 colon_stop : (flow : Bool) (r : List ℕ) → parts flow r ≡ true → IsStop flow 58 r
 colon_stop flow r e = record { ends = λ white. rw e refl; begun = rw e (and_false _) }
 
 pub looks_colon : (flow : Bool) (r t : List ℕ) → parts flow r ≡ true → parts flow t ≡ true → Looks flow (58 ∷ r) (58 ∷ t)
-looks_colon flow r t e f = looks_stop flow 58 r t refl refl (colon_stop flow r e) (colon_stop flow t f)
+looks_colon flow r t e f = looks_stop flow 58 r t refl (colon_stop flow r e) (colon_stop flow t f)
 
 -- the bytes of a plain scalar are there
 len_step : (c n : ℕ) (cs : List ℕ) → n ≤ length cs → with_byte c n ≤ suc (length cs)

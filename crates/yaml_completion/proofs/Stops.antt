@@ -1,29 +1,10 @@
 -- What ends a plain scalar, and what may stand there instead.
-use Rattle.std.proofs.Common.{zero, suc, arith, ◌≡◌, ℕ, List, [], ◌∷◌, ◌++◌, drop, Bool, true, false, cond, ◌&&◌, ◌||◌, eqb, ltb, nat_eq, refl, sym, ap, ◌∙◌, subst, inl, inr}
-use Rattle.std.specs.List.{starts_with}
+use Rattle.std.proofs.Common.{zero, suc, arith, ◌≡◌, ℕ, List, [], ◌∷◌, Bool, true, false, cond, ◌&&◌, ◌||◌, eqb, ltb, refl, sym, ap, ◌∙◌, inl, inr}
 use Rattle.std.proofs.lemmas.Bool.{cases_Bool, eqb-true}
-use Rattle.yaml_scan.specs.Bytes.{is_space, is_white, is_gap, is_flow_mark, is_control}
+use Rattle.yaml_scan.specs.Bytes.{is_space, is_white, is_flow_mark, is_control, ends_mark}
 use Rattle.yaml_scan.specs.Plain.{parts, ends_plain, with_byte, plain_len}
-use Rattle.yaml_small.proofs.Marks.{and_false, or_parts, not_so, both}
-use Rattle.yaml_completion.proofs.Scans.{Near}
-
--- other heads, which are no part of a document's mark
-pub no_mark : (mark x y : ℕ) (r t : List ℕ) → eqb mark x ≡ false → eqb mark y ≡ false → is_space y ≡ is_space x → (u : List ℕ)
-    → starts_with nat_eq (u ++ (y ∷ t)) (mark ∷ mark ∷ mark ∷ []) && is_gap (drop 3 (u ++ (y ∷ t))) ≡ starts_with nat_eq (u ++ (x ∷ r)) (mark ∷ mark ∷ mark ∷ []) && is_gap (drop 3 (u ++ (x ∷ r)))
-no_mark mark x y r t p q gap [] = rw (p, q) refl
-no_mark mark x y r t p q gap (a ∷ []) = rw (p, q) (none (eqb mark a) _ _)
-  where
-    none : (a b c : Bool) → (a && false) && b ≡ (a && false) && c
-    none true b c = refl
-    none false b c = refl
-no_mark mark x y r t p q gap (a ∷ b ∷ []) = rw (p, q) (none (eqb mark a) (eqb mark b) _ _)
-  where
-    none : (a b c d : Bool) → (a && (b && false)) && c ≡ (a && (b && false)) && d
-    none true true c d = refl
-    none true false c d = refl
-    none false b c d = refl
-no_mark mark x y r t p q gap (a ∷ b ∷ c ∷ []) = ap (λ (g : Bool). starts_with nat_eq (a ∷ b ∷ c ∷ []) (mark ∷ mark ∷ mark ∷ []) && g) gap
-no_mark mark x y r t p q gap (a ∷ b ∷ c ∷ d ∷ u) = refl
+use Rattle.yaml_small.proofs.Marks.{and_false, or_true, or_parts, not_so, both}
+use Rattle.yaml_completion.proofs.Scans.{begins_low, low_control, Near}
 
 -- where no plain scalar goes on, none does behind white space either
 pub always_stops : (flow : Bool) (x : ℕ) (xs : List ℕ) → plain_len flow false (x ∷ xs) ≡ 0 → (white : Bool) → plain_len flow white (x ∷ xs) ≡ 0
@@ -43,41 +24,41 @@ white_len flow white x t e none = ap (λ (m : ℕ). cond (ends_plain flow white 
     passed true = refl
     passed false = ap (λ (b : Bool). cond {A = ℕ} b 0 1) e
 
--- a byte that is emitted by these tests
-pub record Emitted (x : ℕ) : Type 0 where
-  pub small : ltb x 160 ≡ true
-  dash : eqb 45 x ≡ false
-  dot : eqb 46 x ≡ false
-
-near_heads : (flow : Bool) (x y : ℕ) (xs t : List ℕ) → Emitted x → Emitted y → is_space y ≡ is_space x → flow && is_flow_mark y ≡ flow && is_flow_mark x → ((white : Bool) → plain_len flow white (x ∷ xs) ≡ 0)
+near_heads : (flow : Bool) (x y : ℕ) (xs t : List ℕ) → ltb x 160 ≡ true → ltb y 160 ≡ true → is_space y ≡ is_space x → flow && is_flow_mark y ≡ flow && is_flow_mark x → ((white : Bool) → plain_len flow white (x ∷ xs) ≡ 0)
     → ((white : Bool) → plain_len flow white (y ∷ t) ≡ 0) → Near flow (x ∷ xs) (y ∷ t)
 near_heads flow x y xs t p q space mark old new = λ c. record {
   plain = λ white. new white ∙ sym (old white);
-  control = rw (p.small, q.small) refl;
+  control = rw (p, q) refl;
   part = ap (λ (b : Bool). b || (flow && is_flow_mark y)) space ∙ ap (λ (b : Bool). is_space x || b) mark;
-  dashes = no_mark 45 x y xs t p.dash q.dash space;
-  dots = no_mark 46 x y xs t p.dot q.dot space;
 }
 
-emitted_is : (x n : ℕ) → Emitted n → eqb x n ≡ true → Emitted x
-emitted_is x n t e = subst Emitted (sym (eqb-true x n e)) t
+small_is : (x n : ℕ) → ltb n 160 ≡ true → eqb x n ≡ true → ltb x 160 ≡ true
+small_is x n small e = ap (λ (y : ℕ). ltb y 160) (eqb-true x n e) ∙ small
 
-pub emitted_white : (x : ℕ) → is_white x ≡ true → Emitted x
-emitted_white x e =
+white_small : (x : ℕ) → is_white x ≡ true → ltb x 160 ≡ true
+white_small x e =
     elim (cases_Bool (eqb x 32)) [
-      | inl is ↦ emitted_is x 32 (record { small = refl; dash = refl; dot = refl }) is
-      | inr other ↦ emitted_is x 9 (record { small = refl; dash = refl; dot = refl }) (sym (ap (λ (b : Bool). b || eqb x 9) other) ∙ e)
+      | inl is ↦ small_is x 32 refl is
+      | inr other ↦ small_is x 9 refl (sym (ap (λ (b : Bool). b || eqb x 9) other) ∙ e)
     ]
 
-emitted_mark : (x : ℕ) → is_flow_mark x ≡ true → Emitted x
-emitted_mark x e = from (eqb x 44) (eqb x 91) (eqb x 93) (eqb x 123) (eqb x 125) refl refl refl refl refl e
+-- white space begins low
+pub white_begins : (x : ℕ) (xs : List ℕ) → is_white x ≡ true → begins_low (x ∷ xs) ≡ true
+white_begins x xs e =
+    elim (cases_Bool (eqb x 32)) [
+      | inl is ↦ ap (λ (y : ℕ). begins_low (y ∷ xs)) (eqb-true x 32 is)
+      | inr other ↦ ap (λ (y : ℕ). begins_low (y ∷ xs)) (eqb-true x 9 (sym (ap (λ (b : Bool). b || eqb x 9) other) ∙ e))
+    ]
+
+mark_small : (x : ℕ) → is_flow_mark x ≡ true → ltb x 160 ≡ true
+mark_small x e = from (eqb x 44) (eqb x 91) (eqb x 93) (eqb x 123) (eqb x 125) refl refl refl refl refl e
   where
-    from : (a b c d f : Bool) → eqb x 44 ≡ a → eqb x 91 ≡ b → eqb x 93 ≡ c → eqb x 123 ≡ d → eqb x 125 ≡ f → a || b || c || d || f ≡ true → Emitted x
-    from true b c d f p q r s t e = emitted_is x 44 (record { small = refl; dash = refl; dot = refl }) p
-    from false true c d f p q r s t e = emitted_is x 91 (record { small = refl; dash = refl; dot = refl }) q
-    from false false true d f p q r s t e = emitted_is x 93 (record { small = refl; dash = refl; dot = refl }) r
-    from false false false true f p q r s t e = emitted_is x 123 (record { small = refl; dash = refl; dot = refl }) s
-    from false false false false true p q r s t e = emitted_is x 125 (record { small = refl; dash = refl; dot = refl }) t
+    from : (a b c d f : Bool) → eqb x 44 ≡ a → eqb x 91 ≡ b → eqb x 93 ≡ c → eqb x 123 ≡ d → eqb x 125 ≡ f → a || b || c || d || f ≡ true → ltb x 160 ≡ true
+    from true b c d f p q r s t e = small_is x 44 refl p
+    from false true c d f p q r s t e = small_is x 91 refl q
+    from false false true d f p q r s t e = small_is x 93 refl r
+    from false false false true f p q r s t e = small_is x 123 refl s
+    from false false false false true p q r s t e = small_is x 125 refl t
     from false false false false false p q r s t e = absurd cc
 
 -- a byte that ends no plain scalar
@@ -112,19 +93,50 @@ no_dash flow x xs none = no_byte flow 45 x xs (no_end flow 45 dash_clean refl re
 pub no_dot : (flow : Bool) (x : ℕ) (xs : List ℕ) → plain_len flow false (x ∷ xs) ≡ 0 → eqb 46 x ≡ false
 no_dot flow x xs none = no_byte flow 46 x xs (no_end flow 46 dot_clean refl refl refl) refl none
 
-emitted_stop : (flow : Bool) (x : ℕ) (xs : List ℕ) → ltb x 160 ≡ true → plain_len flow false (x ∷ xs) ≡ 0 → Emitted x
-emitted_stop flow x xs small none = record { small = small; dash = no_dash flow x xs none; dot = no_dot flow x xs none }
+-- Content where no plain scalar goes on, and that is no mark, is a control character.
+pub stop_control : (flow : Bool) (x : ℕ) (xs : List ℕ) → is_white x ≡ false → eqb x 58 && parts flow xs ≡ false → flow && is_flow_mark x ≡ false → plain_len flow false (x ∷ xs) ≡ 0 → is_control (x ∷ xs) ≡ true
+stop_control flow x xs dark colon plain none =
+    elim (cases_Bool (ends_plain flow false (x ∷ xs))) [
+      | inl is ↦ last (eqb x 35 && false) (eqb x 58 && parts flow xs) (flow && is_flow_mark x) (is_control (x ∷ xs)) (and_false (eqb x 35)) colon plain is
+      | inr more ↦ absurd (continues_below flow x xs more dark none)
+    ]
+  where
+    last : (a b c d : Bool) → a ≡ false → b ≡ false → c ≡ false → a || b || c || d ≡ true → d ≡ true
+    last true b c d p q r e = absurd cc
+    last false true c d p q r e = absurd cc
+    last false false true d p q r e = absurd cc
+    last false false false d p q r e = e
+
+-- a document mark in front of a control character is one
+pub control_ends : (line : List ℕ) → is_control line ≡ true → ends_mark line ≡ true
+control_ends [] e = absurd cc
+control_ends (x ∷ xs) e = rw e (or_true (is_white x))
 
 -- a byte of white space before another token
 pub near_white : (flow : Bool) (x : ℕ) (xs t : List ℕ) → is_white x ≡ true → ((white : Bool) → plain_len flow white t ≡ 0) → plain_len flow false (x ∷ xs) ≡ 0 → Near flow (x ∷ xs) (x ∷ t)
 near_white flow x xs t e new none =
-    near_heads flow x x xs t (emitted_white x e) (emitted_white x e) refl refl (always_stops flow x xs none)
+    near_heads flow x x xs t (white_small x e) (white_small x e) refl refl (always_stops flow x xs none)
     (λ white. white_len flow white x t e (new (is_white x)))
+
+-- no document mark ends before a mark of a flow
+pub mark_unended : (x : ℕ) (xs : List ℕ) → is_flow_mark x ≡ true → ends_mark (x ∷ xs) ≡ false
+mark_unended x xs e = from (eqb x 44) (eqb x 91) (eqb x 93) (eqb x 123) (eqb x 125) refl refl refl refl refl e
+  where
+    is : (n : ℕ) → eqb n 194 ≡ false → is_white n || is_control (n ∷ []) ≡ false → eqb x n ≡ true → ends_mark (x ∷ xs) ≡ false
+    is n low none same = ap (λ (y : ℕ). ends_mark (y ∷ xs)) (eqb-true x n same) ∙ ap (λ (b : Bool). is_white n || b) (low_control n xs low) ∙ none
+
+    from : (a b c d f : Bool) → eqb x 44 ≡ a → eqb x 91 ≡ b → eqb x 93 ≡ c → eqb x 123 ≡ d → eqb x 125 ≡ f → a || b || c || d || f ≡ true → ends_mark (x ∷ xs) ≡ false
+    from true b c d f p q r s t e = is 44 refl refl p
+    from false true c d f p q r s t e = is 91 refl refl q
+    from false false true d f p q r s t e = is 93 refl refl r
+    from false false false true f p q r s t e = is 123 refl refl s
+    from false false false false true p q r s t e = is 125 refl refl t
+    from false false false false false p q r s t e = absurd cc
 
 -- a comma in place of a mark of a flow
 pub near_comma : (x : ℕ) (xs t : List ℕ) → is_flow_mark x ≡ true → plain_len true false (x ∷ xs) ≡ 0 → Near true (x ∷ xs) (44 ∷ t)
 near_comma x xs t e none =
-    near_heads true x 44 xs t (emitted_mark x e) (record { small = refl; dash = refl; dot = refl }) (sym (no_space x e)) (sym e) (always_stops true x xs none) (λ white. refl)
+    near_heads true x 44 xs t (mark_small x e) refl (sym (no_space x e)) (sym e) (always_stops true x xs none) (λ white. refl)
   where
     no_space : (x : ℕ) → is_flow_mark x ≡ true → is_space x ≡ false
     no_space x e = not_so (is_space x) (λ is. both (is_flow_mark x) e (ap is_flow_mark (eqb-true x 32 is)))
@@ -133,4 +145,4 @@ near_comma x xs t e none =
 pub near_tab : (flow : Bool) (x : ℕ) (xs t : List ℕ) → is_white x ≡ false → flow && is_flow_mark x ≡ false → ltb x 160 ≡ true → ((white : Bool) → plain_len flow white (9 ∷ t) ≡ 0) → plain_len flow false (x ∷ xs) ≡ 0
     → Near flow (x ∷ xs) (9 ∷ t)
 near_tab flow x xs t dark plain small new none =
-    near_heads flow x 9 xs t (emitted_stop flow x xs small none) (record { small = refl; dash = refl; dot = refl }) (sym (or_parts (is_space x) (eqb x 9) dark).0) (and_false flow ∙ sym plain) (always_stops flow x xs none) new
+    near_heads flow x 9 xs t small refl (sym (or_parts (is_space x) (eqb x 9) dark).0) (and_false flow ∙ sym plain) (always_stops flow x xs none) new

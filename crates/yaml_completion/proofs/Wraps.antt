@@ -1,6 +1,6 @@
 -- Steps that first go to the next content, over white space or to the next token.
-use Rattle.std.proofs.Common.{◌≡◌, ℕ, ◌+◌, List, [], ◌∷◌, ◌++◌, drop, Bool, true, false, cond, ◌&&◌, eqb, Result, refl, sym, ap, ◌∙◌, subst}
-use Rattle.yaml_scan.specs.Bytes.{is_space, is_white, is_gap, spaces, whites}
+use Rattle.std.proofs.Common.{◌≡◌, ℕ, ◌+◌, List, [], ◌∷◌, ◌++◌, drop, Bool, true, false, not, cond, ◌&&◌, ◌||◌, eqb, Result, refl, sym, ap, ◌∙◌, subst}
+use Rattle.yaml_scan.specs.Bytes.{is_space, is_white, is_gap, is_control, ends_mark, spaces, whites}
 use Rattle.yaml_scan.specs.Lines.{ends}
 use Rattle.yaml_small.specs.declared.state.Frame.{Frame}
 use Rattle.yaml_small.specs.Places.{At, over, next_at, flow_next, begins, is_end, at_dots, is_dash}
@@ -11,10 +11,11 @@ use Rattle.yaml_scan.specs.Lines.{is_dashes}
 use Rattle.yaml_small.proofs.Marks.{and_parts}
 use Rattle.yaml_completion.proofs.Along.{ahead, further, all_of, stops, counted, is_solid, solid_white, white_space, gone_over}
 use Rattle.yaml_completion.proofs.Contents.{Instead, Ready, place, next_below, Spaced, spaced_at}
+use Rattle.yaml_completion.proofs.Scans.{low_control}
 use Rattle.yaml_completion.proofs.ScalarTokens.{ScalarTokenPlace, head_line}
 use Rattle.yaml_completion.proofs.Blocks.{Alike}
 use Rattle.yaml_completion.proofs.Tokens.{Token, token_at}
-use Rattle.yaml_completion.proofs.Moves.{Moves, Gap}
+use Rattle.yaml_completion.proofs.Moves.{Moves, Gap, BehindDashes}
 
 pub moves_next : (k : List Frame) (P Q : At → Type 0) (r : At → Result Transition Fault) (a : At) → Moves k P r (next_at a.later) → ((c : At) → P c → Ready (next_at a.later) c) → ((c : At) → c.line ≡ a.line → c.col ≡ a.col → Q c)
     → Moves k Q (λ c. r (next_at c.later)) a
@@ -82,6 +83,23 @@ gap_over a s c more = record {
   gap = λ gap. white_gap s.front (over a).line c.line s.all s.stop (sym (ap ends s.line) ∙ more) (sym (ap is_gap s.line) ∙ gap);
 }
 
+-- what ends a mark in front of other content
+white_mark : (v r t : List ℕ) → all_of is_white v ≡ true → stops is_white r ≡ true → is_control r ≡ false → ends (v ++ r) ≡ false → ends_mark (v ++ r) ≡ true → ends_mark (v ++ t) ≡ true
+white_mark [] [] t all stop clean more mark = absurd cc
+white_mark [] (c ∷ cs) t all stop clean more mark = absurd (none (is_white c) (is_control (c ∷ cs)) stop clean mark)
+  where
+    none : (a b : Bool) → not a ≡ true → b ≡ false → a || b ≡ true → ⊥
+    none true b p q e = absurd cc
+    none false true p q e = absurd cc
+    none false false p q e = absurd cc
+white_mark (c ∷ v) r t all stop clean more mark = ap (λ (b : Bool). b || is_control (c ∷ (v ++ t))) (and_parts (is_white c) (all_of is_white v) all).0
+
+pub dashes_over : (a : At) (s : Spaced a) (c : At) → is_control (over a).line ≡ false → ends a.line ≡ false → BehindDashes a (place a.col (s.front ++ c.line) c.later)
+dashes_over a s c clean more = record {
+  col = refl;
+  mark = λ mark. white_mark s.front (over a).line c.line s.all s.stop clean (sym (ap ends s.line) ∙ more) (sym (ap ends_mark s.line) ∙ mark);
+}
+
 white_spaces : (v r t : List ℕ) → all_of is_white v ≡ true → stops is_white r ≡ true → stops is_white t ≡ true → spaces (v ++ t) ≡ spaces (v ++ r)
 white_spaces [] r t all stop other = counted is_space [] t refl (white_space t other) ∙ sym (counted is_space [] r refl (white_space r stop))
 white_spaces (c ∷ v) r t all stop other = ap (λ (n : ℕ). cond (is_space c) (1 + n) 0) (white_spaces v r t (and_parts (is_white c) (all_of is_white v) all).1 stop other)
@@ -98,14 +116,14 @@ alike_seq a c p q col =
     subst (λ (l : List ℕ). Alike (place a.col l a.later) c) (sym (head_line 91 a.line p))
     (subst (λ (n : ℕ). Alike (place a.col (91 ∷ drop 1 a.line) a.later) (place n c.line c.later)) (sym col)
     (subst (λ (l : List ℕ). Alike (place a.col (91 ∷ drop 1 a.line) a.later) (place a.col l c.later)) (sym (head_line 91 c.line q))
-    (record { instead = record { col = refl; some = refl; other = refl }; dash = refl; dashes = refl; dots = refl; percent = refl })))
+    (record { instead = record { col = refl; some = refl; other = refl }; dash = refl; dashes = refl; dots = refl; percent = refl; clean = low_control 91 (drop 1 a.line) refl })))
 
 pub alike_map : (a c : At) → begins 123 a.line ≡ true → begins 123 c.line ≡ true → c.col ≡ a.col → Alike a c
 alike_map a c p q col =
     subst (λ (l : List ℕ). Alike (place a.col l a.later) c) (sym (head_line 123 a.line p))
     (subst (λ (n : ℕ). Alike (place a.col (123 ∷ drop 1 a.line) a.later) (place n c.line c.later)) (sym col)
     (subst (λ (l : List ℕ). Alike (place a.col (123 ∷ drop 1 a.line) a.later) (place a.col l c.later)) (sym (head_line 123 c.line q))
-    (record { instead = record { col = refl; some = refl; other = refl }; dash = refl; dashes = refl; dots = refl; percent = refl })))
+    (record { instead = record { col = refl; some = refl; other = refl }; dash = refl; dashes = refl; dots = refl; percent = refl; clean = low_control 123 (drop 1 a.line) refl })))
 
 gap_no_dashes : (t : List ℕ) → is_gap t ≡ true → is_dashes (45 ∷ t) ≡ false
 gap_no_dashes [] e = refl
@@ -129,6 +147,7 @@ alike_dash a t later dash gap =
       dashes = ap (λ (b : Bool). eqb a.col 0 && b) (gap_no_dashes t gap ∙ sym (gap_no_dashes (drop 1 a.line) old));
       dots = refl;
       percent = refl;
+      clean = low_control 45 (drop 1 a.line) refl;
     })
 
 solid_line : (line : List ℕ) (a : At) → a.line ≡ line → is_solid line ≡ true → is_end a ≡ false
@@ -145,13 +164,15 @@ alike_scalar_tokens a c p q col = record {
   dashes = q.dashes ∙ sym p.dashes;
   dots = q.dots ∙ sym p.dots;
   percent = q.percent ∙ sym p.percent;
+  clean = p.clean;
 }
 
-pub alike_line : (a c : At) → is_solid a.line ≡ true → c.line ≡ a.line → c.col ≡ a.col → Alike a c
-alike_line a c solid line col = record {
+pub alike_line : (a c : At) → is_solid a.line ≡ true → is_control a.line ≡ false → c.line ≡ a.line → c.col ≡ a.col → Alike a c
+alike_line a c solid clean line col = record {
   instead = record { col = col; some = solid_some a solid; other = ap is_solid line ∙ solid };
   dash = ap is_dash line;
   dashes = ap (λ (n : ℕ). eqb n 0 && is_dashes c.line) col ∙ ap (λ (l : List ℕ). eqb a.col 0 && is_dashes l) line;
   dots = ap (λ (n : ℕ). at_dots (place n c.line c.later)) col ∙ ap (λ (l : List ℕ). at_dots (place a.col l c.later)) line;
   percent = ap (begins 37) line;
+  clean = clean;
 }

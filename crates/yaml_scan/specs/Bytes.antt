@@ -149,6 +149,12 @@ is_control [] = false
 is_control (c ∷ []) = is_control_byte c
 is_control (c ∷ d ∷ cs) = is_control_byte c || (c == 0xc2 && nat_lt d 0xa0)
 
+-- A document mark in front of this is one: the line's end or white space ([206] c-forbidden), or a control character,
+-- which no text holds.
+abbrev pub ends_mark : List ℕ → Bool
+ends_mark [] = true
+ends_mark (c ∷ cs) = is_white c || is_control (c ∷ cs)
+
 -- no control character
 abbrev pub is_clean : List ℕ → Bool
 is_clean [] = true

@@ -1,7 +1,7 @@
 -- Lines (YAML 1.2.2, sections 5.4, 6.1 and 6.6).
 use Rattle.std.specs.Prelude.{ℕ, ◌+◌, List, [], ◌∷◌, length, drop, Bool, true, false, not, ◌==◌, ◌&&◌, if◌then◌else◌, Option, Some, None, nat_eq}
 use Rattle.std.specs.List.{starts_with}
-use Rattle.yaml_scan.specs.Bytes.{line_feed, carriage_return, hash, dash, dot, is_white, is_gap, is_clean, whites}
+use Rattle.yaml_scan.specs.Bytes.{line_feed, carriage_return, hash, dash, dot, is_white, ends_mark, is_clean, whites}
 
 -- a line with one more byte in front
 abbrev pub lengthened : ℕ → List (List ℕ) → List (List ℕ)
@@ -66,9 +66,9 @@ abbrev pub text_follows : List (List ℕ) → Bool
 text_follows [] = false
 text_follows (line ∷ lines) = if is_white_line line then text_follows lines else not (is_comment_line line)
 
--- the marks of a document's start and end
+-- the marks of a document's start and end ([203] c-directives-end, [204] c-document-end)
 abbrev pub is_dashes : List ℕ → Bool
-is_dashes line = starts_with nat_eq line (dash ∷ dash ∷ dash ∷ []) && is_gap (drop 3 line)
+is_dashes line = starts_with nat_eq line (dash ∷ dash ∷ dash ∷ []) && ends_mark (drop 3 line)
 
 abbrev pub is_dots : List ℕ → Bool
-is_dots line = starts_with nat_eq line (dot ∷ dot ∷ dot ∷ []) && is_gap (drop 3 line)
+is_dots line = starts_with nat_eq line (dot ∷ dot ∷ dot ∷ []) && ends_mark (drop 3 line)

@@ -57,6 +57,16 @@ pub fn is_control_at(first: u8, behind: &[u8]) -> bool
     }
 }
 
+/// Whether a document mark in front of this is one: the line ends, or white space or a control character follows.
+pub fn ends_mark(line: &[u8]) -> bool
+    ensures { result ≡ spec.ends_mark line.now }
+{
+    match line {
+        [] => true,
+        [first, ..] => is_white(*first) || is_control(line),
+    }
+}
+
 /// Whether a byte is a control character of ASCII other than the tab.
 fn is_control_byte(byte: u8) -> bool
     ensures { result ≡ spec.is_control_byte byte }

@@ -3,7 +3,7 @@
 ghost use Rattle.std.specs.Prelude.{◌≡◌, ◌∷◌, ◌≤◌, ◌<◌, length, option_copied, IfSome};
 ghost use Rattle.yaml_scan.specs.Lines as spec;
 
-use crate::bytes::{is_clean, is_gap, is_white, whites};
+use crate::bytes::{ends_mark, is_clean, is_white, whites};
 use memchr::memchr;
 
 /// The first line of a text, and what stands behind its end, which is a line feed or a carriage return and a
@@ -90,16 +90,16 @@ pub fn text_follows(later: Option<&[u8]>) -> bool
     false
 }
 
-/// Whether a line begins with `---` as a mark: before a space or the line's end.
+/// Whether a line begins with `---` as a mark: before white space, a control character or the line's end.
 pub fn is_dashes(line: &[u8]) -> bool
     ensures { result ≡ spec.is_dashes line.now }
 {
-    line.starts_with(b"---") && is_gap(&line[3..])
+    line.starts_with(b"---") && ends_mark(&line[3..])
 }
 
-/// Whether a line begins with `...` as a mark: before a space or the line's end.
+/// Whether a line begins with `...` as a mark: before white space, a control character or the line's end.
 pub fn is_dots(line: &[u8]) -> bool
     ensures { result ≡ spec.is_dots line.now }
 {
-    line.starts_with(b"...") && is_gap(&line[3..])
+    line.starts_with(b"...") && ends_mark(&line[3..])
 }

@@ -102,7 +102,7 @@ module _ (k : List Frame) (le : length k ≤ 64) where
 
   explicit : (a : At) → Room k (explicit_at (length k) a)
   unfolding explicit_at
-  explicit a = either _ _ _ (lower _ _) (inline _ _ _)
+  explicit a = either _ _ _ (lower _ _) (either _ _ _ (inline _ _ _) (fault _))
 
   key : (a : At) → Room k (key_step a)
   unfolding key_step

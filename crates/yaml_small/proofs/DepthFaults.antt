@@ -1,10 +1,10 @@
 -- A list or map is too deep only where 64 are open, and it would begin were none open.
-use Rattle.std.proofs.Common.{◌≡◌, ℕ, ◌≤◌, List, [], ◌∷◌, length, drop, Bool, true, false, not, cond, eqb, ◌&&◌, ◌||◌, ltb, Option, Some, None, Result, Ok, Err, refl, sym, ap, ◌∙◌, subst, arith}
+use Rattle.std.proofs.Common.{◌≡◌, ℕ, ◌≤◌, List, [], ◌∷◌, length, drop, Bool, true, false, not, cond, eqb, ◌&&◌, ◌||◌, ltb, Option, Some, None, Result, Ok, Err, refl, sym, ap, ◌∙◌, arith}
 use Rattle.std.proofs.lemmas.Bool.{ltb-false}
 use Rattle.warg_values.specs.Reading.{◌>>=◌}
 use Rattle.yaml_scan.specs.Bytes.{spaces, whites, begins_flow_mark}
 use Rattle.yaml_scan.specs.Lines.{ends, is_comment_line}
-use Rattle.yaml_scan.specs.Quoted.{Flaw, Open, Bad, Found, single_at, double_quoted_at}
+use Rattle.yaml_scan.specs.Quoted.{Open, Bad, Found, single_at, double_quoted_at}
 use Rattle.yaml_scan.specs.Block.{block_lines, all_clean, indent_of}
 use Rattle.yaml_small.specs.declared.event.Event.{Event}
 use Rattle.yaml_small.specs.declared.event.Event.TheVariants.{SequenceStart, MappingStart}
@@ -16,9 +16,9 @@ use Rattle.yaml_small.specs.declared.state.Mode.TheVariants as modes
 use Rattle.yaml_small.specs.declared.state.Frame.{Frame}
 use Rattle.yaml_small.specs.declared.state.Frame.TheVariants.{InList, InMap, InSeq, InPairs}
 use Rattle.yaml_small.specs.declared.state.Change.TheVariants.{Push}
-use Rattle.yaml_small.specs.Places.{At, past, over, next_at, flow_next, is_end, begins, at_dashes, at_dots, is_within, is_dash, at_dash, is_colon}
+use Rattle.yaml_small.specs.Places.{At, over, next_at, flow_next, is_end, begins, at_dashes, at_dots, is_within, is_dash, at_dash, is_colon}
 use Rattle.yaml_small.specs.Scalars.{Fault, Form, NotCarried, TooDeep, Cut, ScalarToken, begins_at, is_not_carried, is_tabbed, start_fault, plain_at, open_fault, quoted_at, scalar_token_at, colon_behind, key_at, is_key, begins_block, is_indicator, gathered, headed, block_at}
-use Rattle.yaml_small.specs.Step.{Transition, transition, opened, list_start, map_start, settled, scalar_token_transition, block_transition, missing_transition, inline_at, node_at, below, tabbed, item_at, under, value_at, explicit_at, key_transition, key_step, closed, seq_entry, flow_key, pairs_entry, open_at, flow_fault, flow_value, after_key_at, seq_fault, seq_done, pairs_done, line_fault, block_end, list_done, map_done, dots_end, root_done, done_at, document_at, last_at, step_at}
+use Rattle.yaml_small.specs.Step.{Transition, transition, opened, list_start, map_start, scalar_token_transition, block_transition, inline_at, node_at, below, tabbed, item_at, under, value_at, explicit_at, key_transition, key_step, seq_entry, flow_key, pairs_entry, open_at, flow_fault, flow_value, after_key_at, seq_fault, seq_done, pairs_done, line_fault, list_done, map_done, dots_end, root_done, done_at, document_at, last_at, step_at}
 use Rattle.yaml_small.specs.Stream.{State, top_of, start, Runs, next, moved, begins_collection, WouldBegin}
 use Rattle.yaml_small.proofs.Depth.{always_within}
 
@@ -184,7 +184,7 @@ module _ (k : List Frame) where
 
   explicit : (a : At) → Deep k (explicit_at (length k) a) (explicit_at 0 a)
   unfolding explicit_at
-  explicit a = either (ends a.line) _ _ _ _ (lower _ _) (inline _ _ _)
+  explicit a = either (ends a.line) _ _ _ _ (lower _ _) (either (eqb (spaces a.line) (whites a.line)) _ _ _ _ (inline _ _ _) (fault NotCarried _ refl))
 
   key : (a : At) (o : Result Transition Fault) → Deep k (key_step a) o
   unfolding key_step

@@ -1,5 +1,6 @@
 -- A carried document is emitted from its start to the stream's end.
-use Rattle.std.proofs.Common.{◌≡◌, ℕ, zero, suc, ◌≤◌, List, [], ◌∷◌, drop, Bool, true, false, Option, Some, None, Ok, refl, ◌∙◌, inl, inr, arith}
+use Rattle.std.proofs.Common.{◌≡◌, ℕ, zero, suc, ◌≤◌, List, [], ◌∷◌, drop, Bool, true, false, eqb, Option, Some, None, Ok, refl, ◌∙◌, inl, inr, arith}
+use Rattle.yaml_scan.specs.Bytes.{spaces, whites}
 use Rattle.yaml_scan.specs.Lines.{ends}
 use Rattle.yaml_small.specs.declared.event.Event.{Event}
 use Rattle.yaml_small.specs.declared.event.Event.TheVariants.{StreamStart, StreamEnd, DocumentStart, DocumentEnd}
@@ -55,15 +56,15 @@ explicit_below : (a : At) → ends a.line ≡ true → explicit_at 0 a ≡ below
 unfolding explicit_at
 explicit_below a e = bool_chosen (ends a.line) _ _ e
 
-explicit_inline : (a : At) → ends a.line ≡ false → explicit_at 0 a ≡ inline_at false 0 None (over a)
+explicit_inline : (a : At) → ends a.line ≡ false → eqb (spaces a.line) (whites a.line) ≡ true → explicit_at 0 a ≡ inline_at false 0 None (over a)
 unfolding explicit_at
-explicit_inline a e = bool_passed (ends a.line) _ _ e
+explicit_inline a e f = bools_chosen (ends a.line) (eqb (spaces a.line) (whites a.line)) _ _ _ e f
 
 explicit_emitted : (t : Tree) (a b : At) (es : List Event) (z : State) → depth t ≤ 64 → Explicit t a b → ((g : Bool) → Runs (done g b []) es z) → From [] (explicit_at 0 a) (emitted t es) z
 explicit_emitted t a b es z deep (inl (end, form)) rest =
     by [] _ _ (emitted t es) z (explicit_below a end) (below_emitted t (node_emitted t) [] None (next_at a.later) b es z (omega arith) form rest)
-explicit_emitted t a b es z deep (inr (end, form)) rest =
-    by [] _ _ (emitted t es) z (explicit_inline a end) (inline_emitted t [] None (over a) b es z (omega arith) form rest)
+explicit_emitted t a b es z deep (inr (end, white, form)) rest =
+    by [] _ _ (emitted t es) z (explicit_inline a end white) (inline_emitted t [] None (over a) b es z (omega arith) form rest)
 
 at_root_explicit : (a : At) → step_at (Root true) None 0 a ≡ explicit_at 0 a
 unfolding step_at

@@ -310,7 +310,8 @@ value limit p d col a lt =
 explicit : (limit : ℕ) (p : Bool) (d : ℕ) (a : At) → 8 * left a + 6 < limit → Falls limit p (explicit_at d a)
 unfolding explicit_at
 explicit limit p d a lt =
-    f_either limit p (ends a.line) _ _ (λ _. lower limit p d None (next_at a.later) (omega (arith, below-left a))) (λ _. inline limit p false d None (over a) (omega (arith, over-left a)))
+    f_either limit p (ends a.line) _ _ (λ _. lower limit p d None (next_at a.later) (omega (arith, below-left a)))
+    (λ _. f_either limit p (eqb (spaces a.line) (whites a.line)) _ _ (λ _. inline limit p false d None (over a) (omega (arith, over-left a))) (λ _. f_err limit p NotCarried))
 
 key : (limit : ℕ) (p : Bool) (a : At) → 8 * left a < limit → Falls limit p (key_step a)
 unfolding key_step

@@ -91,7 +91,9 @@ module _ (more : List (List ℕ)) where
 
   explicit : (d : ℕ) (a : At) → Grows more (explicit_at d a) (explicit_at d (grown more a))
   unfolding explicit_at
-  explicit d a = chosen more (ends a.line) _ _ _ _ (at_next more a.later (below d None) (below d None) (lower d None) (lower_end d None)) (inline false d None (over a))
+  explicit d a =
+      chosen more (ends a.line) _ _ _ _ (at_next more a.later (below d None) (below d None) (lower d None) (lower_end d None))
+      (chosen more (eqb (spaces a.line) (whites a.line)) _ _ _ _ (inline false d None (over a)) (faults more NotCarried NotCarried))
 
   key : (a : At) → Grows more (key_step a) (key_step (grown more a))
   unfolding key_step

@@ -1,5 +1,6 @@
 -- A run from a text's start to the stream's end emits a carried document.
-use Rattle.std.proofs.Common.{◌≡◌, ℕ, suc, ◌≤◌, List, [], ◌∷◌, drop, length, Bool, true, false, ◌||◌, cond, Option, Some, None, Ok, refl, sym, ap, ◌∙◌, subst, inl, inr, arith}
+use Rattle.std.proofs.Common.{◌≡◌, ℕ, suc, ◌≤◌, List, [], ◌∷◌, drop, length, Bool, true, false, ◌||◌, cond, eqb, Option, Some, None, Ok, refl, sym, ap, ◌∙◌, subst, inl, inr, arith}
+use Rattle.yaml_scan.specs.Bytes.{spaces, whites}
 use Rattle.yaml_scan.specs.Lines.{ends, is_comment_line}
 use Rattle.yaml_small.specs.declared.event.Event.{Event}
 use Rattle.yaml_small.specs.declared.event.Event.TheVariants.{StreamStart, StreamEnd, DocumentStart, DocumentEnd}
@@ -86,7 +87,9 @@ explicit_found a es z fin h =
     choose [] (ends a.line) _ _ es z h
     (λ end h. found_as (λ t. Below (Node None t) None t) Explicit [] (next_at a.later) a es z (λ t c form. inl (end, form))
     (below_found (length es) (node_law (length es)) [] None (next_at a.later) es z (omega arith) fin (omega arith) h))
-    (λ end h. found_as (Inline None) Explicit [] (over a) a es z (λ t c form. inr (end, form)) (inline_found None [] (over a) es z fin (omega arith) h))
+    (λ end h. choose [] (eqb (spaces a.line) (whites a.line)) _ _ es z h
+    (λ white h. found_as (Inline None) Explicit [] (over a) a es z (λ t c form. inr (end, white, form)) (inline_found None [] (over a) es z fin (omega arith) h))
+    (λ _ h. refused [] NotCarried es z h))
 
 -- a document from its first content on
 record Whole (text : List ℕ) (es : List Event) : Type 0 where

@@ -77,7 +77,7 @@ value d col a = either _ _ _ (either _ _ _ (list _ _) (lower _ _ _)) (inline _ _
 
 explicit : (d : ℕ) (a : At) → Live (explicit_at d a)
 unfolding explicit_at
-explicit d a = either _ _ _ (lower _ _ _) (inline _ _ _ _)
+explicit d a = either _ _ _ (lower _ _ _) (either _ _ _ (inline _ _ _ _) (fault _))
 
 key : (a : At) → Live (key_step a)
 unfolding key_step

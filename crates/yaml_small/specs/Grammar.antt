@@ -163,11 +163,11 @@ Closed a =
     (is_end a ≡ true)
     ⊎ ((is_end a ≡ false) × (at_dots a ≡ true) × (ends (drop 3 a.line) ≡ true) × (is_end (next_at a.later) ≡ true))
 
--- Behind three dashes a node stands on the same line, or below ([208] l-explicit-document).
+-- Behind three dashes a node stands on the same line behind spaces, or below ([208] l-explicit-document).
 abbrev pub Explicit : Tree → At → At → Type 0
 Explicit t a b =
     ((ends a.line ≡ true) × Below (Node None t) None t (next_at a.later) b)
-    ⊎ ((ends a.line ≡ false) × Inline None t (over a) b)
+    ⊎ ((ends a.line ≡ false) × ((spaces a.line == whites a.line) ≡ true) × Inline None t (over a) b)
 
 -- the document from its first content on ([208] l-explicit-document, [207] l-bare-document)
 abbrev pub Document : Tree → At → At → Type 0

@@ -86,9 +86,12 @@ unfoldable pub value_at : ℕ → ℕ → At → Result Transition Fault
 value_at depth col a =
     if ends a.line then under depth col (next_at a.later) else inline_at false depth (Some col) (over a)
 
+-- behind three dashes, where spaces alone part content from them
 unfoldable pub explicit_at : ℕ → At → Result Transition Fault
 explicit_at depth a =
-    if ends a.line then below depth None (next_at a.later) else inline_at false depth None (over a)
+    if ends a.line then below depth None (next_at a.later)
+    else if spaces a.line == whites a.line then inline_at false depth None (over a)
+    else Err NotCarried
 
 abbrev pub key_transition : ℕ → ScalarToken → Transition
 key_transition col w = transition (scalar_event w.scalar) w.end (Value col) Keep

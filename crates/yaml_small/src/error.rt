@@ -15,8 +15,8 @@ pub enum ScanError {
     #[error("the text is not well-formed YAML at {0}; correct it there")]
     Form(Marker),
     /// A form of YAML stands here that is not supported: an anchor, an alias, a tag, a directive, a `? ` key, a tab
-    /// as indentation, a plain or quoted scalar over several lines, an indentation indicator, a key directly
-    /// within a flow list, or a second document.
+    /// as indentation or between `---` and a node on its line, a plain or quoted scalar over several lines, an
+    /// indentation indicator, a key directly within a flow list, or a second document.
     #[error("the form of YAML at {0} is not supported; write it in another way")]
     NotCarried(Marker),
     /// A list or map is nested more than 64 deep.

@@ -9,9 +9,9 @@
 //! - plain, single-quoted and double-quoted scalars on one line, and block scalars behind `|`, `|-`, `>` and `>-`
 //! - missing nodes, which are the plain scalar `~`
 //!
-//! These are not supported: anchors, aliases, tags, directives, `? ` keys, a tab as indentation, plain and
-//! quoted scalars over several lines, indentation indicators and `+` at a block scalar, a key directly within a
-//! flow list, and a second document. Lists and maps are at most 64 deep. Whatever else a text holds is not well
+//! These are not supported: anchors, aliases, tags, directives, `? ` keys, a tab as indentation or between `---` and a
+//! node on its line, plain and quoted scalars over several lines, indentation indicators and `+` at a block scalar, a
+//! key directly within a flow list, and a second document. Lists and maps are at most 64 deep. Whatever else a text holds is not well
 //! formed.
 //!
 //! The definition of the carried documents is `specs/Grammar.antt`; the laws that tie the parser to it are in the

@@ -346,13 +346,17 @@ pub fn value_of(
     inline_of(alloc, false, depth, Some(col), over(place))
 }
 
-/// The document's node behind three dashes.
+/// The document's node behind three dashes, from which spaces alone part it.
 #[tactic(auto, unfolding(crate::specs::Step::explicit_at))]
 pub fn explicit_of(alloc: Global, depth: usize, place: Place<'_>) -> Result<Step<'_>, ScanError>
     ensures { ScanGives step_view result (spec.explicit_at depth (place_at place.entry)) }
 {
     if ends(place.line) {
         return below(alloc, depth, None, place.mark, next_content(place));
+    }
+    let count = spaces(place.line);
+    if count != whites(place.line) {
+        return Err(ScanError::NotCarried(past(place, count).mark));
     }
     inline_of(alloc, false, depth, None, over(place))
 }
