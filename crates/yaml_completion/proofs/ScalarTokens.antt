@@ -4,7 +4,8 @@ use Rattle.std.proofs.lemmas.Bool.{cases_Bool, eqb-true, ne_eqb}
 use Rattle.warg_values.specs.Reading.{◌>>=◌}
 use Rattle.yaml_scan.specs.Bytes.{is_white, is_gap, is_control, ends_mark}
 use Rattle.yaml_scan.specs.Plain.{is_indicator, plain_len, begins_plain, parts}
-use Rattle.yaml_scan.specs.Quoted.{Found, Open, Bad, single_at, double_quoted_at}
+use Rattle.yaml_scan.specs.QuotedLaws.{found_is}
+use Rattle.yaml_scan.specs.QuotedScan.{Found, Open, Bad, single_at, double_quoted_at}
 use Rattle.yaml_small.specs.declared.event.Style.{Style}
 use Rattle.yaml_small.specs.declared.event.Style.TheVariants as styles
 use Rattle.yaml_small.specs.Trees.{Scalar}
@@ -15,7 +16,7 @@ use Rattle.yaml_small.proofs.Marks.{and_parts, and_false, or_parts, not_so, both
 use Rattle.yaml_completion.proofs.Along.{if_true, if_false, Along, ahead, further, all_of, parted, is_solid, dropped, gone_over}
 use Rattle.yaml_completion.proofs.Contents.{place}
 use Rattle.yaml_completion.proofs.DocumentMarks.{Unmarking, LastByte, last_byte, Behind, behind_near, same_at_mark}
-use Rattle.yaml_completion.proofs.Scans.{low_control, first_of, same_begins, Looks, looks_far, looks_colon, plain_within, found_is, Closed, no_quote, anything, single_closed, double_closed, Near, near_of, looks_behind, plain_some, rest_stops}
+use Rattle.yaml_completion.proofs.Scans.{low_control, first_of, same_begins, Looks, looks_far, looks_colon, plain_within, Closed, no_quote, anything, single_closed, double_closed, Near, near_of, looks_behind, plain_some, rest_stops}
 
 -- A scalar is read at a place, and with another place behind it at a place that looks the same.
 pub record ScalarTokenReads (flow : Bool) (read : At → Result ScalarToken Fault) (a : At) (w : ScalarToken) (d : At) : Type 0 where

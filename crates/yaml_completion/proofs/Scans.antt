@@ -6,7 +6,9 @@ use lib.Utf8.{scalar}
 use Rattle.std.proofs.lemmas.Bool.{eqb-true}
 use Rattle.yaml_scan.specs.Bytes.{is_space, is_white, is_control_byte, is_control, is_flow_mark, ends_mark}
 use Rattle.yaml_scan.specs.Plain.{is_indicator, parts, ends_plain, with_byte, plain_len, begins_plain}
-use Rattle.yaml_scan.specs.Quoted.{Found, Open, Bad, with_text, single_at, Turn, text_turn, escape_turn, hex_turn, digit_turn, digits_wanted, escaped, turn_at, continued, closes, double_at, double_quoted_at}
+use Rattle.yaml_scan.specs.Quoted.{digits_wanted, escaped}
+use Rattle.yaml_scan.specs.QuotedLaws.{found_is, same_text, same_rest, texted, text_on}
+use Rattle.yaml_scan.specs.QuotedScan.{Found, Open, Bad, with_text, single_at, Turn, text_turn, escape_turn, hex_turn, digit_turn, turn_at, continued, closes, double_at, double_quoted_at}
 use Rattle.yaml_small.specs.Places.{begins}
 use Rattle.yaml_small.proofs.Marks.{and_parts, and_false, not_so, both}
 
@@ -239,42 +241,12 @@ rest_stops flow white (c ∷ cs) = from (ends_plain flow white (c ∷ cs)) (plai
     ]
 
 -- quoted scalars
-unfoldable pub found_is : List ℕ → List ℕ → Found
-found_is text rest = Ok (text, rest)
-
-pub same_text : (s t r q : List ℕ) → found_is s r ≡ found_is t q → s ≡ t
-unfolding found_is
-same_text s t r q e = ap (λ (f : Found). elim f as (λ (g : Found). List ℕ) [ Ok p ↦ p.0 | Err x ↦ [] ]) e
-
-pub same_rest : (s t r q : List ℕ) → found_is s r ≡ found_is t q → r ≡ q
-unfolding found_is
-same_rest s t r q e = ap (λ (f : Found). elim f as (λ (g : Found). List ℕ) [ Ok p ↦ p.1 | Err x ↦ [] ]) e
-
 -- What is found is the same whatever stands behind it, but for what does not pass this test.
 pub record Closed (scan : List ℕ → Found) (may : List ℕ → Bool) (line text rest : List ℕ) : Type 0 where
   pub byte : ℕ
   pub front : List ℕ
   pub is : line ≡ byte ∷ (front ++ rest)
   pub found : (t : List ℕ) → may t ≡ true → scan (byte ∷ (front ++ t)) ≡ found_is text t
-
--- text in front of what was found
-record Texted (s text rest : List ℕ) (found : Found) : Type 0 where
-  behind : List ℕ
-  is : found ≡ found_is behind rest
-  all : text ≡ s ++ behind
-
-texted : (s text rest : List ℕ) (found : Found) → with_text s found ≡ found_is text rest → Texted s text rest found
-unfolding found_is
-texted s text rest (Ok p) e = record {
-  behind = p.0;
-  is = ap (λ (r : List ℕ). found_is p.0 r) (same_rest (s ++ p.0) text p.1 rest e);
-  all = sym (same_text (s ++ p.0) text p.1 rest e);
-}
-texted s text rest (Err f) e = absurd cc
-
-text_on : (s behind t text : List ℕ) (found : Found) → found ≡ found_is behind t → text ≡ s ++ behind → with_text s found ≡ found_is text t
-unfolding found_is
-text_on s behind t text found e all = ap (with_text s) e ∙ ap (λ (x : List ℕ). found_is x t) (sym all)
 
 refused : {P : Type 0} (text rest : List ℕ) (b : Bool) → cond b (Err Bad) (Err Open) ≡ found_is text rest → P
 unfolding found_is

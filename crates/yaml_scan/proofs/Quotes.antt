@@ -2,7 +2,7 @@
 use Rattle.std.proofs.Common.{◌≡◌, ℕ, ◌≤◌, List, [], ◌∷◌, ◌++◌, length, drop, get_or, false, eqb, Option, Some, None, Ok, Err, refl, sym, ap, ◌∙◌, append_assoc, arith}
 use Rattle.yaml_scan.specs.Bytes.{is_control}
 use Rattle.yaml_scan.specs.declared.quoted.Inside.{Inside}
-use Rattle.yaml_scan.specs.Quoted.{Found, with_text, single_at, double_at, closes, continued, turn_at, Turn, next_of, text_of}
+use Rattle.yaml_scan.specs.QuotedScan.{Found, with_text, single_at, double_at, closes, continued, turn_at, Turn, next_of, text_of}
 
 pub with_text-append : (a b : List ℕ) (f : Found) → with_text (a ++ b) f ≡ with_text a (with_text b f)
 with_text-append a b (Ok f) = rw append_assoc refl

@@ -4,7 +4,7 @@ use Rattle.warg_values.specs.Answers.{Gives}
 use Rattle.yaml_scan.specs.declared.quoted.Quoted.{Quoted}
 use Rattle.yaml_scan.specs.declared.quoted.QuoteError.{QuoteError}
 use Rattle.yaml_scan.specs.declared.quoted.QuoteError.TheVariants as errors
-use Rattle.yaml_scan.specs.Quoted.{Flaw, Open, Bad, Found}
+use Rattle.yaml_scan.specs.QuotedScan.{Flaw, Open, Bad, Found}
 
 -- An error is the flaw, wherever it stands; want of memory is none.
 abbrev pub fault_of : QuoteError → Option Flaw

@@ -2,6 +2,8 @@ pub mod Bytes
 pub mod Lines
 pub mod Plain
 pub mod Quoted
+pub mod QuotedScan
+pub mod QuotedLaws
 pub mod Finds
 pub mod Block
 pub mod Gathers

@@ -1,36 +1,8 @@
--- Quoted scalars of one line (YAML 1.2.2, sections 7.3.1, 7.3.2 and 5.7).
-use Rattle.std.specs.Prelude.{ℕ, ◌+◌, ◌*◌, ◌-◌, List, [], ◌∷◌, ◌++◌, Bool, false, nat_lt, ◌==◌, if◌then◌else◌, Option, Some, None, Result, Ok, Err}
+-- Quoted scalars of one line (YAML 1.2.2, sections 7.3.1, 7.3.2 and 5.7): pieces in a row, and the closing quote.
+use Rattle.std.specs.Prelude.{◌≡◌, ℕ, ◌+◌, ◌*◌, List, [], ◌∷◌, ◌++◌, length, Bool, true, false, ◌==◌, ◌&&◌, ◌⊎◌, if◌then◌else◌, Option, Some, None}
 use Rattle.std.specs.Char.{encode_utf8, digit_value, is_digit}
 use lib.Utf8.{scalar}
-use Rattle.warg_values.specs.Reading.{◌>>=◌}
 use Rattle.yaml_scan.specs.Bytes.{upper_u, lower_x, lower_u, double_quote, single_quote, backslash, is_control}
-use Rattle.yaml_scan.specs.declared.quoted.Inside.{Inside}
-use Rattle.yaml_scan.specs.declared.quoted.Inside.TheVariants.{Text, Backslash, Hex}
-
--- Why no quoted scalar stands here: the line ends before it does, or a character is not allowed.
-pub data Flaw : Type 0 where
-  Open : Flaw
-  Bad : Flaw
-
--- the text of a quoted scalar, and what stands behind its closing quote
-abbrev pub Found : Type 0
-Found = Result (List ℕ × List ℕ) Flaw
-
-abbrev pub with_text : List ℕ → Found → Found
-with_text text found = found >>= λ f. Ok (text ++ f.0, f.1)
-
--- Single quotes: two quotes are one.
-abbrev pub single_at : List ℕ → Found
-single_at [] = Err Open
-single_at (c ∷ []) =
-    if c == single_quote then Ok ([], [])
-    else if is_control (c ∷ []) then Err Bad
-    else Err Open
-single_at (c ∷ d ∷ cs) =
-    if c == single_quote then
-    (if d == single_quote then with_text (single_quote ∷ []) (single_at cs) else Ok ([], d ∷ cs))
-    else if is_control (c ∷ d ∷ cs) then Err Bad
-    else with_text (c ∷ []) (single_at (d ∷ cs))
 
 -- The character that a byte stands for behind a backslash (productions [42] to [58]): 0, a, b, t, n, v, f, r, e, a
 -- space, a double quote, a slash, a backslash, N, _, L and P.
@@ -63,71 +35,61 @@ digits_wanted c =
     else if c == upper_u then Some 8
     else None
 
--- What a byte of a double-quoted scalar gives, and where the next one stands; nothing, where it can't stand there.
--- A backslash begins an escape, which stands for one character. Hex wanted value wants that many digits more
--- behind those that made the value.
-pub record Turn : Type 0 where
+abbrev pub all_hex : List ℕ → Bool
+all_hex [] = true
+all_hex (c ∷ cs) = is_digit c 16 && all_hex cs
+
+-- the number of hex digits, behind those that made a value
+abbrev pub hex_number : ℕ → List ℕ → ℕ
+hex_number value [] = value
+hex_number value (c ∷ cs) = hex_number (16 * value + digit_value c) cs
+
+-- a piece as it is written, and the text that it stands for
+pub record Piece : Type 0 where
+  pub written : List ℕ
   pub text : List ℕ
-  pub next : Inside
 
-abbrev pub turn : List ℕ → Inside → Option Turn
-turn text next = Some (record { text = text; next = next })
+-- A byte that stands for itself. Characters are told byte by byte: where a control character begins none may stand.
+abbrev pub itself : ℕ → Piece
+itself c = record { written = c ∷ []; text = c ∷ [] }
 
-abbrev pub text_turn : ℕ → List ℕ → Option Turn
-text_turn c cs =
-    if c == backslash then turn [] Backslash
-    else if is_control (c ∷ cs) then None
-    else turn (c ∷ []) Text
+-- In front of the rest of a line: a character that is no quote, or two quotes, which are one ([118] nb-single-char).
+abbrev pub SinglePiece : Piece → List ℕ → Type 0
+SinglePiece p behind =
+    ((c : ℕ) × ((c == single_quote) ≡ false) × (is_control (c ∷ behind) ≡ false) × (p ≡ itself c))
+    ⊎ (p ≡ record { written = single_quote ∷ single_quote ∷ []; text = single_quote ∷ [] })
 
-abbrev pub escape_turn : Option ℕ → Option ℕ → Option Turn
-escape_turn (Some wanted) character = turn [] (Hex wanted 0)
-escape_turn None (Some character) = turn (encode_utf8 character) Text
-escape_turn None None = None
+-- In front of the rest of a line: a character that is neither a quote nor a backslash, a backslash and a letter of the
+-- table, or a backslash, one of x, u and U, and two, four or eight hex digits of a Unicode scalar value ([107]
+-- nb-double-char, [62] c-ns-esc-char).
+abbrev pub DoublePiece : Piece → List ℕ → Type 0
+DoublePiece p behind =
+    ((c : ℕ) × ((c == double_quote) ≡ false) × ((c == backslash) ≡ false) × (is_control (c ∷ behind) ≡ false)
+    × (p ≡ itself c))
+    ⊎ ((c character : ℕ) × (escaped c ≡ Some character)
+    × (p ≡ record { written = backslash ∷ c ∷ []; text = encode_utf8 character }))
+    ⊎ ((c : ℕ) × (digits : List ℕ) × (digits_wanted c ≡ Some (length digits)) × (all_hex digits ≡ true)
+    × (scalar (hex_number 0 digits) ≡ true)
+    × (p ≡ record { written = backslash ∷ c ∷ digits; text = encode_utf8 (hex_number 0 digits) }))
 
--- The number is at most that of the last character, and with the last digit it is a character.
-abbrev pub hex_turn : ℕ → ℕ → Option Turn
-hex_turn wanted value =
-    if nat_lt value 0x110000 then
-    (if wanted == 1 then (if scalar value then turn (encode_utf8 value) Text else None)
-    else turn [] (Hex (wanted - 1) value))
-    else None
+-- Pieces of a kind in a row, and a quote behind them: the line that they begin, the text that they stand for, and the
+-- rest of the line.
+abbrev pub Pieces : (Piece → List ℕ → Type 0) → ℕ → List Piece → List ℕ → List ℕ → List ℕ → Type 0
+Pieces IsPiece quote [] line text rest = (line ≡ quote ∷ rest) × (text ≡ [])
+Pieces IsPiece quote (p ∷ ps) line text rest =
+    (behind more : List ℕ) × (line ≡ p.written ++ behind) × IsPiece p behind × (text ≡ p.text ++ more)
+    × Pieces IsPiece quote ps behind more rest
 
-abbrev pub digit_turn : ℕ → ℕ → ℕ → Option Turn
-digit_turn wanted value c = if is_digit c 16 then hex_turn wanted (16 * value + digit_value c) else None
+abbrev pub begins_quote : List ℕ → Bool
+begins_quote [] = false
+begins_quote (c ∷ cs) = c == single_quote
 
-abbrev pub turn_at : Inside → ℕ → List ℕ → Option Turn
-turn_at Text c cs = text_turn c cs
-turn_at Backslash c cs = escape_turn (digits_wanted c) (escaped c)
-turn_at (Hex wanted value) c cs = digit_turn wanted value c
+-- Behind an opening quote: the line, the scalar's text, and the rest of the line behind the closing quote
+-- ([120] c-single-quoted).
+abbrev pub SingleQuoted : List ℕ → List ℕ → List ℕ → Type 0
+SingleQuoted line text rest =
+    (ps : List Piece) × Pieces SinglePiece single_quote ps line text rest × (begins_quote rest ≡ false)
 
-abbrev pub next_of : Option Turn → Option Inside
-next_of None = None
-next_of (Some t) = Some t.next
-
-abbrev pub text_of : Option Turn → List ℕ
-text_of None = []
-text_of (Some t) = t.text
-
-abbrev pub continued : Option Turn → (Inside → Found) → Found
-continued None f = Err Bad
-continued (Some t) f = with_text t.text (f t.next)
-
-abbrev pub closes : Inside → ℕ → Bool
-closes Text c = c == double_quote
-closes Backslash c = false
-closes (Hex wanted value) c = false
-
--- A scalar that its line cuts off is open, but for a cut number, which is bad.
-abbrev pub cut_off : Inside → Flaw
-cut_off Text = Open
-cut_off Backslash = Open
-cut_off (Hex wanted value) = Bad
-
--- Double quotes, behind the opening one or further in.
-abbrev pub double_at : List ℕ → Inside → Found
-double_at [] inside = Err (cut_off inside)
-double_at (c ∷ cs) inside = if closes inside c then Ok ([], cs) else continued (turn_at inside c cs) (double_at cs)
-
--- Double quotes, behind the opening one.
-abbrev pub double_quoted_at : List ℕ → Found
-double_quoted_at line = double_at line Text
+-- The same of double quotes ([109] c-double-quoted).
+abbrev pub DoubleQuoted : List ℕ → List ℕ → List ℕ → Type 0
+DoubleQuoted line text rest = (ps : List Piece) × Pieces DoublePiece double_quote ps line text rest

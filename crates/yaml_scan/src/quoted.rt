@@ -1,7 +1,8 @@
 //! Quoted scalars of one line (YAML 1.2.2, sections 7.3.1, 7.3.2 and 5.7).
 
 ghost use Rattle.std.specs.Prelude.{◌≡◌, ◌++◌, IfOk, OnOk, encode_utf8};
-ghost use Rattle.yaml_scan.specs.Quoted as spec;
+ghost use Rattle.yaml_scan.specs.Quoted as quoted;
+ghost use Rattle.yaml_scan.specs.QuotedScan as spec;
 ghost use Rattle.yaml_scan.specs.Finds as finds;
 
 use crate::bytes::{is_control, is_control_at};
@@ -163,10 +164,10 @@ fn text_turn(text: &mut Vec<u8>, byte: u8, behind: &[u8]) -> Result<Option<Insid
 
 /// The same behind a backslash.
 fn escape_turn(text: &mut Vec<u8>, byte: u8) -> Result<Option<Inside>, AllocError>
-    ensures next { IfOk result (λ o. o ≡ spec.next_of (spec.escape_turn (spec.digits_wanted byte) (spec.escaped byte))) }
+    ensures next { IfOk result (λ o. o ≡ spec.next_of (spec.escape_turn (quoted.digits_wanted byte) (quoted.escaped byte))) }
     ensures text { OnOk result
         (text.new.items
-        ≡ text.old.items ++ spec.text_of (spec.escape_turn (spec.digits_wanted byte) (spec.escaped byte))) }
+        ≡ text.old.items ++ spec.text_of (spec.escape_turn (quoted.digits_wanted byte) (quoted.escaped byte))) }
 {
     if let Some(wanted) = digits_wanted(byte) {
         return Ok(Some(Inside::Hex(wanted, 0)));
@@ -217,7 +218,7 @@ fn push_character(text: &mut Vec<u8>, character: char) -> Result<(), AllocError>
 
 /// How many hex digits a letter behind a backslash wants.
 fn digits_wanted(byte: u8) -> Option<u8>
-    ensures { result ≡ spec.digits_wanted byte }
+    ensures { result ≡ quoted.digits_wanted byte }
 {
     match byte {
         b'x' => Some(2),
@@ -229,7 +230,7 @@ fn digits_wanted(byte: u8) -> Option<u8>
 
 /// The character that a byte behind a backslash stands for.
 fn escaped(byte: u8) -> Option<char>
-    ensures { result ≡ spec.escaped byte }
+    ensures { result ≡ quoted.escaped byte }
 {
     match byte {
         b'0' => Some('\0'),

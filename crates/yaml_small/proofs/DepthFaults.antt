@@ -4,7 +4,7 @@ use Rattle.std.proofs.lemmas.Bool.{ltb-false}
 use Rattle.warg_values.specs.Reading.{◌>>=◌}
 use Rattle.yaml_scan.specs.Bytes.{spaces, whites, begins_flow_mark}
 use Rattle.yaml_scan.specs.Lines.{ends, is_comment_line}
-use Rattle.yaml_scan.specs.Quoted.{Open, Bad, Found, single_at, double_quoted_at}
+use Rattle.yaml_scan.specs.QuotedScan.{Open, Bad, Found, single_at, double_quoted_at}
 use Rattle.yaml_scan.specs.Block.{block_lines, all_clean, indent_of}
 use Rattle.yaml_small.specs.declared.event.Event.{Event}
 use Rattle.yaml_small.specs.declared.event.Event.TheVariants.{SequenceStart, MappingStart}

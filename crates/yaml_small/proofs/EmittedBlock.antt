@@ -13,6 +13,7 @@ use Rattle.yaml_small.specs.Trees.{Scalar, Tree, Leaf, Seq, Map, Trees, none, mo
 use Rattle.yaml_small.specs.Places.{At, past, over, next_at, is_within, is_dash, at_dash, list_ends, map_ends}
 use Rattle.yaml_small.specs.Scalars.{Fault, ScalarToken, scalar_token_at, key_at, is_key, colon_behind}
 use Rattle.yaml_small.specs.Grammar.{LineEnd, IsKey, Inline, Below, Item as AnItem, Value as AValue, Node, Block, BlockList, BlockMap, Items, Entries}
+use Rattle.yaml_small.specs.ScalarLaws.{token_scanned, key_scanned}
 use Rattle.yaml_small.specs.Step.{Transition, inline_at, node_at, below, tabbed, item_at, under, value_at, key_step, key_transition, list_start, map_start, missing_transition, list_done, map_done, block_transition, block_end, opened}
 use Rattle.yaml_small.specs.Stream.{State, Runs}
 use Rattle.yaml_small.proofs.Marks.{and_parts, both, scalar_token_opener, is_head, no_key, opener_no_dash, seq_opens, map_opens, ended_no_key}
@@ -26,10 +27,12 @@ pub record NoBlock (a : At) : Type 0 where
   pub key : is_key a ≡ false
 
 pub inline_no_block : (parent : Option ℕ) (t : Tree) (a b : At) → Inline parent t a b → NoBlock a
-inline_no_block parent (Leaf s) a b (inl (m, scalar_token, end)) = record {
-  dash = (scalar_token_opener false a.col a.line a.later (record { scalar = s; end = m }) scalar_token).dash;
-  key = ended_no_key a (record { scalar = s; end = m }) scalar_token end.ends;
-}
+inline_no_block parent (Leaf s) a b (inl (m, form, end)) =
+    let scanned = token_scanned false s a m form in
+    record {
+      dash = (scalar_token_opener false a.col a.line a.later (record { scalar = s; end = m }) scanned).dash;
+      key = ended_no_key a (record { scalar = s; end = m }) scanned end.ends;
+    }
 inline_no_block parent (Leaf s) a b (inr (begin, block)) = record { dash = (is_head a begin).dash; key = (is_head a begin).key }
 inline_no_block parent (Seq ts) a b (m, (begin, items), end) = record { dash = opener_no_dash 91 a.line seq_opens begin; key = no_key 91 a seq_opens begin }
 inline_no_block parent (Map ps) a b (m, (begin, pairs), end) = record { dash = opener_no_dash 123 a.line map_opens begin; key = no_key 123 a map_opens begin }
@@ -192,7 +195,7 @@ key_emitted : (key : Scalar) (t : Tree) → NodeEmitted t → ListEmitted t → 
 key_emitted key t law list k col a m b es z deep here is value rest =
     let w : ScalarToken = record { scalar = key; end = m } in (
       key_transition a.col w,
-      key_stepped a w is,
+      key_stepped a w (key_scanned key a m is),
       refl,
       subst (λ (n : ℕ). Runs (state (Value n) (k ++ (InMap col ∷ [])) m) (emitted t es) z) (sym here)
           (runs_in (Value col) k (InMap col) m (emitted t es) z
@@ -203,7 +206,7 @@ key_emitted key t law list k col a m b es z deep here is value rest =
 map_no_dash : (ps : Pairs) (col : ℕ) (a b : At) → at_dash col a ≡ true → BlockMap ps a b → ⊥
 map_no_dash no_pairs col a b dash form = form
 map_no_dash (pair key t ps) col a b dash (m, n, is, value, entries) =
-    both (is_dash a.line) (and_parts (eqb a.col col) (is_dash a.line) dash).1 (key_no_dash a (record { scalar = key; end = m }) is)
+    both (is_dash a.line) (and_parts (eqb a.col col) (is_dash a.line) dash).1 (key_no_dash a (record { scalar = key; end = m }) (key_scanned key a m is))
 
 mutual
   -- behind a node come the events that follow it
@@ -246,7 +249,7 @@ mutual
       let k' = k ++ (InMap a.col ∷ []) in
       let w : ScalarToken = record { scalar = key; end = m } in
       let later = emitted t (pairs_emitted ps (MappingEnd ∷ es)) in
-      pushes k (node_at (length k) parent a) MappingStart a Key (InMap a.col) (scalar_event key ∷ later) z (node_map (length k) parent a (key_no_dash a w is) (key_is a w is)) (omega arith)
+      pushes k (node_at (length k) parent a) MappingStart a Key (InMap a.col) (scalar_event key ∷ later) z (node_map (length k) parent a (key_no_dash a w (key_scanned key a m is)) (key_is a w (key_scanned key a m is))) (omega arith)
       (runs_in Key k (InMap a.col) a (scalar_event key ∷ later) z
       (by k' _ _ (scalar_event key ∷ later) z (at_key (suc (length k)) (Some (InMap a.col)) a)
       (key_emitted key t (node_emitted t) (under_emitted t) k a.col a m n (pairs_emitted ps (MappingEnd ∷ es)) z (omega arith) refl is value

@@ -10,6 +10,7 @@ use Rattle.yaml_small.specs.Trees.{Tree, Leaf, Seq, Map, Trees, none, more, Pair
 use Rattle.yaml_small.specs.Places.{At, past, flow_next, begins}
 use Rattle.yaml_small.specs.Scalars.{Fault, ScalarToken, scalar_token_at, continues_below}
 use Rattle.yaml_small.specs.Grammar.{Flow, FlowItems, FlowPairs, FlowValue, is_none, is_no_pairs, is_quoted, is_flow_colon, closes_value}
+use Rattle.yaml_small.specs.ScalarLaws.{token_scanned}
 use Rattle.yaml_small.specs.Step.{Transition, settled, inline_at, seq_entry, pairs_entry, seq_done, pairs_done, after_key_at, flow_value, flow_key, missing_transition}
 use Rattle.yaml_small.specs.Stream.{State, Runs}
 use Rattle.yaml_small.proofs.Marks.{scalar_token_opener}
@@ -104,8 +105,9 @@ mutual
       → ((g : Bool) → Runs (landed fl g b k) es z) → From k (inline_at fl (length k) parent a) (emitted t es) z
   flow_emitted (Leaf s) fl k parent a b es z deep h rest =
       let w : ScalarToken = record { scalar = s; end = b } in
+      let scanned = token_scanned fl s a b h in
       settles k (inline_at fl (length k) parent a) fl (continues_below s.style b) (scalar_event s) b es z
-      (inline_scalar_token fl (length k) parent a w (scalar_token_opener fl a.col a.line a.later w h) h) (rest (continues_below s.style b))
+      (inline_scalar_token fl (length k) parent a w (scalar_token_opener fl a.col a.line a.later w scanned) scanned) (rest (continues_below s.style b))
   flow_emitted (Seq ts) fl k parent a b es z deep (begin, items) rest =
       pushes k (inline_at fl (length k) parent a) SequenceStart (past 1 a) Open (InSeq fl) (each_emitted ts (SequenceEnd ∷ es)) z (inline_seq fl (length k) parent a begin) (omega arith)
       (runs_in Open k (InSeq fl) (past 1 a) (each_emitted ts (SequenceEnd ∷ es)) z
@@ -153,7 +155,7 @@ mutual
         | inr (comma, end, last, there) ↦ last_pair ps fl g k (flow_next n) b es z comma end last there rest
       ])) in (
         flow_key (record { scalar = key; end = m }),
-        pairs_transition fl a (record { scalar = key; end = m }) begin scalar_token,
+        pairs_transition fl a (record { scalar = key; end = m }) begin (token_scanned true key a m scalar_token),
         refl,
         runs_in (AfterKey (is_quoted key) g0) k (InPairs fl) m (emitted t more_pairs) z
             (by k' _ _ (emitted t more_pairs) z (at_after_key (suc (length k)) (is_quoted key) g0 (Some (InPairs fl)) m)

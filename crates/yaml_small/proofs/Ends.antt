@@ -3,7 +3,7 @@ use Rattle.std.proofs.Common.{◌≡◌, ℕ, zero, suc, ◌+◌, ◌-◌, ◌*�
 use Rattle.warg_values.specs.Reading.{◌>>=◌}
 use Rattle.yaml_scan.specs.Bytes.{spaces, whites}
 use Rattle.yaml_scan.specs.Lines.{is_passed, ends}
-use Rattle.yaml_scan.specs.Quoted.{Found, Open as IsOpen, Bad}
+use Rattle.yaml_scan.specs.QuotedScan.{Found, Open as IsOpen, Bad}
 use Rattle.yaml_scan.specs.Block.{indent_of, is_inside, block_lines, behind_block, all_clean}
 use Rattle.yaml_small.specs.declared.event.Event.{Event}
 use Rattle.yaml_small.specs.declared.event.Event.TheVariants.{StreamStart, StreamEnd, DocumentStart, DocumentEnd, SequenceStart, SequenceEnd, MappingStart, MappingEnd}

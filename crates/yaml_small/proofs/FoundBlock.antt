@@ -12,6 +12,7 @@ use Rattle.yaml_small.specs.Trees.{Scalar, Tree, Leaf, Seq, Map, Trees, none, mo
 use Rattle.yaml_small.specs.Places.{At, past, over, next_at, begins, is_within, is_dash, at_dash, list_ends, map_ends}
 use Rattle.yaml_small.specs.Scalars.{Fault, Form, NotCarried, scalar_token_at, key_at, is_key, block_at, begins_block}
 use Rattle.yaml_small.specs.Grammar.{Flow, LineEnd, IsKey, Inline, Below, Item as AnItem, Value as AValue, Node, Block, Items, Entries}
+use Rattle.yaml_small.specs.ScalarLaws.{key_form}
 use Rattle.yaml_small.specs.Step.{Transition, scalar_token_transition, inline_at, node_at, below, tabbed, item_at, under, value_at, key_step, key_transition, list_start, map_start, missing_transition, list_done, map_done, line_fault, block_transition, block_end, step_at}
 use Rattle.yaml_small.specs.Stream.{State, Runs}
 use Rattle.yaml_small.proofs.Marks.{and_parts}
@@ -275,7 +276,7 @@ pair_found n law k col a es z le fin room here h =
       end = v.end;
       continues = v.continues;
       rest = v.rest;
-      is = b.is;
+      is = key_form a b.value b.is;
       value = v.form;
       emitted_is = w.emitted_is ∙ ap (λ (t : List Event). scalar_event b.value.scalar ∷ t) v.emitted_is;
       runs = v.runs;

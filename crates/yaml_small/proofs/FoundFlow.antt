@@ -10,6 +10,7 @@ use Rattle.yaml_small.specs.Trees.{Tree, Leaf, Seq, Map, Trees, none, more, Pair
 use Rattle.yaml_small.specs.Places.{At, past, flow_next, begins}
 use Rattle.yaml_small.specs.Scalars.{Fault, scalar_token_at, continues_below}
 use Rattle.yaml_small.specs.Grammar.{Flow, FlowItems, FlowPairs, FlowValue, is_quoted, is_flow_colon, closes_value}
+use Rattle.yaml_small.specs.ScalarLaws.{token_form}
 use Rattle.yaml_small.specs.Step.{Transition, opened, settled, scalar_token_transition, missing_transition, inline_at, seq_entry, pairs_entry, seq_done, pairs_done, after_key_at, flow_value, flow_key, flow_fault, seq_fault}
 use Rattle.yaml_small.specs.Stream.{State, Runs}
 use Rattle.yaml_small.proofs.Runs.{From, done, landed, length_pushed, popped}
@@ -203,7 +204,7 @@ members_found n law (suc m) le fl k a es z short fin room h =
       pairs = pair w.scalar v.tree p.pairs;
       end = p.end;
       rest = p.rest;
-      form = (w.end, v.end, open_pair, b.is, v.form, inl (comma, p.form));
+      form = (w.end, v.end, open_pair, token_form true a w b.is, v.form, inl (comma, p.form));
       emitted_is = s.emitted_is ∙ ap (λ (t : List Event). scalar_event w.scalar ∷ t) (v.emitted_is ∙ ap (emitted v.tree) p.emitted_is);
       runs = p.runs;
       less = omega (arith, v.less, p.less, ap length s.emitted_is);
@@ -215,7 +216,7 @@ members_found n law (suc m) le fl k a es z short fin room h =
       pairs = pair w.scalar v.tree no_pairs;
       end = past 1 (flow_next v.end);
       rest = c.tail;
-      form = (w.end, v.end, open_pair, b.is, v.form, inr (comma, end, refl, refl));
+      form = (w.end, v.end, open_pair, token_form true a w b.is, v.form, inr (comma, end, refl, refl));
       emitted_is = s.emitted_is ∙ ap (λ (t : List Event). scalar_event w.scalar ∷ t) (v.emitted_is ∙ ap (emitted v.tree) c.emitted_is);
       runs = c.runs;
       less = omega (arith, v.less, c.less, ap length s.emitted_is);
@@ -270,7 +271,7 @@ scalar_token_found fl k a es z within b =
       end = w.end;
       continues = continues_below w.scalar.style w.end;
       rest = l.tail;
-      form = b.is;
+      form = token_form fl a w b.is;
       emitted_is = l.emitted_is;
       runs = l.runs;
       less = omega (arith, ap length l.emitted_is);

@@ -5,7 +5,7 @@ use Rattle.std.proofs.lemmas.List.{drop_all}
 use Rattle.warg_values.specs.Reading.{◌>>=◌}
 use Rattle.yaml_scan.specs.Bytes.{spaces, whites, is_clean}
 use Rattle.yaml_scan.specs.Lines.{is_passed, is_over, ends, is_white_line}
-use Rattle.yaml_scan.specs.Quoted.{Found, Open, Bad}
+use Rattle.yaml_scan.specs.QuotedScan.{Found, Open, Bad}
 use Rattle.yaml_scan.specs.Block.{indent_of, is_inside, block_lines, behind_block, all_clean, content, together, with_end, block_text}
 use Rattle.yaml_small.specs.declared.event.Event.{Event}
 use Rattle.yaml_small.specs.declared.event.Style.{Style}

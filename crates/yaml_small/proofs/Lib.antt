@@ -20,3 +20,4 @@ pub mod Ends
 pub mod Outcomes
 pub mod Depth
 pub mod DepthFaults
+pub mod Reasons

@@ -1,23 +1,41 @@
 -- The carried documents (YAML 1.2.2, chapters 7 to 9, less what is named in the crate's documentation), as a relation
 -- between a tree and two places: the tree's text begins at the first and ends at the second. Beside each relation
 -- stands its production of YAML 1.2.2, of which it carries the forms that are said there.
-use Rattle.std.specs.Prelude.{◌≡◌, ◌≤◌, ℕ, List, [], ◌∷◌, drop, Bool, true, false, ◌==◌, ◌&&◌, ◌||◌, ◌⊎◌, not, if◌then◌else◌, nat_eq, Option, Some, None, Ok}
+use Rattle.std.specs.Prelude.{◌≡◌, ◌≤◌, ◌-◌, ℕ, List, [], ◌∷◌, take, drop, length, Bool, true, false, ◌==◌, ◌&&◌, ◌||◌, ◌⊎◌, not, if◌then◌else◌, nat_eq, Option, Some, None, Ok}
 use Rattle.std.specs.List.{starts_with}
-use Rattle.yaml_scan.specs.Bytes.{percent, comma, colon, left_bracket, right_bracket, left_brace, right_brace, spaces, whites}
+use Rattle.yaml_scan.specs.Bytes.{double_quote, percent, single_quote, comma, colon, left_bracket, right_bracket, left_brace, right_brace, spaces, whites}
 use Rattle.yaml_scan.specs.Lines.{lines_of, ends}
-use Rattle.yaml_scan.specs.Plain.{parts}
+use Rattle.yaml_scan.specs.Plain.{parts, plain_len}
+use Rattle.yaml_scan.specs.Quoted.{SingleQuoted, DoubleQuoted}
+use Rattle.yaml_small.specs.declared.event.Style.{Style}
+use Rattle.yaml_small.specs.declared.event.Style.TheVariants as styles
 use Rattle.yaml_small.specs.Trees.{Scalar, Tree, Leaf, Seq, Map, Trees, none, more, Pairs, no_pairs, pair, missing, depth}
-use Rattle.yaml_small.specs.Places.{At, past, over, next_at, flow_next, is_end, begins, at_dashes, at_dots, is_dash, at_dash, is_within, list_ends, map_ends}
-use Rattle.yaml_small.specs.Scalars.{scalar_token_at, key_at, block_at, is_plain, begins_block}
+use Rattle.yaml_small.specs.Places.{At, past, over, next_at, flow_next, is_end, begins, at_dashes, at_dots, is_dash, is_colon, at_dash, is_within, list_ends, map_ends}
+use Rattle.yaml_small.specs.Scalars.{begins_at, block_at, is_plain, begins_block}
 
 -- Nothing more stands on a's line, and b is the next content ([79] s-l-comments).
 pub record LineEnd (a b : At) : Type 0 where
   pub ends : ends a.line ≡ true
   pub next : b ≡ next_at a.later
 
--- a scalar on one line ([131] ns-plain, [120] c-single-quoted, [109] c-double-quoted)
+-- a scalar in quotes, of which this says what stands behind the opening one
+abbrev pub IsQuoted : (List ℕ → List ℕ → List ℕ → Type 0) → ℕ → Style → Scalar → At → At → Type 0
+IsQuoted Quoted quote style s a b =
+    (rest : List ℕ) × (begins quote a.line ≡ true) × Quoted (drop 1 a.line) s.text rest × (s.style ≡ style)
+    × (b ≡ past (length a.line - length rest) a)
+
+-- a plain scalar, which goes on as far as none ends ([131] ns-plain)
+abbrev pub IsPlain : Bool → Scalar → At → At → Type 0
+IsPlain flow s a b =
+    (begins_at flow a ≡ true)
+    × (s ≡ record { text = take (plain_len flow false a.line) a.line; style = styles.Plain })
+    × (b ≡ past (plain_len flow false a.line) a)
+
+-- a scalar on one line ([120] c-single-quoted, [109] c-double-quoted, [131] ns-plain)
 abbrev pub IsScalarToken : Bool → Scalar → At → At → Type 0
-IsScalarToken flow s a b = scalar_token_at flow a ≡ Ok (record { scalar = s; end = b })
+IsScalarToken flow s a b =
+    IsQuoted SingleQuoted single_quote styles.SingleQuoted s a b
+    ⊎ (IsQuoted DoubleQuoted double_quote styles.DoubleQuoted s a b ⊎ IsPlain flow s a b)
 
 -- a block scalar ([170] c-l+literal, [174] c-l+folded)
 abbrev pub IsBlock : Option ℕ → Scalar → At → At → Type 0
@@ -25,7 +43,8 @@ IsBlock parent s a b = (begins_block a.line ≡ true) × (block_at parent a ≡ 
 
 -- a key of a block map with its colon ([193] ns-s-block-map-implicit-key)
 abbrev pub IsKey : Scalar → At → At → Type 0
-IsKey key a b = key_at a ≡ Ok (record { scalar = key; end = b })
+IsKey key a b =
+    (m : At) × IsScalarToken false key a m × (is_colon (over m).line ≡ true) × (b ≡ past 1 (over m))
 
 -- Flow lists and maps (section 7.4). Behind an entry comes a comma, with more entries or the end behind it, or the end
 -- ([138] ns-s-flow-seq-entries, [141] ns-s-flow-map-entries).

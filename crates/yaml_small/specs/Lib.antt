@@ -2,6 +2,7 @@ pub mod Trees
 pub mod Places
 pub mod Scalars
 pub mod Grammar
+pub mod ScalarLaws
 pub mod Step
 pub mod Stream
 pub mod Answers
@@ -11,3 +12,4 @@ pub mod Schema
 pub mod Data
 pub mod View
 pub mod Printed
+pub mod Uncarried

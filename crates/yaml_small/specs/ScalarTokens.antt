@@ -2,7 +2,7 @@
 use Rattle.std.specs.Prelude.{◌≡◌, ℕ, List, true, Result}
 use Rattle.yaml_scan.specs.declared.quoted.Quoted.{Quoted}
 use Rattle.yaml_scan.specs.declared.quoted.QuoteError.{QuoteError}
-use Rattle.yaml_scan.specs.Quoted.{Found}
+use Rattle.yaml_scan.specs.QuotedScan.{Found}
 use Rattle.yaml_scan.specs.Finds.{Finds}
 use Rattle.yaml_small.specs.declared.error.ScanError.{ScanError}
 use Rattle.yaml_small.specs.declared.error.ScanError.TheVariants as errors

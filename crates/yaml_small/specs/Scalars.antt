@@ -4,7 +4,7 @@ use Rattle.warg_values.specs.Reading.{◌>>=◌}
 use Rattle.yaml_scan.specs.Bytes.{tab, exclamation_mark, double_quote, ampersand, single_quote, asterisk, plus, dash, digit_zero, digit_nine, greater_than, question_mark, vertical_bar, is_gap}
 use Rattle.yaml_scan.specs.Lines.{ends, is_comment_line, is_white_line, text_follows}
 use Rattle.yaml_scan.specs.Plain.{begins_plain, plain_len}
-use Rattle.yaml_scan.specs.Quoted.{Open, Bad, Found, single_at, double_quoted_at}
+use Rattle.yaml_scan.specs.QuotedScan.{Open, Bad, Found, single_at, double_quoted_at}
 use Rattle.yaml_scan.specs.Block.{indent_of, block_lines, behind_block, all_clean, block_text}
 use Rattle.yaml_small.specs.declared.event.Style.{Style}
 use Rattle.yaml_small.specs.declared.event.Style.TheVariants as styles

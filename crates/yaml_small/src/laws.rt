@@ -10,9 +10,10 @@ ghost use Rattle.yaml_small.specs.declared.event.Event.{Event};
 ghost use Rattle.yaml_small.specs.declared.event.Event.TheVariants.{StreamEnd};
 ghost use Rattle.yaml_small.specs.declared.state.Mode.TheVariants.{Ended};
 ghost use Rattle.yaml_small.specs.Trees.{Tree, stream_emitted, ends_again};
-ghost use Rattle.yaml_small.specs.Scalars.{Fault, TooDeep};
+ghost use Rattle.yaml_small.specs.Scalars.{Fault, NotCarried, TooDeep};
 ghost use Rattle.yaml_small.specs.Grammar.{Carried, without_mark};
-ghost use Rattle.yaml_small.specs.Stream.{State, start, next, Runs, Emits, Refuses, IsFinal, WouldBegin, ends_return};
+ghost use Rattle.yaml_small.specs.Stream.{State, top_of, start, next, Runs, Emits, Refuses, IsFinal, WouldBegin, ends_return};
+ghost use Rattle.yaml_small.specs.Uncarried.{Uncarried};
 
 /// The events of a carried document are emitted: those of its tree, and then the stream's end, as often as it is
 /// asked for.
@@ -91,4 +92,9 @@ pub fn too_deep_is_the_65th()
     ensures { (text : List ℕ) (events : List Event) (s : State) → Runs (start text) events s
         → next s ≡ Err TooDeep
         → (length s.frames ≡ 64) × WouldBegin s }
+{}
+
+/// A text is refused as not carried only where one of the forms stands that are listed as not carried.
+pub fn not_carried_is_a_listed_form()
+    ensures { (s : State) → next s ≡ Err NotCarried → Uncarried s.mode (top_of s.frames) s.at }
 {}

@@ -10,6 +10,7 @@ use Rattle.yaml_small.specs.Trees.{Scalar, Leaf}
 use Rattle.yaml_small.specs.Places.{At, past, over, next_at, at_mark}
 use Rattle.yaml_small.specs.Scalars.{scalar_token_at, key_at}
 use Rattle.yaml_small.specs.Grammar.{IsKey, Inline}
+use Rattle.yaml_small.specs.ScalarLaws.{token_form}
 use Rattle.yaml_text.specs.Texts.{is_escaped, hex_digit, hex_pair, escape, double_char, single_char, quoted_char, quoted_in, is_double, quoted, quoted_style, is_block, text_at, text_style}
 use Rattle.yaml_text.specs.Written.{plain_scalar}
 use Rattle.yaml_text.proofs.Quotes.{NoQuote}
@@ -111,7 +112,7 @@ scalar_token_inline parent w s col k inline break r =
     let a = at_text col (w ++ k) in
     let rest : drop (length w) (line_of (w ++ k)) ≡ [] =
     ap (drop (length w)) (line_of-append w k inline) ∙ drop_front w (line_of k) ∙ line_of-break k break in
-    inl (past (length w) a, r.is, record { ends = rw rest refl; next = ap next_at (sym (later_of-append w k inline)) })
+    inl (past (length w) a, token_form false a (record { scalar = s; end = past (length w) a }) r.is, record { ends = rw rest refl; next = ap next_at (sym (later_of-append w k inline)) })
 
 -- a plain text at a place
 plain_mark : (w : List ℕ) (col : ℕ) (text : List ℕ) → PlainText w → at_mark (at_text col (w ++ text)) ≡ false
@@ -158,14 +159,13 @@ pub record KeyAt (s : Scalar) (a : At) (line : List ℕ) (later : List (List ℕ
   pub later_is : end.later ≡ later
 
 colon_follows : (w : List ℕ) (s : Scalar) (a : At) (line : List ℕ) → Reads w s a → drop (length w) a.line ≡ 58 ∷ line → is_gap line ≡ true → KeyAt s a line a.later
-unfolding key_at
 colon_follows w s a line r here gap =
     let e = past (length w) a in
     let white : whites e.line ≡ 0 = rw here refl in
     let over_line : drop (whites e.line) e.line ≡ 58 ∷ line = rw (white, here) refl in
     record {
       end = past 1 (over e);
-      is = rw r.is (rw (over_line, gap) refl);
+      is = (e, token_form false a (record { scalar = s; end = e }) r.is, rw (over_line, gap) refl, refl);
       line_is = rw over_line refl;
       later_is = refl;
     }

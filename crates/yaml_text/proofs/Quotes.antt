@@ -8,7 +8,7 @@ use Rattle.std.proofs.lemmas.Bool.Decides.{nat_tests}
 use Rattle.std.proofs.lemmas.Str.{encode_ascii}
 use lib.Utf8.{scalar, scalars, low_scalar, encodes}
 use Rattle.yaml_scan.specs.Bytes.{is_control, is_control_byte}
-use Rattle.yaml_scan.specs.Quoted.{Found, with_text, single_at, double_quoted_at}
+use Rattle.yaml_scan.specs.QuotedScan.{Found, with_text, single_at, double_quoted_at}
 use Rattle.yaml_text.specs.Texts.{is_escaped, hex_digit, hex_pair, escape, double_char, single_char}
 use Rattle.yaml_text.proofs.Characters.{AreQuiet, quiet_char}
 use Rattle.yaml_text.proofs.Lines.{and_parts}

@@ -6,7 +6,7 @@ use Rattle.std.proofs.lemmas.Bool.{ne_eqb, ltb-true, le-ltb}
 use Rattle.std.proofs.lemmas.Str.{encodes-chars, scalars-chars}
 use Rattle.yaml_scan.specs.Bytes.{is_white, is_control, is_control_byte}
 use Rattle.yaml_scan.specs.Plain.{begins_plain, with_byte, plain_len}
-use Rattle.yaml_scan.specs.Quoted.{single_at, double_quoted_at}
+use Rattle.yaml_scan.specs.QuotedScan.{single_at, double_quoted_at}
 use Rattle.yaml_small.specs.declared.event.Style.TheVariants as styles
 use Rattle.yaml_small.specs.Places.{At, past, begins, at_mark}
 use Rattle.yaml_small.specs.Scalars.{scalar_token, scalar_token_at, plain_at, quoted_at}

@@ -6,7 +6,9 @@ use Rattle.yaml_scan.specs.Bytes.{is_gap}
 use Rattle.yaml_scan.specs.Block.{is_deeper}
 use Rattle.yaml_small.specs.Trees.{Tree, Seq, Map, none, no_pairs, missing}
 use Rattle.yaml_small.specs.Places.{At, past, over, next_at, flow_next, begins, at_dash, map_ends, at_mark}
+use Rattle.yaml_small.specs.declared.event.Style.TheVariants as styles
 use Rattle.yaml_small.specs.Grammar.{LineEnd, IsKey, Inline, Below, Item as AnItem, Value as AValue, Node, Block, Items, Entries, Flow}
+use Rattle.yaml_small.specs.ScalarLaws.{token_form}
 use Rattle.yaml_text.specs.Texts.{quote, quoted_char, quoted, quoted_style, text_at, is_block, block, is_double}
 use Rattle.yaml_text.specs.Written.{Written, number, boolean, null, character, text, list, map, unit_variant, empty_variant, variant, Elements, no_elements, element, Members, no_members, member, new_line, written, elements_text, members_text, single, tree_of, trees_of, pairs_of, ReadsBack, ElementsReadBack, MembersReadBack}
 use Rattle.yaml_text.proofs.Lines.{opens, Opens, opens_is, opens_white, is_inline, line_of, later_of, line_of-append, later_of-append, IsBreak, line_of-break, at_text, after}
@@ -145,7 +147,7 @@ empty_map a e = subst (λ (l : List ℕ). EmptyMap (at a l)) (sym e) (empty_map_
 tilde_at : (a : At) → a.line ≡ 126 ∷ [] → (m : At) × Flow false missing a m × LineEnd m (next_at a.later)
 tilde_at a e =
     let mark : at_mark a ≡ false = rw e (none (eqb a.col 0)) in
-    (past 1 a, plain_scalar_token (126 ∷ []) [] a refl refl mark (λ white. refl) e refl refl, record { ends = rw e refl; next = refl })
+    (past 1 a, token_form false a (record { scalar = record { text = 126 ∷ []; style = styles.Plain }; end = past 1 a }) (plain_scalar_token (126 ∷ []) [] a refl refl mark (λ white. refl) e refl refl), record { ends = rw e refl; next = refl })
   where
     none : (b : Bool) → (b && false) || (b && false) ≡ false
     none true = refl

@@ -1,5 +1,5 @@
 use Rattle.std.proofs.Common.{◌≡◌, length}
-use Rattle.yaml_scan.specs.Quoted as spec
+use Rattle.yaml_scan.specs.QuotedScan as spec
 use Rattle.yaml_scan.specs.declared.quoted.Inside.TheVariants.{Text}
 use Rattle.yaml_scan.proofs.quoted.double_quoted.Given as goal
 

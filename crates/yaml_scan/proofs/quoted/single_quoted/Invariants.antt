@@ -1,5 +1,5 @@
 use Rattle.std.proofs.Common.{◌≡◌, length}
-use Rattle.yaml_scan.specs.Quoted as spec
+use Rattle.yaml_scan.specs.QuotedScan as spec
 use Rattle.yaml_scan.proofs.quoted.single_quoted.Given as goal
 
 abbrev pub invariant-scalar : goal.invariant-scalar
