@@ -16,7 +16,7 @@ use Rattle.yaml_small.proofs.Marks.{and_parts, and_false, or_parts, not_so, both
 use Rattle.yaml_completion.proofs.Along.{if_true, if_false, Along, ahead, further, all_of, parted, is_solid, dropped, gone_over}
 use Rattle.yaml_completion.proofs.Contents.{place}
 use Rattle.yaml_completion.proofs.DocumentMarks.{Unmarking, LastByte, last_byte, Behind, behind_near, same_at_mark}
-use Rattle.yaml_completion.proofs.Scans.{low_control, first_of, same_begins, Looks, looks_far, looks_colon, plain_within, Closed, no_quote, anything, single_closed, double_closed, Near, near_of, looks_behind, plain_some, rest_stops}
+use Rattle.yaml_completion.proofs.Scans.{low_control, first_of, same_begins, Looks, looks_far, looks_colon, plain_within, Closed, no_quote, anything, single_closed, double_closed, Near, near_of, plain_some, rest_stops}
 
 -- A scalar is read at a place, and with another place behind it at a place that looks the same.
 pub record ScalarTokenReads (flow : Bool) (read : At → Result ScalarToken Fault) (a : At) (w : ScalarToken) (d : At) : Type 0 where

@@ -1,13 +1,13 @@
 -- What a scan finds is a quoted scalar, and each quoted scalar is found.
 use Rattle.std.proofs.Common.{◌≡◌, ℕ, zero, suc, ◌+◌, ◌-◌, ◌*◌, ◌<◌, ◌≤◌, List, [], ◌∷◌, ◌++◌, length, Bool, true, false, cond, ◌&&◌, eqb, ltb, Option, Some, None, Ok, Err, refl, sym, ap, ◌∙◌, subst, inl, inr, arith}
 use Rattle.std.specs.Char.{encode_utf8, digit_value, is_digit}
-use Rattle.std.proofs.lemmas.Bool.{cases_Bool, eqb-true, ne_eqb, lt-ltb}
+use Rattle.std.proofs.lemmas.Bool.{eqb-true, ne_eqb, lt-ltb}
 use lib.Utf8.{scalar, scalar_cases}
 use Rattle.yaml_scan.specs.Bytes.{is_control}
 use Rattle.yaml_scan.specs.declared.quoted.Inside.{Inside}
 use Rattle.yaml_scan.specs.declared.quoted.Inside.TheVariants.{Text, Backslash, Hex}
 use Rattle.yaml_scan.specs.Quoted.{escaped, digits_wanted, all_hex, hex_number, Piece, itself, SinglePiece, DoublePiece, Pieces, begins_quote, SingleQuoted, DoubleQuoted}
-use Rattle.yaml_scan.specs.QuotedScan.{Found, Open, Bad, with_text, single_at, Turn, turn, text_turn, escape_turn, hex_turn, digit_turn, turn_at, continued, closes, cut_off, double_at, double_quoted_at}
+use Rattle.yaml_scan.specs.QuotedScan.{Found, Open, Bad, with_text, single_at, Turn, turn, text_turn, escape_turn, hex_turn, digit_turn, continued, double_at, double_quoted_at}
 
 unfoldable pub found_is : List ℕ → List ℕ → Found
 found_is text rest = Ok (text, rest)

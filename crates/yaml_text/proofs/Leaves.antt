@@ -8,7 +8,7 @@ use Rattle.yaml_scan.specs.Bytes.{is_gap, whites}
 use Rattle.yaml_scan.specs.Block.{is_deeper}
 use Rattle.yaml_small.specs.Trees.{Scalar, Leaf}
 use Rattle.yaml_small.specs.Places.{At, past, over, next_at, at_mark}
-use Rattle.yaml_small.specs.Scalars.{scalar_token_at, key_at}
+use Rattle.yaml_small.specs.Scalars.{scalar_token_at}
 use Rattle.yaml_small.specs.Grammar.{IsKey, Inline}
 use Rattle.yaml_small.specs.ScalarLaws.{token_form}
 use Rattle.yaml_text.specs.Texts.{is_escaped, hex_digit, hex_pair, escape, double_char, single_char, quoted_char, quoted_in, is_double, quoted, quoted_style, is_block, text_at, text_style}
