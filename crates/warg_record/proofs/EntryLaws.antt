@@ -1,13 +1,16 @@
 -- What is read as an entry has its form, and an entry of the form is read again.
-use Rattle.std.proofs.Common.{◌≡◌, ℕ, ◌^◌, ◌<◌, ◌≤◌, List, [], ◌∷◌, ◌++◌, length, map, Some, refl, sym, ap, subst, ◌∙◌, arith}
-use Rattle.std.specs.Prelude.{IsTrue}
+use Rattle.std.proofs.Common.{◌≡◌, ℕ, ◌^◌, ◌<◌, ◌≤◌, List, [], ◌∷◌, ◌++◌, length, map, Option, Some, None, refl, sym, ap, subst, ◌∙◌, arith}
+use Rattle.std.specs.Prelude.{IsTrue, Result, Ok, Err, IfOk}
 use Rattle.std.proofs.lemmas.List.{length-append}
 use Rattle.semver.specs.Parse.{Parts}
 use Rattle.semver.specs.Identifiers.{parts_text}
 use Rattle.warg_hash.specs.Hash.{hash_text}
 use Rattle.warg_record.specs.Key.{IsKeyText}
 use Rattle.warg_record.specs.Wire.{varint, counted, field, fields}
-use Rattle.warg_record.specs.Record.{Kind, Package, Operator, PlainEntry, Init, GrantFlat, RevokeFlat, Release, Yank, DefineNamespace, ImportNamespace, IsText, is_permission, ArePermissions, IsEntry, entry_text}
+use Rattle.warg_record.specs.Record.{Kind, Package, Operator, PlainEntry, Init, GrantFlat, RevokeFlat, Release, Yank, DefineNamespace, ImportNamespace, IsText, is_permission, ArePermissions, IsEntry, entry_text, IsEntryMessageOf}
+use Rattle.warg_record.specs.Answer.{GivesOrForm, Refuses}
+use Rattle.warg_record.specs.declared.error.EnvelopeError.{EnvelopeError}
+use Rattle.warg_record.specs.declared.error.EnvelopeError.TheVariants as error
 use Rattle.warg_record.specs.Reading.{text_of, key_of, hash_of, version_of, permission_of, field_at, some_fields, only_field, one_field, two_fields, init_of, grant_of, revoke_of, release_of, yank_of, define_of, import_of, fourth_of, fifth_of, entry_of, entry_at}
 use Rattle.warg_record.proofs.Steps.{bind_some, some_is, never, pick}
 use Rattle.warg_record.proofs.TextLaws.{text_of-sound, text_of-again, key_of-sound, key_of-again, hash_of-sound, hash_of-again, version_of-sound, version_of-again, permission_of-sound, permission_of-again}
@@ -223,3 +226,34 @@ entry_at-again Package (ImportNamespace namespace registry) is short = absurd is
 entry_at-again Operator (ImportNamespace namespace registry) is short =
     let body = body_short 42 (field 1 namespace ++ field 2 registry) short in
     again_by Operator 42 (field 1 namespace ++ field 2 registry) (ImportNamespace namespace registry) body (import_of-again namespace registry is.0 is.1 body)
+
+-- ---- what a reader of entries answers
+
+pub entry-again : (kind : Kind) (bytes : List ℕ) (e : PlainEntry) → IsEntryMessageOf kind bytes e → length bytes < 2 ^ 64 → entry_at kind bytes ≡ Some e
+entry-again kind bytes e m short = ap (entry_at kind) m.text ∙ entry_at-again kind e m.form (subst (λ (t : List ℕ). length t < 2 ^ 64) m.text short)
+
+-- what a reader gave is an entry of the form
+pub entry_found : {X : Type 0} (view : X → PlainEntry) (kind : Kind) (bytes : List ℕ) (r : Result X EnvelopeError) → GivesOrForm view r (entry_at kind bytes)
+    → IfOk r (λ x. IsEntryMessageOf kind bytes (view x))
+entry_found view kind bytes (Ok x) given =
+    let s = entry_at-sound kind bytes (view x) given in record { form = s.1; text = s.0 }
+entry_found view kind bytes (Err e) given = tt
+
+-- a reader refuses only what is no entry of the form
+pub entry_refused : {X : Type 0} (view : X → PlainEntry) (kind : Kind) (bytes : List ℕ) (r : Result X EnvelopeError) → GivesOrForm view r (entry_at kind bytes) → length bytes < 2 ^ 64
+    → r ≡ Err error.Form → (e : PlainEntry) → IsEntryMessageOf kind bytes e → ⊥
+entry_refused view kind bytes (Ok x) given short is e m = absurd cc
+entry_refused view kind bytes (Err error.Form) given short is e m = never e (sym given ∙ entry-again kind bytes e m short)
+entry_refused view kind bytes (Err error.Memory) given short is e m = absurd cc
+
+nothing_left : {X : Type 0} (o : Option X) → ((x : X) → o ≡ Some x → ⊥) → o ≡ None
+nothing_left None h = refl
+nothing_left (Some x) h = absurd (h x refl)
+
+-- what is refused as no entry of the form is not read from left to right
+pub entry_refuses : (kind : Kind) (bytes : List ℕ) (e : EnvelopeError) → (e ≡ error.Form → (p : PlainEntry) → IsEntryMessageOf kind bytes p → ⊥) → Refuses e (entry_at kind bytes)
+entry_refuses kind bytes error.Form refused = nothing_left (entry_at kind bytes) (λ p read.
+    let s = entry_at-sound kind bytes p read in
+    let m : IsEntryMessageOf kind bytes p = record { form = s.1; text = s.0 } in
+    refused refl p m)
+entry_refuses kind bytes error.Memory refused = tt

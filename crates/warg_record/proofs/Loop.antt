@@ -1,12 +1,13 @@
 -- Reading fields one after the other, as a loop does.
 use Rattle.std.proofs.Common.{◌≡◌, ℕ, zero, suc, ◌+◌, ◌-◌, ◌*◌, ◌^◌, ◌<◌, ◌≤◌, ◌==◌, ◌||◌, nat_lt, nat_le, Bool, cond, List, [], ◌∷◌, ◌++◌, length, Option, Some, None, refl, sym, ap, subst, ◌∙◌, append_assoc, arith, inl, inr}
 use Rattle.std.proofs.lemmas.Bool.{cases_Bool}
-use Rattle.std.proofs.lemmas.List.{append-nil, length-drop}
+use Rattle.std.proofs.lemmas.List.{append-nil, length-drop, length-take}
 use Rattle.warg_record.specs.declared.error.EnvelopeError.{EnvelopeError}
 use Rattle.warg_record.specs.declared.error.EnvelopeError.TheVariants as error
 use Rattle.warg_record.specs.Answer.{Refuses}
 use Rattle.warg_record.specs.Reading.{◌>>=◌, varint_at, counted_at, field_at, each_field}
 use Rattle.warg_record.proofs.Steps.{bind_some, guard_some, pass_some, some_is, never}
+use Rattle.warg_record.proofs.WireLaws.{varint_at-sound}
 
 -- a number takes a byte at least
 pub varint_at-shorter : (k : ℕ) (bytes : List ℕ) (x : ℕ × List ℕ) → varint_at k bytes ≡ Some x → length x.1 < length bytes
@@ -42,6 +43,20 @@ field_at-shorter number [] x e = never x e
 field_at-shorter number (b ∷ bytes) x e =
     let a = pass_some (b == 8 * number + 2) (counted_at bytes) x e in
     omega (arith, counted_at-shorter bytes x a.1)
+
+-- a field's bytes are fewer than 2 ^ 64
+counted_at-short : (bytes : List ℕ) (x : List ℕ × List ℕ) → counted_at bytes ≡ Some x → length x.0 < 2 ^ 64
+unfolding counted_at
+counted_at-short bytes x e =
+    let a = bind_some (varint_at 10 bytes) _ x e in
+    let g = guard_some (nat_lt (length a.0.1) a.0.0) _ x a.2 in
+    let small = varint_at-sound 10 bytes a.0 a.1 in
+    subst (λ (y : List ℕ × List ℕ). length y.0 < 2 ^ 64) (some_is _ _ g.1) (omega (arith, small.1, length-take a.0.0 a.0.1))
+
+pub field_at-short : (number : ℕ) (bytes : List ℕ) (x : List ℕ × List ℕ) → field_at number bytes ≡ Some x → length x.0 < 2 ^ 64
+unfolding field_at
+field_at-short number [] x e = never x e
+field_at-short number (b ∷ bytes) x e = counted_at-short bytes x (pass_some (b == 8 * number + 2) (counted_at bytes) x e).1
 
 -- two ways to go on that agree on what was read
 after : {A B : Type 0} {f g : A → Option B} (o : Option A) → ((x : A) → o ≡ Some x → f x ≡ g x) → (o >>= f) ≡ (o >>= g)

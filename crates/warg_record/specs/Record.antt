@@ -1,5 +1,5 @@
 -- Records as plain values, the form that they have, and their bytes.
-use Rattle.std.specs.Prelude.{ℕ, ◌<◌, ◌^◌, Bool, List, [], ◌∷◌, ◌++◌, length, map, codes, bytes_eq, Option, IfSome, option_map, IsTrue, IsUtf8}
+use Rattle.std.specs.Prelude.{◌≡◌, ℕ, ◌<◌, ◌^◌, Bool, List, [], ◌∷◌, ◌++◌, length, map, codes, bytes_eq, Option, IfSome, option_map, IsTrue, IsUtf8}
 use Rattle.std.specs.List.{AllByRecursion, list_any}
 use Rattle.warg_values.specs.declared.moment.Moment.{Moment}
 use Rattle.semver.specs.Parse.{Parts}
@@ -80,6 +80,11 @@ entry_text (Release version content) = field 4 (field 1 (parts_text version) ++ 
 entry_text (Yank version) = field 5 (field 1 (parts_text version))
 entry_text (DefineNamespace namespace) = field 4 (field 1 namespace)
 entry_text (ImportNamespace namespace registry) = field 5 (field 1 namespace ++ field 2 registry)
+
+-- the bytes are the message of this entry, which has the form of such a log's entries
+pub record IsEntryMessageOf (kind : Kind) (bytes : List ℕ) (e : PlainEntry) : Type 0 where
+  pub form : IsEntry kind e
+  pub text : bytes ≡ entry_text e
 
 -- a moment's message
 abbrev pub moment_text : Moment → List ℕ

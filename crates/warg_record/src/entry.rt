@@ -1,9 +1,8 @@
 //! What the entries and the permissions of both kinds of log have in common.
 
-ghost use Rattle.std.specs.Prelude.{◌≡◌, ℕ, List, true, false, MatchOption, IfOk};
-ghost use Rattle.warg_record.specs.Record.{Kind, PlainEntry, entry_text, is_permission};
-ghost use Rattle.warg_record.specs.Reading.{entry_at};
-ghost use Rattle.warg_record.specs.Answer.{GivesOrForm};
+ghost use Rattle.std.specs.Prelude.{◌≡◌, ℕ, List, true, false, Err, MatchOption, IfOk};
+ghost use Rattle.warg_record.specs.Record.{Kind, PlainEntry, IsEntryMessageOf, entry_text, is_permission};
+ghost use Rattle.warg_record.specs.declared.error.EnvelopeError.TheVariants.{Form};
 
 use crate::error::EnvelopeError;
 use std::alloc::Global;
@@ -35,9 +34,10 @@ pub trait LogEntry: Drop {
     /// What clauses see of an entry.
     ghost plain: { Self → PlainEntry };
 
-    /// Reads an entry's message, all of the bytes.
+    /// Reads an entry's message, all of the bytes. Bytes of another form are `Form`.
     fn read(alloc: Global, bytes: &[u8]) -> Result<Self, EnvelopeError>
-        ensures { GivesOrForm plain result (entry_at kind bytes.now) };
+        ensures ok { IfOk result (λ entry. IsEntryMessageOf kind bytes.now (plain entry)) }
+        ensures form { (result ≡ Err Form) → (e : PlainEntry) → IsEntryMessageOf kind bytes.now e → ⊥ };
 
     /// An equal entry of its own.
     fn try_clone(&self, alloc: Global) -> Result<Self, Memory>

@@ -1,6 +1,7 @@
 //! Laws over definitions alone.
 
-ghost use Rattle.std.specs.Prelude.{◌≡◌, ◌<◌, ◌^◌, ℕ, List, length};
+ghost use Rattle.std.specs.Prelude.{◌≡◌, ◌↔◌, ◌<◌, ◌^◌, ℕ, List, length, true, IsUtf8};
+ghost use Rattle.warg_record.specs.Key.{IsKeyText, is_key_text};
 ghost use Rattle.warg_record.specs.Record.{Kind, PlainRecord};
 ghost use Rattle.warg_record.specs.Envelope.{IsMessageOf, IsEnvelopeOf, Signed};
 
@@ -21,4 +22,9 @@ pub fn one_envelope()
         → IsEnvelopeOf kind contents key_id signature s
         → IsEnvelopeOf kind contents key_id signature t
         → s ≡ t }
+{}
+
+/// A text is that of a key, and of a signature, exactly where it passes the test.
+pub fn key_texts_are_tested()
+    ensures { (text : List ℕ) → IsUtf8 text → (is_key_text text ≡ true) ↔ IsKeyText text }
 {}

@@ -1,7 +1,7 @@
 //! The entries of a registry operator's log.
 
 ghost use Rattle.std.specs.Prelude.{◌≡◌, IfOk};
-ghost use Rattle.warg_record.specs.Record.{DefineNamespace, ImportNamespace, entry_text};
+ghost use Rattle.warg_record.specs.Record.{Operator, DefineNamespace, ImportNamespace, entry_text};
 ghost use Rattle.warg_record.specs.Reading as reading;
 ghost use Rattle.warg_record.specs.Answer.{GivesOrForm};
 ghost use Rattle.warg_record.specs.View.{operator_entry_view};
@@ -91,32 +91,8 @@ impl LogEntry for OperatorEntry {
 
     ghost plain = { operator_entry_view };
 
-    #[tactic(auto, unfolding(crate::specs::Reading::entry_at))]
     fn read(alloc: Global, bytes: &[u8]) -> Result<Self, EnvelopeError> {
-        let (key, bytes) = only_field(bytes)?;
-        match key {
-            10 => {
-                let (key, hash_algorithm) = init_of(alloc, bytes)?;
-                Ok(OperatorEntry::Init {
-                    key,
-                    hash_algorithm,
-                })
-            }
-            18 => {
-                let (key, permissions) = grant_of(alloc, bytes)?;
-                Ok(OperatorEntry::GrantFlat { key, permissions })
-            }
-            26 => {
-                let (key_id, permissions) = revoke_of(alloc, bytes)?;
-                Ok(OperatorEntry::RevokeFlat {
-                    key_id,
-                    permissions,
-                })
-            }
-            34 => define_of(alloc, bytes),
-            42 => import_of(alloc, bytes),
-            _ => Err(EnvelopeError::Form),
-        }
+        read_entry(alloc, bytes)
     }
 
     fn try_clone(&self, alloc: Global) -> Result<Self, Memory> {
@@ -173,6 +149,37 @@ impl LogEntry for OperatorEntry {
                 registry,
             } => import_message(alloc, namespace.as_str(), registry.as_str()),
         }
+    }
+}
+
+/// The entry that a message is, as it is read from left to right.
+#[tactic(auto, unfolding(crate::specs::Reading::entry_at))]
+fn read_entry(alloc: Global, bytes: &[u8]) -> Result<OperatorEntry, EnvelopeError>
+    ensures { GivesOrForm operator_entry_view result (reading.entry_at Operator bytes.now) }
+{
+    let (key, bytes) = only_field(bytes)?;
+    match key {
+        10 => {
+            let (key, hash_algorithm) = init_of(alloc, bytes)?;
+            Ok(OperatorEntry::Init {
+                key,
+                hash_algorithm,
+            })
+        }
+        18 => {
+            let (key, permissions) = grant_of(alloc, bytes)?;
+            Ok(OperatorEntry::GrantFlat { key, permissions })
+        }
+        26 => {
+            let (key_id, permissions) = revoke_of(alloc, bytes)?;
+            Ok(OperatorEntry::RevokeFlat {
+                key_id,
+                permissions,
+            })
+        }
+        34 => define_of(alloc, bytes),
+        42 => import_of(alloc, bytes),
+        _ => Err(EnvelopeError::Form),
     }
 }
 

@@ -2,7 +2,7 @@
 
 ghost use Rattle.std.specs.Prelude.{◌≡◌, IfOk};
 ghost use Rattle.semver.specs.Identifiers.{parts_of};
-ghost use Rattle.warg_record.specs.Record.{Release, Yank, entry_text};
+ghost use Rattle.warg_record.specs.Record.{Package, Release, Yank, entry_text};
 ghost use Rattle.warg_record.specs.Reading as reading;
 ghost use Rattle.warg_record.specs.Answer.{GivesOrForm};
 ghost use Rattle.warg_record.specs.View.{package_entry_view};
@@ -89,32 +89,8 @@ impl LogEntry for PackageEntry {
 
     ghost plain = { package_entry_view };
 
-    #[tactic(auto, unfolding(crate::specs::Reading::entry_at))]
     fn read(alloc: Global, bytes: &[u8]) -> Result<Self, EnvelopeError> {
-        let (key, bytes) = only_field(bytes)?;
-        match key {
-            10 => {
-                let (key, hash_algorithm) = init_of(alloc, bytes)?;
-                Ok(PackageEntry::Init {
-                    key,
-                    hash_algorithm,
-                })
-            }
-            18 => {
-                let (key, permissions) = grant_of(alloc, bytes)?;
-                Ok(PackageEntry::GrantFlat { key, permissions })
-            }
-            26 => {
-                let (key_id, permissions) = revoke_of(alloc, bytes)?;
-                Ok(PackageEntry::RevokeFlat {
-                    key_id,
-                    permissions,
-                })
-            }
-            34 => release_of(alloc, bytes),
-            42 => yank_of(alloc, bytes),
-            _ => Err(EnvelopeError::Form),
-        }
+        read_entry(alloc, bytes)
     }
 
     fn try_clone(&self, alloc: Global) -> Result<Self, Memory> {
@@ -163,6 +139,37 @@ impl LogEntry for PackageEntry {
             PackageEntry::Release { version, content } => release_message(alloc, version, content),
             PackageEntry::Yank { version } => yank_message(alloc, version),
         }
+    }
+}
+
+/// The entry that a message is, as it is read from left to right.
+#[tactic(auto, unfolding(crate::specs::Reading::entry_at))]
+fn read_entry(alloc: Global, bytes: &[u8]) -> Result<PackageEntry, EnvelopeError>
+    ensures { GivesOrForm package_entry_view result (reading.entry_at Package bytes.now) }
+{
+    let (key, bytes) = only_field(bytes)?;
+    match key {
+        10 => {
+            let (key, hash_algorithm) = init_of(alloc, bytes)?;
+            Ok(PackageEntry::Init {
+                key,
+                hash_algorithm,
+            })
+        }
+        18 => {
+            let (key, permissions) = grant_of(alloc, bytes)?;
+            Ok(PackageEntry::GrantFlat { key, permissions })
+        }
+        26 => {
+            let (key_id, permissions) = revoke_of(alloc, bytes)?;
+            Ok(PackageEntry::RevokeFlat {
+                key_id,
+                permissions,
+            })
+        }
+        34 => release_of(alloc, bytes),
+        42 => yank_of(alloc, bytes),
+        _ => Err(EnvelopeError::Form),
     }
 }
 
