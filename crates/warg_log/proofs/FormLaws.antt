@@ -1,14 +1,14 @@
 -- The releases of lists of envelopes that are as they are read.
-use Rattle.std.proofs.Common.{◌≡◌, ℕ, Bool, true, false, cond, map, List, [], ◌∷◌, ◌++◌, Option, Some, None}
+use Rattle.std.proofs.Common.{ℕ, Bool, true, false, cond, map, List, [], ◌∷◌, ◌++◌, Option, Some, None}
 use Rattle.std.specs.Prelude.{IfSome}
-use Rattle.std.specs.List.{All, AllByRecursion, filter_map}
+use Rattle.std.specs.List.{All, AllByRecursion}
 use Rattle.std.proofs.lemmas.List.Elements.{All-from_recursion}
 use Rattle.semver.specs.Grammar.{IsValid}
 use Rattle.semver.specs.Parse.{Parts}
 use Rattle.warg_hash.specs.Hash.{IsDigest}
 use Rattle.warg_record.specs.Envelope.{Signed}
 use Rattle.warg_record.specs.Record.{Kind, Package, Operator, PlainEntry, Init, GrantFlat, RevokeFlat, Release, Yank, DefineNamespace, ImportNamespace, IsEntry}
-use Rattle.warg_log.specs.History.{release_in, released, is_yanked, standing, releases_of}
+use Rattle.warg_log.specs.History.{released, is_yanked, standing, releases_of}
 use Rattle.warg_log.specs.Lawful.{AreRead}
 use Rattle.warg_log.specs.Rules.{entries_of}
 

@@ -12,3 +12,4 @@ pub mod ChoiceLaws
 pub mod ListedLaws
 pub mod ChoiceUnique
 pub mod LawfulLaws
+pub mod Copying

@@ -10,7 +10,7 @@ use semver::Version;
 use std::alloc::Global;
 use warg_hash::{AnyHash, KeyId};
 use warg_record::{LogPermission, PublicKey};
-use warg_values::Text;
+use warg_values::{Memory, Text};
 
 /// What is known after the entries of a log: its keys, and its releases or namespaces.
 #[derive(Debug, Drop)]
@@ -54,6 +54,20 @@ impl Facts {
             releases: Releases::new(alloc),
             namespaces: Namespaces::new(alloc),
         }
+    }
+
+    /// Equal facts of their own.
+    pub fn try_clone(&self, alloc: Global) -> Result<Self, Memory>
+        ensures { IfOk result (λ copy. known_by copy ≡ known_by self.now) }
+    {
+        let keys = self.keys.try_clone(alloc)?;
+        let releases = self.releases.try_clone(alloc)?;
+        let namespaces = self.namespaces.try_clone(alloc)?;
+        Ok(Facts {
+            keys,
+            releases,
+            namespaces,
+        })
     }
 
     /// That the key with this id holds a permission.
@@ -186,7 +200,7 @@ impl Facts {
                 version: copy_of(version)?,
             });
         }
-        self.releases.push(version, *content)?;
+        self.releases.push(version, Some(*content))?;
         Ok(Undo::Released)
     }
 

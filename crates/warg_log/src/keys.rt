@@ -36,6 +36,21 @@ impl Keys {
         }
     }
 
+    /// Equal keys of their own.
+    pub fn try_clone(&self, alloc: Global) -> Result<Self, Memory>
+        ensures { IfOk result (λ copy. (id : List ℕ) → known copy id ≡ known self.now id) }
+    {
+        let mut map = BTreeMap::new(alloc);
+        for (id, facts) in &self.map {
+            let copy = KeyFacts {
+                key: facts.key.try_clone(alloc)?,
+                permissions: facts.permissions,
+            };
+            map.insert(*id, copy)?;
+        }
+        Ok(Keys { map })
+    }
+
     /// What is known of the key with this id.
     pub fn get(&self, id: &KeyId) -> Option<&KeyFacts>
         ensures { option_copied result ≡ known self.now id.now }

@@ -1,6 +1,6 @@
 //! The namespaces of a registry.
 
-ghost use Rattle.std.specs.Prelude.{◌≡◌, ℕ, List, Some, None, OnOk, OnErr, bytes_eq, if◌then◌else◌, option_copied, option_map};
+ghost use Rattle.std.specs.Prelude.{◌≡◌, ℕ, List, Some, None, IfOk, OnOk, OnErr, bytes_eq, if◌then◌else◌, option_copied, option_map};
 ghost use Rattle.warg_log.specs.Namespaces.{space, namespace_view};
 
 use std::alloc::Global;
@@ -25,6 +25,20 @@ pub struct Namespaces {
     pub map: BTreeMap<String, NamespaceState>,
 }
 
+impl NamespaceState {
+    /// An equal state of its own.
+    fn try_clone(&self, alloc: Global) -> Result<Self, Memory>
+        ensures { IfOk result (λ copy. namespace_view copy ≡ namespace_view self.now) }
+    {
+        match self {
+            NamespaceState::Defined => Ok(NamespaceState::Defined),
+            NamespaceState::Imported { registry } => Ok(NamespaceState::Imported {
+                registry: registry.try_clone(alloc)?,
+            }),
+        }
+    }
+}
+
 impl Namespaces {
     /// No namespaces.
     pub fn new(alloc: Global) -> Self
@@ -33,6 +47,17 @@ impl Namespaces {
         Namespaces {
             map: BTreeMap::new(alloc),
         }
+    }
+
+    /// Equal namespaces of their own.
+    pub fn try_clone(&self, alloc: Global) -> Result<Self, Memory>
+        ensures { IfOk result (λ copy. (n : List ℕ) → space copy n ≡ space self.now n) }
+    {
+        let mut copies = Namespaces::new(alloc);
+        for (name, state) in &self.map {
+            copies.insert(alloc, name.as_str(), state.try_clone(alloc)?)?;
+        }
+        Ok(copies)
     }
 
     /// What is known of a namespace.

@@ -1,6 +1,6 @@
 //! The releases of a log, in order, and the place of each version among them.
 
-ghost use Rattle.std.specs.Prelude.{◌≡◌, ◌++◌, ◌∷◌, [], ◌<◌, OnOk, OnErr, Some, None, length, find, option_map, option_copied};
+ghost use Rattle.std.specs.Prelude.{◌≡◌, ◌++◌, ◌∷◌, [], ◌<◌, IfOk, OnOk, OnErr, Some, None, length, find, option_map, option_copied};
 ghost use Rattle.semver.specs.Identifiers.{parts_of};
 ghost use Rattle.warg_log.specs.History.{same_version};
 ghost use Rattle.warg_log.specs.Places.{place_of, release_view, release_views, versions_of, without_last, with_content, content_at};
@@ -43,6 +43,18 @@ impl Releases {
         }
     }
 
+    /// Equal releases of their own.
+    pub fn try_clone(&self, alloc: Global) -> Result<Self, AllocError>
+        ensures { IfOk result (λ copy. copy ≡ self.now) }
+    {
+        let releases = self.items.as_slice();
+        let mut copies = Releases::new(alloc);
+        for release in releases {
+            copies.push(&release.version, release.content)?;
+        }
+        Ok(copies)
+    }
+
     /// The releases, in order.
     pub fn as_slice(&self) -> &[Release]
         ensures { release_views result.now ≡ self.now }
@@ -76,10 +88,10 @@ impl Releases {
         self.items[place].content
     }
 
-    /// Adds a version that was not released.
-    pub fn push(&mut self, version: &Version, content: AnyHash) -> Result<(), AllocError>
+    /// Adds a version that was not released. A yanked one has no content.
+    pub fn push(&mut self, version: &Version, content: Option<AnyHash>) -> Result<(), AllocError>
         requires { place_of (parts_of version.now) (versions_of self.old) ≡ None }
-        ensures ok { OnOk result (self.new ≡ self.old ++ (parts_of version.now, Some content) ∷ []) }
+        ensures ok { OnOk result (self.new ≡ self.old ++ (parts_of version.now, content) ∷ []) }
         ensures err { OnErr result (self.new ≡ self.old) }
     {
         let key = copy_of(version)?;
@@ -87,12 +99,7 @@ impl Releases {
         let place = self.items.len();
         self.items.reserve(1)?;
         self.places.insert(key, place)?;
-        self.items
-            .push(Release {
-                version,
-                content: Some(content),
-            })
-            .unwrap();
+        self.items.push(Release { version, content }).unwrap();
         Ok(())
     }
 

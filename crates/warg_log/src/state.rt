@@ -1,6 +1,6 @@
 //! The state of a log.
 
-ghost use Rattle.std.specs.Prelude.{◌≡◌, ◌∷◌, ◌++◌, [], List, Option, Some, None, IfOk, IfErr, OnOk, OnErr, MatchOption, false, map, is_some, not, option_copied, option_map, find};
+ghost use Rattle.std.specs.Prelude.{◌≡◌, ◌↔◌, ◌∷◌, ◌++◌, [], List, Option, Some, None, IfOk, IfErr, OnOk, OnErr, MatchOption, false, map, is_some, not, option_copied, option_map, find};
 ghost use Rattle.warg_log.specs.Rules.{Accepts, any_signature, signed_text, head_from, breach_of, head_rules, broken, FirstEntryNotInit, signature_breach, Breach, head_of, entries_of};
 ghost use Rattle.warg_record.specs.Envelope.{Signed};
 ghost use Rattle.warg_log.specs.Breaches.{IsBreach};
@@ -30,8 +30,6 @@ use warg_record::{Envelope, PublicKey, Record};
 use warg_values::Memory;
 
 /// What the accepted records of a log say.
-///
-/// A state is not copied: it is made again, by `replay` of copies of its records.
 #[derive(Debug, Drop)]
 pub struct LogState<E> {
     pub(crate) head: Option<Head>,
@@ -137,6 +135,18 @@ impl<E: JudgedEntry> LogState<E> {
             facts: Facts::new(alloc),
             entries: PhantomData,
         }
+    }
+
+    /// An equal state of its own: it follows the lists that this one follows, and no others.
+    pub fn try_clone(&self, alloc: Global) -> Result<Self, Memory>
+        ensures { IfOk result (λ copy. (log : List Signed) → Follows E.kind copy log ↔ Follows E.kind self.now log) }
+    {
+        let facts = self.facts.try_clone(alloc)?;
+        Ok(LogState {
+            head: self.head,
+            facts,
+            entries: PhantomData,
+        })
     }
 
     /// Enters the entries of a record and makes it the head, where its entries obey the rules.

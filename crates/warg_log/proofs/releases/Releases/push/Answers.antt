@@ -10,7 +10,7 @@ use Rattle.warg_log.proofs.releases.Releases.push.Goals as goal
 pub invariant_of-self-2 : goal.invariant_of-self-2
 invariant_of-self-2 c =
     let rs = c.self.inside.items.items in
-    let made : Release = record { version = c.in_ok-version.version; content = Some c.args.content } in
+    let made : Release = record { version = c.in_ok-version.version; content = c.args.content } in
     let new = ap (λ v. place_of v (versions_of c.args.self.now)) c.in_ok-version.ensures ∙ c.requires in
     let count : c.len-place.result ≡ length rs = omega (arith, c.self.inside.items.ok.0) in
     let place : UpdatesBy cmp-value.it (cmp-value.it c.in_ok-key.key) c.self.inside.places c.insert.new.self (Some (length rs)) = rw count at c.in_ok-insert.ensures.updates in
