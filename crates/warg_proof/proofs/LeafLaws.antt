@@ -1,5 +1,12 @@
 -- What stands at leaves tells which log and which record it is.
-use Rattle.std.proofs.Common.{◌≡◌, ℕ, List, ◌∷◌, ◌++◌, codes, append_assoc, refl, sym, ap, ◌∙◌}
+use Rattle.std.proofs.Common.{◌≡◌, ℕ, nat_lt, true, List, [], ◌∷◌, ◌++◌, codes, append_assoc, refl, sym, ap, ◌∙◌, arith}
+use Rattle.std.specs.List.{list_all}
+use Rattle.std.specs.Str.{IsAscii}
+use Rattle.std.proofs.lemmas.Bool.{and_parts, ltb-true}
+use Rattle.std.proofs.lemmas.Str.{IsAscii-append}
+use Rattle.std.proofs.lemmas.Str.Ascii.{IsAscii-nil, IsAscii-cons}
+use Rattle.hex.specs.Hex.{IsBytes, lower_digits, encode_lower}
+use Rattle.hex.proofs.HexLemmas.{IsAscii-encode_with}
 use Rattle.warg_hash.specs.Hash.{IsDigest, hash_text}
 use Rattle.warg_hash.specs.HashLaws.{length-hash_text, one_digest}
 use Rattle.warg_proof.specs.Leaves.{log_entry, map_value}
@@ -28,3 +35,26 @@ same_entry log record_id other other_id is_log is_record is_other is_id e =
 
 pub same_value : (record_id other_id : List ℕ) → IsDigest record_id → IsDigest other_id → map_value record_id ≡ map_value other_id → record_id ≡ other_id
 same_value record_id other_id is_record is_id e = same_digest record_id other_id is_record is_id (behind (codes "WARG-MAP-LEAF-V0:") _ _ e)
+
+-- ---- what stands at leaves is text
+
+literal_text : (xs : List ℕ) → list_all (λ (b : ℕ). nat_lt b 128) xs ≡ true → IsAscii xs
+literal_text [] h = IsAscii-nil
+literal_text (x ∷ xs) h =
+    let parts = and_parts (nat_lt x 128) (list_all (λ (b : ℕ). nat_lt b 128) xs) h in
+    IsAscii-cons x xs (ltb-true x 128 parts.0) (literal_text xs parts.1)
+
+hash_ascii : (digest : List ℕ) → IsAscii (hash_text digest)
+hash_ascii digest = IsAscii-append (codes "sha256:") (encode_lower digest) (literal_text (codes "sha256:") refl) (IsAscii-encode_with lower_digits digest (literal_text lower_digits refl))
+
+are_bytes : (xs : List ℕ) → IsAscii xs → IsBytes xs
+are_bytes xs h = λ i. omega (arith, h i)
+
+pub value_bytes : (record_id : List ℕ) → IsBytes (map_value record_id)
+value_bytes record_id = are_bytes (map_value record_id) (IsAscii-append (codes "WARG-MAP-LEAF-V0:") (hash_text record_id) (literal_text (codes "WARG-MAP-LEAF-V0:") refl) (hash_ascii record_id))
+
+pub entry_bytes : (log record_id : List ℕ) → IsBytes (log_entry log record_id)
+entry_bytes log record_id =
+    let front = IsAscii-append (codes "WARG-LOG-LEAF-V0:") (hash_text log) (literal_text (codes "WARG-LOG-LEAF-V0:") refl) (hash_ascii log) in
+    let more = IsAscii-append (codes "WARG-LOG-LEAF-V0:" ++ hash_text log) (codes ":") front (literal_text (codes ":") refl) in
+    are_bytes (log_entry log record_id) (IsAscii-append (codes "WARG-LOG-LEAF-V0:" ++ hash_text log ++ codes ":") (hash_text record_id) more (hash_ascii record_id))

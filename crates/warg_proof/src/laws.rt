@@ -11,7 +11,7 @@ ghost use Rattle.warg_proof.specs.LogTree.{root, ranges_beside, inclusion_ranges
 ghost use Rattle.warg_proof.specs.LogProofs.{LogProofs, asked_inclusion, ProvesInclusion, asked_consistency, ProvesConsistency};
 ghost use Rattle.warg_proof.specs.MapProofs.{MapPath, IsMapPath, siblings, log_key, ProvesValue};
 ghost use Rattle.warg_proof.specs.TrueProofs.{true_path, true_hashes, true_siblings, ListsTruly};
-ghost use Rattle.warg_proof.specs.MapTree.{Entries, IsMap, value_at, map_root, map_path_root, map_clash, IsMapClash};
+ghost use Rattle.warg_proof.specs.MapTree.{Entries, IsMap, has_bit, value_at, map_root, map_path_root, map_clash, IsMapClash};
 
 /// The root of a list of entries is that of RFC 6962, section 2.1: the hash of no bytes for no entries, the leaf's hash
 /// for one, and else the branch over the two parts of a split at the largest power of two below the number of entries.
@@ -135,4 +135,16 @@ pub fn listed_value()
         → siblings path ≡ true_siblings map (log_key log_id)
         → IsMap map → value_at map (log_key log_id) ≡ Some value
         → ProvesValue paths at log_id value (map_root map) }
+{}
+
+/// Keys of which each bit is the same are the same: a key's way through the tree of a map is its own.
+pub fn bits_tell_keys_apart()
+    ensures { (key other : List ℕ) → IsDigest key → IsDigest other
+        → ((depth : ℕ) → depth < 256 → has_bit key depth ≡ has_bit other depth) → key ≡ other }
+{}
+
+/// An entry of a registry's log and a value of its map are byte strings.
+pub fn leaves_are_bytes()
+    ensures entries { (log_id record_id : List ℕ) → IsBytes (log_entry log_id record_id) }
+    ensures values { (record_id : List ℕ) → IsBytes (map_value record_id) }
 {}

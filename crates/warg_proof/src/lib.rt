@@ -19,9 +19,9 @@ mod verdict;
 mod writing;
 
 pub use fault::ProofFault;
-pub use hashing::leaf_hash;
+pub use hashing::{branch_hash, has_bit, leaf_hash};
 pub use leaf::{LogLeaf, MapLeaf};
 pub use log_bundle::LogBundle;
-pub use map_bundle::MapBundle;
+pub use map_bundle::{MapBundle, SiblingPath};
 pub use node::{Consistency, Inclusion, Node};
 pub use root::{hashed_root, log_root};

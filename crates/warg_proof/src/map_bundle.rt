@@ -1,6 +1,6 @@
 //! Bundles of proofs over a map.
 
-ghost use Rattle.std.specs.Prelude.{◌≡◌, ◌≢◌, ◌↔◌, ◌⊎◌, List, ℕ, length, map, IfOk, IfErr, IsOk, Err, None, MatchResult, slice_get, if◌then◌else◌};
+ghost use Rattle.std.specs.Prelude.{◌≡◌, ◌≢◌, ◌↔◌, ◌⊎◌, ◌<◌, ◌^◌, List, ℕ, length, map, IfOk, IfErr, IsOk, Err, None, MatchResult, slice_get, if◌then◌else◌};
 ghost use Rattle.warg_proof.specs.Merkle.{branch_hash as branch_hash_of};
 ghost use Rattle.warg_proof.specs.MapTree.{subtree_path_root};
 ghost use Rattle.warg_proof.specs.MapProofs.{MapPath, path_of, map_text, IsMapBundle, given_before, siblings as siblings_of, ProvesValue};
@@ -18,11 +18,14 @@ use std::marker::Model;
 use warg_hash::{AnyHash, LogId};
 use warg_values::Memory;
 
-/// The siblings of a key that are given, and at which depths.
+/// The path of a key in a map: its siblings that are given, and at which depths. The others are the roots of empty
+/// subtrees.
 #[derive(Debug, Drop)]
-struct SiblingPath {
-    given: [u8; 32],
-    siblings: Vec<[u8; 32]>,
+pub struct SiblingPath {
+    /// Bit d, from the highest of the first byte on, says whether the sibling at depth d is given.
+    pub given: [u8; 32],
+    /// The given siblings, from the root down.
+    pub siblings: Vec<[u8; 32]>,
 }
 
 impl Field for SiblingPath {
@@ -153,9 +156,18 @@ impl MapBundle {
     pub fn encode(&self, alloc: Global) -> Result<Vec<u8>, Memory>
         ensures { IfOk result (λ bytes. bytes.items ≡ map_text self.now) }
     {
+        MapBundle::write(alloc, self.paths.as_slice())
+    }
+
+    /// The bytes of a bundle of these paths, which `decode` reads where each has a sibling for each bit that is 1.
+    pub fn write(alloc: Global, paths: &[SiblingPath]) -> Result<Vec<u8>, Memory>
+        requires { length paths.now < 2 ^ 32 }
+        ensures { IfOk result (λ bytes.
+            bytes.items ≡ map_text (map (λ path. path_of path.given path.siblings.items) paths.now)) }
+    {
         let mut bytes = Vec::new(alloc);
         bytes.push(0)?;
-        push_counted(&mut bytes, self.paths.as_slice())?;
+        push_counted(&mut bytes, paths)?;
         Ok(bytes)
     }
 

@@ -1,16 +1,12 @@
-use Rattle.std.proofs.Common.{◌∷◌, ◌++◌, [], ℕ, List, ap, ◌∙◌}
-use Rattle.warg_proof.specs.LogProofs.{counted}
-use Rattle.warg_proof.specs.MapProofs.{path_text, map_text}
+use Rattle.std.proofs.Common.{List, map, ap, ◌∙◌}
+use Rattle.std.proofs.lemmas.Result.{IfOk-weaker}
+use Rattle.std.specs.Prelude.{ℕ, ◌≡◌}
+use Rattle.warg_proof.specs.MapProofs.{MapPath, map_text}
 use Rattle.warg_proof.specs.declared.map_bundle.SiblingPath.{SiblingPath}
 use Rattle.warg_proof.proofs.MapVerdicts.{seen}
-use Rattle.warg_proof.proofs.WrittenLaws.{counted_seen}
 use Rattle.warg_proof.proofs.map_bundle.MapBundle.encode.Goals as goal
 
 pub returns : goal.returns
-returns c =
-    let text : SiblingPath → List ℕ = λ path. path_text (seen path) in
-    c.in_ok-push_counted.ensures
-    ∙ ap (λ (b : List ℕ). b ++ counted text c.as_slice.result.now) (c.in_ok-push.ensures.items ∙ ap (λ (b : List ℕ). b ++ 0 ∷ []) c.new-bytes.ensures.items)
-    ∙ ap (λ (ps : List SiblingPath). 0 ∷ counted text ps) c.as_slice.ensures.value
-    ∙ ap (λ (t : List ℕ). 0 ∷ t) (counted_seen seen path_text c.self.inside.paths.items)
-    ∙ ap map_text c.self.view_is
+returns c = IfOk-weaker c.write.result _ _
+    (λ bytes e. e ∙ ap (λ (ps : List SiblingPath). map_text (map seen ps)) c.as_slice.ensures.value ∙ ap map_text c.self.view_is)
+    c.write.ensures
