@@ -3,3 +3,10 @@ pub mod Bounds
 pub mod Order
 pub mod Listed
 pub mod Proving
+pub mod Ways
+pub mod Paths
+pub mod Marks
+pub mod MapBundles
+pub mod Trees
+pub mod Kept
+pub mod Members

@@ -1,2 +1,4 @@
 pub mod Asked
 pub mod Places
+pub mod Maps
+pub mod Subtrees

@@ -13,8 +13,8 @@ pub enum ProverFault {
     /// The log is not yet as long as the proof that was asked for.
     #[error("the log has fewer entries than the length that was asked for: ask for a length that it has")]
     LogTooShort,
-    /// The index is not below the length, or the old length is 0 or past the new one.
-    #[error("the log of this length has no such entry, or no such beginning: ask for one that it has")]
+    /// The index is not below the length, the old length is 0 or past the new one, or the map has no value for a log.
+    #[error("the log of this length has no such entry or beginning, or the map no such log: ask for what is there")]
     NoSuchProof,
     /// The bundle would list more than its counts can tell.
     #[error("the bundle would hold 4294967296 values or more of one kind: ask for fewer proofs at a time")]
