@@ -1,6 +1,6 @@
 //! Callers of `warg_log`.
 
-ghost use Rattle.std.specs.Prelude.{◌≡◌, List, None, Some, IfOk, MatchOption, map, option_map, option_copied};
+ghost use Rattle.std.specs.Prelude.{◌≡◌, ◌++◌, ◌∷◌, [], List, None, Some, IfOk, MatchOption, map, option_map, option_copied};
 ghost use Rattle.semver.specs.Identifiers.{comparator_view};
 ghost use Rattle.warg_record.specs.Envelope.{Signed};
 ghost use Rattle.warg_record.specs.Record.{Package};
@@ -15,7 +15,7 @@ ghost use Rattle.warg_log.specs.Rules.{any_signature, entries_of};
 use semver::VersionReq;
 use std::alloc::Global;
 use warg_log::package::LogState;
-use warg_log::{AnyHash, Envelope, PackageRecord, Release};
+use warg_log::{AnyHash, Envelope, PackageRecord, Release, ValidationError, Verifier};
 use warg_values::Memory;
 
 /// The state of a list of records, where they are lawful but for their signatures.
@@ -39,4 +39,19 @@ pub fn with_digest<'a>(
         (releases_of (entries_of log)) }
 {
     state.find_release(req, None, Some(digest))
+}
+
+/// The state that a record leaves, where it is lawful after those that the state follows: the state itself stays.
+pub fn with_record<V: Verifier>(
+    alloc: Global,
+    state: &LogState,
+    verifier: &V,
+    env: &Envelope<PackageRecord>,
+) -> Result<LogState, ValidationError>
+    ensures { IfOk result (λ next. (log : List Signed) → Follows Package state.now log
+        → Follows Package next (log ++ envelope_view package_entry_view env.now ∷ [])) }
+{
+    let mut next = state.try_clone(alloc)?;
+    next.validate(alloc, verifier, env)?;
+    Ok(next)
 }
