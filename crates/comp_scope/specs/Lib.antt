@@ -1,0 +1,12 @@
+pub mod Spaces
+pub mod Values
+pub mod CoreScopes
+pub mod Descriptions
+pub mod Aliases
+pub mod Closing
+pub mod Types
+pub mod Instances
+pub mod Exports
+pub mod Canons
+pub mod Shape
+pub mod Image
