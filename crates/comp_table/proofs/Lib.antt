@@ -1,0 +1,3 @@
+mod HeadLaws
+mod TableLaws
+mod PlainLaws

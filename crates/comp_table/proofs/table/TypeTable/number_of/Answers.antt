@@ -1,0 +1,18 @@
+use Rattle.std.proofs.Common.{rules, ◌≡◌, sym, subst, List, length, Some}
+use Rattle.std.specs.BTreeMap.{get}
+use Rattle.comp_table.specs.declared.table.Node.{Node}
+use Rattle.comp_table.specs.declared.key.Key.{Key}
+use Rattle.comp_table.specs.Table.{IsBelow, Stands, node_tree, key_cmp, trees}
+use Rattle.comp_table.proofs.TableLaws.{nodes_below, stands_found}
+use Rattle.comp_table.proofs.table.TypeTable.number_of.Goals as goal
+
+pub add_node-requires-clause-below : goal.add_node-requires-clause-below
+add_node-requires-clause-below c =
+    nodes_below c.self.inside.nodes.items c.args.parts (subst (λ (ns : List Node). IsBelow (length (trees ns)) c.args.parts) (sym c.self.view_is) c.requires.below)
+
+pub returns-in-Some-clause-number : goal.returns-in-Some-clause-number
+returns-in-Some-clause-number c =
+    let found : get key_cmp c.self.inside.numbers c.in_ok-key.key ≡ Some c.in-Some.number.now = search rules in
+    let at = subst (λ (k : Key). get key_cmp c.self.inside.numbers k ≡ Some c.in-Some.number.now) c.in_ok-key.ensures found in
+    subst (λ (ns : List Node). Stands ns c.in-Some.number.now (node_tree (trees ns) c.args.head c.args.parts)) c.self.view_is
+    (stands_found c.self.inside.nodes.items c.self.inside.numbers c.in-Some.number.now c.args.head c.args.parts c.self.invariant at)

@@ -1,0 +1,64 @@
+//! What stands at the root of a type or an entity.
+
+use comp_entity::{ResourceNo, TypeNo};
+use comp_format::{CoreVal, Limits, Primitive};
+use warg_values::Text;
+
+/// What stands at the root of a type or an entity, whose parts stand below it (`Binary.md`, `deftype` and
+/// `externdesc`).
+#[derive(Drop)]
+pub enum Head {
+    /// A primitive value type, without parts.
+    Primitive(Primitive),
+    /// A record and the place that named it, where one did. Its parts are fields.
+    RecordOf(Option<TypeNo>),
+    /// A variant and the place that named it, where one did. Its parts are cases.
+    VariantOf(Option<TypeNo>),
+    /// Flags and the place that named them, where one did. The parts are labels.
+    FlagsOf(Option<TypeNo>),
+    /// An enum and the place that named it, where one did. Its parts are labels.
+    EnumOf(Option<TypeNo>),
+    ListOf,
+    TupleOf,
+    OptionOf,
+    /// A result. Its parts are what it holds where all went well, and where not.
+    ResultOf,
+    /// An owned handle of this resource, without parts.
+    Own(ResourceNo),
+    /// A borrowed handle of this resource, without parts.
+    Borrow(ResourceNo),
+    /// The place of a type where there is none: of a case, of a side of a result, or of a function's result.
+    Absent,
+    /// A field, a case, a parameter, or a name of a core module: what stands below a label.
+    Label(Text),
+    /// A type of functions. Its parts are the result, and the parameters.
+    FuncType,
+    /// A resource type, without parts.
+    Resource(ResourceNo),
+    /// A type of instances. Its parts are exports. It is a scope.
+    InstanceType,
+    /// A type of components. Its parts are the imports and the exports, and it is two scopes.
+    ComponentType,
+    /// Imports or exports.
+    Entries,
+    /// An import or export under a name, and whether it has the naming bit.
+    Entry(bool, Text),
+    /// A function. Its part is its type.
+    Func,
+    /// An instance. Its parts are exports, in the scope in which it stands.
+    Instance,
+    /// A component. Its parts are the imports and the exports, and it is two scopes.
+    Component,
+    /// A core module. Its parts are the imports and the exports.
+    Module,
+    /// A core module of a component's own, whose type is not known.
+    OwnModule,
+    /// A core function. Its parts are the parameters and the results.
+    CoreFunc,
+    CoreTable(CoreVal, Limits),
+    CoreMemory(Limits),
+    /// A global variable, and whether it may change.
+    CoreGlobal(CoreVal, bool),
+    /// A type of core values, without parts.
+    CoreValue(CoreVal),
+}

@@ -1,0 +1,137 @@
+//! Types and entities by number: each stands once.
+
+ghost use Rattle.std.specs.Prelude.{◌≡◌, ◌<◌, ◌↔◌, ◌++◌, ◌∷◌, [], List, length, map, IfOk, IsTrue, None};
+ghost use Rattle.std.specs.BTreeMap.{get};
+ghost use Rattle.comp_table.specs.declared.table.Node.{Node};
+ghost use Rattle.comp_table.specs.Table.{IsBelow, IsTable, Extends, Stands, key_cmp, node_key, node_tree, tree_at, trees};
+ghost use Rattle.comp_table.specs.Trees.{root, below_root, trees_of};
+
+use crate::head::Head;
+use crate::key::{Key, key_of};
+use crate::numbers::Numbers;
+use std::alloc::Global;
+use std::collections::BTreeMap;
+use std::marker::Model;
+use warg_values::Memory;
+
+/// What stands at the root, and the numbers of the parts, which stand in front of it.
+#[derive(Drop)]
+pub struct Node {
+    head: Head,
+    parts: Numbers,
+}
+
+/// Drops the last node.
+fn drop_last(nodes: &mut Vec<Node>)
+    ensures { (front : List Node) (last : Node) → nodes.old.items ≡ front ++ last ∷ []
+        → nodes.new.items ≡ front }
+{
+    let _last = nodes.pop();
+}
+
+/// Adds a node that is not there. A refusal changes nothing.
+fn add_node(
+    nodes: &mut Vec<Node>,
+    numbers: &mut BTreeMap<Key, usize>,
+    node: Node,
+    key: Key,
+) -> Result<usize, Memory>
+    requires table { IsTable nodes.old.items numbers.old }
+    requires below { IsBelow (length nodes.old.items) node.parts }
+    requires key { key ≡ node_key node.head node.parts }
+    requires absent { get key_cmp numbers.old key ≡ None }
+    ensures table { IsTable nodes.new.items numbers.new }
+    ensures extends { Extends nodes.old.items nodes.new.items }
+    ensures number { IfOk result (λ n. Stands nodes.new.items n (node_tree (trees nodes.old.items) node.head node.parts)) }
+{
+    let number = nodes.len();
+    nodes.push(node)?;
+    match numbers.insert(key, number) {
+        Ok(_) => Ok(number),
+        Err(_) => {
+            drop_last(nodes);
+            Err(Memory)
+        }
+    }
+}
+
+/// Types and entities by number.
+///
+/// A clause sees a table as what its numbers stand for, from 0 on, by the word `trees`. No tree has two numbers.
+#[derive(Drop)]
+pub struct TypeTable {
+    nodes: Vec<Node>,
+    numbers: BTreeMap<Key, usize>,
+}
+
+impl Model for TypeTable {
+    ghost use Rattle.std.specs.Prelude.{List};
+    ghost use Rattle.comp_table.specs.declared.table.Node.{Node};
+
+    ghost Value = { List Node };
+
+    ghost use Rattle.comp_table.specs.Table.{IsTable};
+
+    ghost view = { λ t. t.nodes.items };
+
+    ghost invariant = { λ t. IsTable t.nodes.items t.numbers };
+}
+
+impl TypeTable {
+    /// A table in which no number stands for anything.
+    pub fn new(alloc: Global) -> Self
+        ensures { trees result ≡ [] }
+    {
+        TypeTable {
+            nodes: Vec::new(alloc),
+            numbers: BTreeMap::new(alloc),
+        }
+    }
+
+    /// The number of what has this root and parts of these numbers. It is added where it is not there. Whatever the
+    /// answer, the numbers given so far keep their meaning.
+    pub fn number_of(&mut self, alloc: Global, head: Head, parts: Numbers) -> Result<usize, Memory>
+        requires below { IsBelow (length (trees self.old)) parts }
+        ensures extends { Extends self.old self.new }
+        ensures number { IfOk result (λ n. Stands self.new n (node_tree (trees self.old) head parts)) }
+    {
+        let key = key_of(alloc, &head, &parts)?;
+        match self.numbers.get(&key) {
+            Some(number) => Ok(*number),
+            None => add_node(
+                &mut self.nodes,
+                &mut self.numbers,
+                Node { head, parts },
+                key,
+            ),
+        }
+    }
+
+    /// Whether two numbers of this table stand for the same: whether they are one number.
+    pub fn is_same(&self, a: usize, b: usize) -> bool
+        requires left { a < length (trees self.now) }
+        requires right { b < length (trees self.now) }
+        ensures { IsTrue result ↔ (tree_at (trees self.now) a ≡ tree_at (trees self.now) b) }
+    {
+        let _nodes = &self.nodes;
+        a == b
+    }
+
+    /// What stands at the root of what a number stands for.
+    pub fn head(&self, number: usize) -> &Head
+        requires { number < length (trees self.now) }
+        ensures { result.now ≡ root (tree_at (trees self.now) number) }
+    {
+        &self.nodes[number].head
+    }
+
+    /// The numbers of the parts of what a number stands for. They are smaller.
+    pub fn parts(&self, number: usize) -> &[usize]
+        requires { number < length (trees self.now) }
+        ensures parts { trees_of (map (tree_at (trees self.now)) result.now)
+            ≡ below_root (tree_at (trees self.now) number) }
+        ensures below { IsBelow number result.now }
+    {
+        self.nodes[number].parts.as_slice()
+    }
+}
