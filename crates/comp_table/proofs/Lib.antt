@@ -1,3 +1,4 @@
 mod HeadLaws
 mod TableLaws
 mod PlainLaws
+mod SizeLaws

@@ -15,7 +15,8 @@ use Rattle.comp_table.specs.declared.head.Head.TheVariants as head
 use Rattle.comp_table.specs.declared.key.Key.{Key}
 use Rattle.comp_table.specs.declared.table.Node.{Node}
 use Rattle.comp_table.specs.Trees.{PlainTree, tree, PlainTrees, none, more, trees_of, root, below_root}
-use Rattle.comp_table.specs.Table.{tree_at, node_tree, trees_from, trees, IsBelow, node_key, key_cmp, IsFound, IsTable, Extends, Stands}
+use Rattle.comp_table.specs.Facts.{capped, tree_size}
+use Rattle.comp_table.specs.Table.{AreSized, tree_at, node_tree, trees_from, trees, IsBelow, node_key, key_cmp, IsFound, IsTable, Extends, Stands}
 use Rattle.comp_table.proofs.HeadLaws.{same_head}
 
 -- what is at a number where no tree is
@@ -162,11 +163,37 @@ same_table ns ms t u is nodes numbers = record {
   found = λ q i e. subst (λ xs. IsFound xs q i) (sym nodes) (is.found q i (ap (λ es. lookup (is_at (key_cmp q)) es) (sym numbers) ∙ e));
   all = λ i q e. ap (λ es. lookup (is_at (key_cmp (node_key q.head q.parts))) es) numbers ∙ is.all i q (ap (λ xs. slice_get xs i) (sym nodes) ∙ e);
   below = λ i q e. is.below i q (ap (λ xs. slice_get xs i) (sym nodes) ∙ e);
+  sized = λ i q e. subst (λ xs. q.size ≡ capped (tree_size (tree_at (trees xs) i))) (sym nodes) (is.sized i q (ap (λ xs. slice_get xs i) (sym nodes) ∙ e));
 }
 
+pub trees_with : (ns ms : List Node) (n : Node) → ms ≡ ns ++ n ∷ [] → trees ms ≡ trees ns ++ tree_in (trees ns) n ∷ []
+trees_with ns ms n nodes = ap (trees_from []) nodes ∙ trees_push [] ns n
+
+get_is : {X : Type 0} (ts : List X) (n : ℕ) (d x : X) → slice_get ts n ≡ Some x → slice_index_or ts n d ≡ x
+get_is ts n d x e = same_Some (slice_index_or ts n d) x (sym (slice_get-get_or ts n d (slice_get_within ts n x e)) ∙ e)
+
+pub stands_last : (ns ms : List Node) (n : Node) (k : ℕ) → k ≡ length ns → ms ≡ ns ++ n ∷ [] → Stands ms k (node_tree (trees ns) n.head n.parts)
+stands_last ns ms n k at nodes =
+    let same : k ≡ length (trees ns) = let h = trees_length ns in omega (arith, h, at) in
+    rw (trees_with ns ms n nodes) (seam (trees ns) [] (tree_in (trees ns) n) k same)
+
+-- sizes with one node more
+sized_more : (ns ms : List Node) (n : Node) → ms ≡ ns ++ n ∷ [] → AreSized ns → n.size ≡ capped (tree_size (tree_in (trees ns) n)) → (i : ℕ) (q : Node) → slice_get (ns ++ n ∷ []) i ≡ Some q → q.size ≡ capped (tree_size (tree_at (trees ms) i))
+sized_more ns ms n nodes sized size i q e = of (get_pushed ns n i q e)
+  where
+    of : (slice_get ns i ≡ Some q) ⊎ ((i ≡ length ns) × (n ≡ q)) → q.size ≡ capped (tree_size (tree_at (trees ms) i))
+    of (inl h) =
+        let lt = slice_get_within ns i q h in
+        let k = trees_length ns in
+        let kept = get_or_append_left (trees ns) (tree_in (trees ns) n ∷ []) absent i (omega (arith, lt, k)) in
+        sized i q h ∙ ap (λ t. capped (tree_size t)) (sym kept ∙ ap (λ ts. tree_at ts i) (sym (trees_with ns ms n nodes)))
+    of (inr h) =
+        let here = get_is (trees ms) i absent (tree_in (trees ns) n) (stands_last ns ms n i h.0 nodes) in
+        ap (λ (x : Node). x.size) (sym h.1) ∙ size ∙ ap (λ t. capped (tree_size t)) (sym here)
+
 -- a table with one node more
-pub table_with : (ns ms : List Node) (t u : BTreeMap Key ℕ) (n : Node) (k : ℕ) → k ≡ length ns → IsTable ns t → IsBelow (length ns) n.parts → get key_cmp t (node_key n.head n.parts) ≡ None → ms ≡ ns ++ n ∷ [] → Updates key_cmp t u (node_key n.head n.parts) (Some k) → IsTable ms u
-table_with ns ms t u n k at is below absent nodes by_k =
+pub table_with : (ns ms : List Node) (t u : BTreeMap Key ℕ) (n : Node) (k : ℕ) → k ≡ length ns → IsTable ns t → IsBelow (length ns) n.parts → get key_cmp t (node_key n.head n.parts) ≡ None → ms ≡ ns ++ n ∷ [] → n.size ≡ capped (tree_size (tree_in (trees ns) n)) → Updates key_cmp t u (node_key n.head n.parts) (Some k) → IsTable ms u
+table_with ns ms t u n k at is below absent nodes size by_k =
     let updates = subst (λ j. Updates key_cmp t u (node_key n.head n.parts) (Some j)) at by_k in
     let found = found_more ns (get key_cmp t) (get key_cmp u) n is.found is.all absent updates.0 updates.1 in
     let all = all_more ns (get key_cmp t) (get key_cmp u) n is.found is.all absent updates.0 updates.1 in
@@ -174,21 +201,14 @@ table_with ns ms t u n k at is below absent nodes by_k =
       found = λ q i e. subst (λ xs. IsFound xs q i) (sym nodes) (found q i e);
       all = λ i q e. all i q (ap (λ xs. slice_get xs i) (sym nodes) ∙ e);
       below = λ i q e. below_more ns n is.below below i q (ap (λ xs. slice_get xs i) (sym nodes) ∙ e);
+      sized = λ i q e. sized_more ns ms n nodes is.sized size i q (ap (λ xs. slice_get xs i) (sym nodes) ∙ e);
     }
-
-pub trees_with : (ns ms : List Node) (n : Node) → ms ≡ ns ++ n ∷ [] → trees ms ≡ trees ns ++ tree_in (trees ns) n ∷ []
-trees_with ns ms n nodes = ap (trees_from []) nodes ∙ trees_push [] ns n
 
 pub extends_with : (ns ms : List Node) (n : Node) → ms ≡ ns ++ n ∷ [] → Extends ns ms
 extends_with ns ms n nodes = (tree_in (trees ns) n ∷ [], trees_with ns ms n nodes)
 
 pub extends_same : (ns ms : List Node) → ms ≡ ns → Extends ns ms
 extends_same ns ms same = ([], ap trees same ∙ sym (append-nil (trees ns)))
-
-pub stands_last : (ns ms : List Node) (n : Node) (k : ℕ) → k ≡ length ns → ms ≡ ns ++ n ∷ [] → Stands ms k (node_tree (trees ns) n.head n.parts)
-stands_last ns ms n k at nodes =
-    let same : k ≡ length (trees ns) = let h = trees_length ns in omega (arith, h, at) in
-    rw (trees_with ns ms n nodes) (seam (trees ns) [] (tree_in (trees ns) n) k same)
 
 -- where a node of this key is found, its tree stands
 pub stands_found : (ns : List Node) (t : BTreeMap Key ℕ) (i : ℕ) (h : Head) (ps : List ℕ) → IsTable ns t → get key_cmp t (node_key h ps) ≡ Some i → Stands ns i (node_tree (trees ns) h ps)
@@ -221,9 +241,6 @@ some_within : {X : Type 0} (xs : List X) (i : ℕ) → i < length xs → slice_g
 some_within [] i lt e = omega (arith, lt)
 some_within (x ∷ xs) zero lt e = cc
 some_within (x ∷ xs) (suc i) lt e = some_within xs i (omega (arith, lt)) e
-
-get_is : {X : Type 0} (ts : List X) (n : ℕ) (d x : X) → slice_get ts n ≡ Some x → slice_index_or ts n d ≡ x
-get_is ts n d x e = same_Some (slice_index_or ts n d) x (sym (slice_get-get_or ts n d (slice_get_within ts n x e)) ∙ e)
 
 pub within : (ns : List Node) (i : ℕ) → i < length (trees ns) → i < length ns
 within ns i lt = let h = trees_length ns in omega (arith, h, lt)
@@ -260,9 +277,21 @@ module _ (ns : List Node) (t : BTreeMap Key ℕ) (is : IsTable ns t) where
     pub number_is : tree_at (trees ns) i ≡ tree_in (trees ns) (slice_index_or ns i d)
     number_is = tree_is i (slice_index_or ns i d) at_number
 
+    pub number_size : (slice_index_or ns i d).size ≡ capped (tree_size (tree_at (trees ns) i))
+    number_size = is.sized i (slice_index_or ns i d) at_number
+
     pub number_below : IsBelow i (slice_index_or ns i d).parts
     number_below = is.below i (slice_index_or ns i d) at_number
 
 -- the parts of a table's numbers
 pub nodes_below : (ns : List Node) (ps : List ℕ) → IsBelow (length (trees ns)) ps → IsBelow (length ns) ps
 nodes_below ns ps b = subst (λ k. IsBelow k ps) (trees_length ns) b
+
+pub below_at : (k : ℕ) (ns : List ℕ) (i d : ℕ) → IsBelow k ns → i < length ns → slice_index_or ns i d < k
+below_at k [] i d b lt = absurd (omega (arith, lt))
+below_at k (n ∷ ns) zero d b lt = b.0
+below_at k (n ∷ ns) (suc i) d b lt = below_at k ns i d b.1 (omega (arith, lt))
+
+-- the size of a node that was found
+pub size_found : (ns : List Node) (p : ℕ) (n d : Node) → AreSized ns → p < length ns → n ≡ slice_index_or ns p d → n.size ≡ capped (tree_size (tree_at (trees ns) p))
+size_found ns p n d sized lt is = sized p n (slice_get-get_or ns p d lt ∙ ap Some (sym is))

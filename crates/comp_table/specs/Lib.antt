@@ -1,4 +1,5 @@
 pub mod Heads
 pub mod Trees
+pub mod Facts
 pub mod Table
 pub mod Plain

@@ -10,6 +10,7 @@ use Rattle.comp_table.specs.declared.head.Head.TheVariants as head
 use Rattle.comp_table.specs.declared.key.Key.{Key}
 use Rattle.comp_table.specs.declared.table.Node.{Node}
 use Rattle.comp_table.specs.Heads.{head_code, head_numbers, head_label}
+use Rattle.comp_table.specs.Facts.{capped, tree_size}
 use Rattle.comp_table.specs.Trees.{PlainTree, tree, none, trees_of}
 
 abbrev pub tree_at : List PlainTree → ℕ → PlainTree
@@ -47,11 +48,16 @@ pub record IsFound (nodes : List Node) (k : Key) (i : ℕ) : Type 0 where
   pub is_there : slice_get nodes i ≡ Some node
   pub is_its_key : node_key node.head node.parts ≡ k
 
--- Each node is found by its key, and its parts stand in front of it.
+-- beside each node stands the size of its tree
+abbrev pub AreSized : List Node → Type 0
+AreSized nodes = (i : ℕ) (n : Node) → slice_get nodes i ≡ Some n → n.size ≡ capped (tree_size (tree_at (trees nodes) i))
+
+-- Each node is found by its key, its parts stand in front of it, and its size beside it.
 pub record IsTable (nodes : List Node) (numbers : BTreeMap Key ℕ) : Type 0 where
   pub found : (k : Key) (i : ℕ) → get key_cmp numbers k ≡ Some i → IsFound nodes k i
   pub all : (i : ℕ) (n : Node) → slice_get nodes i ≡ Some n → get key_cmp numbers (node_key n.head n.parts) ≡ Some i
   pub below : (i : ℕ) (n : Node) → slice_get nodes i ≡ Some n → IsBelow i n.parts
+  pub sized : AreSized nodes
 
 -- what the numbers given so far stand for is kept
 abbrev pub Extends : List Node → List Node → Type 0

@@ -1,9 +1,10 @@
 //! Types and entities by number: each stands once.
 
-ghost use Rattle.std.specs.Prelude.{◌≡◌, ◌<◌, ◌↔◌, ◌++◌, ◌∷◌, [], List, length, map, IfOk, IsTrue, None};
+ghost use Rattle.std.specs.Prelude.{◌≡◌, ◌<◌, ◌↔◌, ◌+◌, ◌++◌, ◌∷◌, [], List, length, map, IfOk, IsTrue, None};
 ghost use Rattle.std.specs.BTreeMap.{get};
 ghost use Rattle.comp_table.specs.declared.table.Node.{Node};
-ghost use Rattle.comp_table.specs.Table.{IsBelow, IsTable, Extends, Stands, key_cmp, node_key, node_tree, tree_at, trees};
+ghost use Rattle.comp_table.specs.Facts.{capped, head_size, tree_size};
+ghost use Rattle.comp_table.specs.Table.{AreSized, IsBelow, IsTable, Extends, Stands, key_cmp, node_key, node_tree, tree_at, trees};
 ghost use Rattle.comp_table.specs.Trees.{root, below_root, trees_of};
 
 use crate::head::Head;
@@ -19,6 +20,46 @@ use warg_values::Memory;
 pub struct Node {
     head: Head,
     parts: Numbers,
+    /// How many nodes the whole has, as far as a number goes.
+    size: usize,
+}
+
+/// A sum, or the largest number where it is larger.
+fn capped_sum(a: usize, b: usize) -> usize
+    ensures { result ≡ capped (a + b) }
+{
+    match a.checked_add(b) {
+        Some(sum) => sum,
+        None => usize::MAX,
+    }
+}
+
+/// How many nodes a head counts as.
+fn head_size(head: &Head) -> usize
+    ensures { result ≡ head_size head.now }
+{
+    match head {
+        Head::Absent
+        | Head::Label(_)
+        | Head::Entries
+        | Head::Entry(_, _)
+        | Head::Func
+        | Head::CoreValue(_) => 0,
+        _ => 1,
+    }
+}
+
+/// The size of a head and parts of these numbers.
+fn size_of(nodes: &[Node], head: &Head, parts: &[usize]) -> usize
+    requires sized { AreSized nodes.now }
+    requires below { IsBelow (length nodes.now) parts.now }
+    ensures { result ≡ capped (tree_size (node_tree (trees nodes.now) head.now parts.now)) }
+{
+    let mut size = 0;
+    for part in parts {
+        size = capped_sum(size, nodes[*part].size);
+    }
+    capped_sum(head_size(head), size)
 }
 
 /// Drops the last node.
@@ -38,6 +79,7 @@ fn add_node(
 ) -> Result<usize, Memory>
     requires table { IsTable nodes.old.items numbers.old }
     requires below { IsBelow (length nodes.old.items) node.parts }
+    requires sized { node.size ≡ capped (tree_size (node_tree (trees nodes.old.items) node.head node.parts)) }
     requires key { key ≡ node_key node.head node.parts }
     requires absent { get key_cmp numbers.old key ≡ None }
     ensures table { IsTable nodes.new.items numbers.new }
@@ -98,12 +140,15 @@ impl TypeTable {
         let key = key_of(alloc, &head, &parts)?;
         match self.numbers.get(&key) {
             Some(number) => Ok(*number),
-            None => add_node(
-                &mut self.nodes,
-                &mut self.numbers,
-                Node { head, parts },
-                key,
-            ),
+            None => {
+                let size = size_of(&self.nodes, &head, parts.as_slice());
+                add_node(
+                    &mut self.nodes,
+                    &mut self.numbers,
+                    Node { head, parts, size },
+                    key,
+                )
+            }
         }
     }
 
@@ -123,6 +168,15 @@ impl TypeTable {
         ensures { result.now ≡ root (tree_at (trees self.now) number) }
     {
         &self.nodes[number].head
+    }
+
+    /// How many nodes what a number stands for has, or the largest number where it has more. This takes no time that
+    /// grows with the size.
+    pub fn size(&self, number: usize) -> usize
+        requires { number < length (trees self.now) }
+        ensures { result ≡ capped (tree_size (tree_at (trees self.now) number)) }
+    {
+        self.nodes[number].size
     }
 
     /// The numbers of the parts of what a number stands for. They are smaller.

@@ -16,3 +16,9 @@ returns-in-Some-clause-number c =
     let at = subst (λ (k : Key). get key_cmp c.self.inside.numbers k ≡ Some c.in-Some.number.now) c.in_ok-key.ensures found in
     subst (λ (ns : List Node). Stands ns c.in-Some.number.now (node_tree (trees ns) c.args.head c.args.parts)) c.self.view_is
     (stands_found c.self.inside.nodes.items c.self.inside.numbers c.in-Some.number.now c.args.head c.args.parts c.self.invariant at)
+
+pub size_of-size-requires-clause-below : goal.size_of-size-requires-clause-below
+size_of-size-requires-clause-below c =
+    let below = nodes_below c.self.inside.nodes.items c.args.parts (subst (λ (ns : List Node). IsBelow (length (trees ns)) c.args.parts) (sym c.self.view_is) c.requires.below) in
+    let nodes : c.deref.result.now ≡ c.self.inside.nodes.items = c.deref.ensures.value in
+    subst (λ (ns : List Node). IsBelow (length ns) c.as_slice.result.now) (sym nodes) (subst (IsBelow (length c.self.inside.nodes.items)) (sym c.as_slice.ensures) below)
