@@ -2,3 +2,5 @@ mod HeadLaws
 mod TableLaws
 mod PlainLaws
 mod SizeLaws
+mod DepthLaws
+mod ChangeLaws

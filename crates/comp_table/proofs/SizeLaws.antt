@@ -28,7 +28,7 @@ large : (n : ℕ) → largest ≤ n → capped n ≡ largest
 large n le = ap (λ b. cond b n largest) (le-ltb n largest le)
 
 -- a capped number, by subtraction
-capped_is : (n : ℕ) → capped n ≡ largest - (largest - n)
+pub capped_is : (n : ℕ) → capped n ≡ largest - (largest - n)
 capped_is n = elim (cases_lt n largest) [
   | inl lt ↦ small n lt ∙ omega (arith, lt)
   | inr le ↦ large n le ∙ omega (arith, le)

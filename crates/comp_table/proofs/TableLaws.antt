@@ -15,8 +15,7 @@ use Rattle.comp_table.specs.declared.head.Head.TheVariants as head
 use Rattle.comp_table.specs.declared.key.Key.{Key}
 use Rattle.comp_table.specs.declared.table.Node.{Node}
 use Rattle.comp_table.specs.Trees.{PlainTree, tree, PlainTrees, none, more, trees_of, root, below_root}
-use Rattle.comp_table.specs.Facts.{capped, tree_size}
-use Rattle.comp_table.specs.Table.{AreSized, tree_at, node_tree, trees_from, trees, IsBelow, node_key, key_cmp, IsFound, IsTable, Extends, Stands}
+use Rattle.comp_table.specs.Table.{IsMeasured, AreMeasured, tree_at, node_tree, trees_from, trees, IsBelow, node_key, key_cmp, IsFound, IsTable, Extends, Stands}
 use Rattle.comp_table.proofs.HeadLaws.{same_head}
 
 -- what is at a number where no tree is
@@ -163,7 +162,7 @@ same_table ns ms t u is nodes numbers = record {
   found = λ q i e. subst (λ xs. IsFound xs q i) (sym nodes) (is.found q i (ap (λ es. lookup (is_at (key_cmp q)) es) (sym numbers) ∙ e));
   all = λ i q e. ap (λ es. lookup (is_at (key_cmp (node_key q.head q.parts))) es) numbers ∙ is.all i q (ap (λ xs. slice_get xs i) (sym nodes) ∙ e);
   below = λ i q e. is.below i q (ap (λ xs. slice_get xs i) (sym nodes) ∙ e);
-  sized = λ i q e. subst (λ xs. q.size ≡ capped (tree_size (tree_at (trees xs) i))) (sym nodes) (is.sized i q (ap (λ xs. slice_get xs i) (sym nodes) ∙ e));
+  measured = λ i q e. subst (λ xs. IsMeasured q.size q.depth (tree_at (trees xs) i)) (sym nodes) (is.measured i q (ap (λ xs. slice_get xs i) (sym nodes) ∙ e));
 }
 
 pub trees_with : (ns ms : List Node) (n : Node) → ms ≡ ns ++ n ∷ [] → trees ms ≡ trees ns ++ tree_in (trees ns) n ∷ []
@@ -177,23 +176,23 @@ stands_last ns ms n k at nodes =
     let same : k ≡ length (trees ns) = let h = trees_length ns in omega (arith, h, at) in
     rw (trees_with ns ms n nodes) (seam (trees ns) [] (tree_in (trees ns) n) k same)
 
--- sizes with one node more
-sized_more : (ns ms : List Node) (n : Node) → ms ≡ ns ++ n ∷ [] → AreSized ns → n.size ≡ capped (tree_size (tree_in (trees ns) n)) → (i : ℕ) (q : Node) → slice_get (ns ++ n ∷ []) i ≡ Some q → q.size ≡ capped (tree_size (tree_at (trees ms) i))
-sized_more ns ms n nodes sized size i q e = of (get_pushed ns n i q e)
+-- measures with one node more
+measured_more : (ns ms : List Node) (n : Node) → ms ≡ ns ++ n ∷ [] → AreMeasured ns → IsMeasured n.size n.depth (tree_in (trees ns) n) → (i : ℕ) (q : Node) → slice_get (ns ++ n ∷ []) i ≡ Some q → IsMeasured q.size q.depth (tree_at (trees ms) i)
+measured_more ns ms n nodes measured here i q e = of (get_pushed ns n i q e)
   where
-    of : (slice_get ns i ≡ Some q) ⊎ ((i ≡ length ns) × (n ≡ q)) → q.size ≡ capped (tree_size (tree_at (trees ms) i))
+    of : (slice_get ns i ≡ Some q) ⊎ ((i ≡ length ns) × (n ≡ q)) → IsMeasured q.size q.depth (tree_at (trees ms) i)
     of (inl h) =
         let lt = slice_get_within ns i q h in
         let k = trees_length ns in
         let kept = get_or_append_left (trees ns) (tree_in (trees ns) n ∷ []) absent i (omega (arith, lt, k)) in
-        sized i q h ∙ ap (λ t. capped (tree_size t)) (sym kept ∙ ap (λ ts. tree_at ts i) (sym (trees_with ns ms n nodes)))
+        subst (λ t. IsMeasured q.size q.depth t) (sym kept ∙ ap (λ ts. tree_at ts i) (sym (trees_with ns ms n nodes))) (measured i q h)
     of (inr h) =
-        let here = get_is (trees ms) i absent (tree_in (trees ns) n) (stands_last ns ms n i h.0 nodes) in
-        ap (λ (x : Node). x.size) (sym h.1) ∙ size ∙ ap (λ t. capped (tree_size t)) (sym here)
+        let there = get_is (trees ms) i absent (tree_in (trees ns) n) (stands_last ns ms n i h.0 nodes) in
+        subst (λ (x : Node). IsMeasured x.size x.depth (tree_at (trees ms) i)) h.1 (subst (λ t. IsMeasured n.size n.depth t) (sym there) here)
 
 -- a table with one node more
-pub table_with : (ns ms : List Node) (t u : BTreeMap Key ℕ) (n : Node) (k : ℕ) → k ≡ length ns → IsTable ns t → IsBelow (length ns) n.parts → get key_cmp t (node_key n.head n.parts) ≡ None → ms ≡ ns ++ n ∷ [] → n.size ≡ capped (tree_size (tree_in (trees ns) n)) → Updates key_cmp t u (node_key n.head n.parts) (Some k) → IsTable ms u
-table_with ns ms t u n k at is below absent nodes size by_k =
+pub table_with : (ns ms : List Node) (t u : BTreeMap Key ℕ) (n : Node) (k : ℕ) → k ≡ length ns → IsTable ns t → IsBelow (length ns) n.parts → get key_cmp t (node_key n.head n.parts) ≡ None → ms ≡ ns ++ n ∷ [] → IsMeasured n.size n.depth (tree_in (trees ns) n) → Updates key_cmp t u (node_key n.head n.parts) (Some k) → IsTable ms u
+table_with ns ms t u n k at is below absent nodes measured by_k =
     let updates = subst (λ j. Updates key_cmp t u (node_key n.head n.parts) (Some j)) at by_k in
     let found = found_more ns (get key_cmp t) (get key_cmp u) n is.found is.all absent updates.0 updates.1 in
     let all = all_more ns (get key_cmp t) (get key_cmp u) n is.found is.all absent updates.0 updates.1 in
@@ -201,7 +200,7 @@ table_with ns ms t u n k at is below absent nodes size by_k =
       found = λ q i e. subst (λ xs. IsFound xs q i) (sym nodes) (found q i e);
       all = λ i q e. all i q (ap (λ xs. slice_get xs i) (sym nodes) ∙ e);
       below = λ i q e. below_more ns n is.below below i q (ap (λ xs. slice_get xs i) (sym nodes) ∙ e);
-      sized = λ i q e. sized_more ns ms n nodes is.sized size i q (ap (λ xs. slice_get xs i) (sym nodes) ∙ e);
+      measured = λ i q e. measured_more ns ms n nodes is.measured measured i q (ap (λ xs. slice_get xs i) (sym nodes) ∙ e);
     }
 
 pub extends_with : (ns ms : List Node) (n : Node) → ms ≡ ns ++ n ∷ [] → Extends ns ms
@@ -277,8 +276,8 @@ module _ (ns : List Node) (t : BTreeMap Key ℕ) (is : IsTable ns t) where
     pub number_is : tree_at (trees ns) i ≡ tree_in (trees ns) (slice_index_or ns i d)
     number_is = tree_is i (slice_index_or ns i d) at_number
 
-    pub number_size : (slice_index_or ns i d).size ≡ capped (tree_size (tree_at (trees ns) i))
-    number_size = is.sized i (slice_index_or ns i d) at_number
+    pub number_measured : IsMeasured (slice_index_or ns i d).size (slice_index_or ns i d).depth (tree_at (trees ns) i)
+    number_measured = is.measured i (slice_index_or ns i d) at_number
 
     pub number_below : IsBelow i (slice_index_or ns i d).parts
     number_below = is.below i (slice_index_or ns i d) at_number
@@ -292,6 +291,6 @@ below_at k [] i d b lt = absurd (omega (arith, lt))
 below_at k (n ∷ ns) zero d b lt = b.0
 below_at k (n ∷ ns) (suc i) d b lt = below_at k ns i d b.1 (omega (arith, lt))
 
--- the size of a node that was found
-pub size_found : (ns : List Node) (p : ℕ) (n d : Node) → AreSized ns → p < length ns → n ≡ slice_index_or ns p d → n.size ≡ capped (tree_size (tree_at (trees ns) p))
-size_found ns p n d sized lt is = sized p n (slice_get-get_or ns p d lt ∙ ap Some (sym is))
+-- the measures of a node that was found
+pub measured_found : (ns : List Node) (p : ℕ) (n d : Node) → AreMeasured ns → p < length ns → n ≡ slice_index_or ns p d → IsMeasured n.size n.depth (tree_at (trees ns) p)
+measured_found ns p n d measured lt is = measured p n (slice_get-get_or ns p d lt ∙ ap Some (sym is))

@@ -1,5 +1,5 @@
--- How large a type or an entity is, as a number of the machine.
-use Rattle.std.specs.Prelude.{ℕ, ◌+◌, nat_lt, if◌then◌else◌}
+-- How large and how deep a type or an entity is, as numbers of the machine.
+use Rattle.std.specs.Prelude.{ℕ, ◌+◌, nat_lt, if◌then◌else◌, max}
 use Rattle.comp_table.specs.declared.head.Head.{Head}
 use Rattle.comp_table.specs.declared.head.Head.TheVariants as head
 use Rattle.comp_table.specs.Trees.{PlainTree, tree, PlainTrees, none, more}
@@ -30,3 +30,27 @@ abbrev mutual
   pub trees_size : PlainTrees → ℕ
   trees_size none = 0
   trees_size (more t ts) = tree_size t + trees_size ts
+
+-- value types alone are deep
+abbrev pub head_depth : Head → ℕ
+head_depth (head.Primitive p) = 1
+head_depth (head.RecordOf place) = 1
+head_depth (head.VariantOf place) = 1
+head_depth (head.FlagsOf place) = 1
+head_depth (head.EnumOf place) = 1
+head_depth head.ListOf = 1
+head_depth head.TupleOf = 1
+head_depth head.OptionOf = 1
+head_depth head.ResultOf = 1
+head_depth (head.Own r) = 1
+head_depth (head.Borrow r) = 1
+head_depth _ = 0
+
+-- how deep a value type is, and of what is none how deep the deepest is that stands in it
+abbrev mutual
+  pub tree_depth : PlainTree → ℕ
+  tree_depth (tree h parts) = head_depth h + trees_depth parts
+
+  pub trees_depth : PlainTrees → ℕ
+  trees_depth none = 0
+  trees_depth (more t ts) = max (tree_depth t) (trees_depth ts)

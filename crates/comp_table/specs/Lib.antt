@@ -3,3 +3,4 @@ pub mod Trees
 pub mod Facts
 pub mod Table
 pub mod Plain
+pub mod Changes

@@ -10,7 +10,7 @@ use Rattle.comp_table.specs.declared.head.Head.TheVariants as head
 use Rattle.comp_table.specs.declared.key.Key.{Key}
 use Rattle.comp_table.specs.declared.table.Node.{Node}
 use Rattle.comp_table.specs.Heads.{head_code, head_numbers, head_label}
-use Rattle.comp_table.specs.Facts.{capped, tree_size}
+use Rattle.comp_table.specs.Facts.{capped, tree_size, tree_depth}
 use Rattle.comp_table.specs.Trees.{PlainTree, tree, none, trees_of}
 
 abbrev pub tree_at : List PlainTree → ℕ → PlainTree
@@ -48,16 +48,21 @@ pub record IsFound (nodes : List Node) (k : Key) (i : ℕ) : Type 0 where
   pub is_there : slice_get nodes i ≡ Some node
   pub is_its_key : node_key node.head node.parts ≡ k
 
--- beside each node stands the size of its tree
-abbrev pub AreSized : List Node → Type 0
-AreSized nodes = (i : ℕ) (n : Node) → slice_get nodes i ≡ Some n → n.size ≡ capped (tree_size (tree_at (trees nodes) i))
+-- a size and a depth are those of a tree, as far as numbers go
+pub record IsMeasured (size depth : ℕ) (t : PlainTree) : Type 0 where
+  pub size_is : size ≡ capped (tree_size t)
+  pub depth_is : depth ≡ capped (tree_depth t)
 
--- Each node is found by its key, its parts stand in front of it, and its size beside it.
+-- beside each node stand the size and the depth of its tree
+abbrev pub AreMeasured : List Node → Type 0
+AreMeasured nodes = (i : ℕ) (n : Node) → slice_get nodes i ≡ Some n → IsMeasured n.size n.depth (tree_at (trees nodes) i)
+
+-- Each node is found by its key, its parts stand in front of it, and its size and its depth beside it.
 pub record IsTable (nodes : List Node) (numbers : BTreeMap Key ℕ) : Type 0 where
   pub found : (k : Key) (i : ℕ) → get key_cmp numbers k ≡ Some i → IsFound nodes k i
   pub all : (i : ℕ) (n : Node) → slice_get nodes i ≡ Some n → get key_cmp numbers (node_key n.head n.parts) ≡ Some i
   pub below : (i : ℕ) (n : Node) → slice_get nodes i ≡ Some n → IsBelow i n.parts
-  pub sized : AreSized nodes
+  pub measured : AreMeasured nodes
 
 -- what the numbers given so far stand for is kept
 abbrev pub Extends : List Node → List Node → Type 0

@@ -1,10 +1,12 @@
 //! Laws of types and entities as trees of heads: each is a function that does nothing, and is proved of all of them.
 
-ghost use Rattle.std.specs.Prelude.{◌≡◌};
-ghost use Rattle.comp_entity.specs.Bounds.{entity_nodes};
-ghost use Rattle.comp_entity.specs.Entity.{EntityTree};
-ghost use Rattle.comp_table.specs.Facts.{tree_size};
-ghost use Rattle.comp_table.specs.Plain.{plain_entity};
+ghost use Rattle.std.specs.Prelude.{◌≡◌, ℕ};
+ghost use Rattle.comp_entity.specs.Bounds.{entity_nodes, value_depth};
+ghost use Rattle.comp_entity.specs.Entity.{EntityTree, ValueTree};
+ghost use Rattle.comp_entity.specs.Names.{Change, entity_by};
+ghost use Rattle.comp_table.specs.Changes.{tree_by};
+ghost use Rattle.comp_table.specs.Facts.{tree_depth, tree_size};
+ghost use Rattle.comp_table.specs.Plain.{plain_entity, plain_value};
 
 /// No two entities have one tree of heads, so that those of one number are equal.
 pub fn one_entity()
@@ -14,4 +16,15 @@ pub fn one_entity()
 /// The tree of heads of an entity has as many nodes as the entity.
 pub fn trees_are_as_large()
     ensures { (e : EntityTree) → tree_size (plain_entity e) ≡ entity_nodes e }
+{}
+
+/// The tree of heads of a value type is as deep as the type.
+pub fn trees_are_as_deep()
+    ensures { (t : ValueTree) → tree_depth (plain_value t) ≡ value_depth t }
+{}
+
+/// An entity in other names has the tree of heads of the entity, in these names.
+pub fn changed_entities_have_changed_trees()
+    ensures { (c : Change) (depth : ℕ) (e : EntityTree)
+        → plain_entity (entity_by c depth e) ≡ tree_by c depth (plain_entity e) }
 {}

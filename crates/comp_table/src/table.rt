@@ -1,10 +1,10 @@
 //! Types and entities by number: each stands once.
 
-ghost use Rattle.std.specs.Prelude.{◌≡◌, ◌<◌, ◌↔◌, ◌+◌, ◌++◌, ◌∷◌, [], List, length, map, IfOk, IsTrue, None};
+ghost use Rattle.std.specs.Prelude.{◌≡◌, ◌<◌, ◌↔◌, ◌+◌, ◌++◌, ◌∷◌, [], List, length, map, IfOk, IsTrue, None, max};
 ghost use Rattle.std.specs.BTreeMap.{get};
 ghost use Rattle.comp_table.specs.declared.table.Node.{Node};
-ghost use Rattle.comp_table.specs.Facts.{capped, head_size, tree_size};
-ghost use Rattle.comp_table.specs.Table.{AreSized, IsBelow, IsTable, Extends, Stands, key_cmp, node_key, node_tree, tree_at, trees};
+ghost use Rattle.comp_table.specs.Facts.{capped, head_depth, head_size, tree_depth, tree_size};
+ghost use Rattle.comp_table.specs.Table.{AreMeasured, IsBelow, IsTable, Extends, Stands, key_cmp, node_key, node_tree, tree_at, trees, IsMeasured};
 ghost use Rattle.comp_table.specs.Trees.{root, below_root, trees_of};
 
 use crate::head::Head;
@@ -22,6 +22,8 @@ pub struct Node {
     parts: Numbers,
     /// How many nodes the whole has, as far as a number goes.
     size: usize,
+    /// How deep the deepest value type in it is, as far as a number goes.
+    depth: usize,
 }
 
 /// A sum, or the largest number where it is larger.
@@ -49,9 +51,36 @@ fn head_size(head: &Head) -> usize
     }
 }
 
+/// How many levels a head adds to the depth of a value type.
+fn head_depth(head: &Head) -> usize
+    ensures { result ≡ head_depth head.now }
+{
+    match head {
+        Head::Primitive(_)
+        | Head::RecordOf(_)
+        | Head::VariantOf(_)
+        | Head::FlagsOf(_)
+        | Head::EnumOf(_)
+        | Head::ListOf
+        | Head::TupleOf
+        | Head::OptionOf
+        | Head::ResultOf
+        | Head::Own(_)
+        | Head::Borrow(_) => 1,
+        _ => 0,
+    }
+}
+
+/// The greater of two numbers.
+fn greater(a: usize, b: usize) -> usize
+    ensures { result ≡ max a b }
+{
+    if a < b { b } else { a }
+}
+
 /// The size of a head and parts of these numbers.
 fn size_of(nodes: &[Node], head: &Head, parts: &[usize]) -> usize
-    requires sized { AreSized nodes.now }
+    requires measured { AreMeasured nodes.now }
     requires below { IsBelow (length nodes.now) parts.now }
     ensures { result ≡ capped (tree_size (node_tree (trees nodes.now) head.now parts.now)) }
 {
@@ -60,6 +89,19 @@ fn size_of(nodes: &[Node], head: &Head, parts: &[usize]) -> usize
         size = capped_sum(size, nodes[*part].size);
     }
     capped_sum(head_size(head), size)
+}
+
+/// The depth of a head and parts of these numbers.
+fn depth_of(nodes: &[Node], head: &Head, parts: &[usize]) -> usize
+    requires measured { AreMeasured nodes.now }
+    requires below { IsBelow (length nodes.now) parts.now }
+    ensures { result ≡ capped (tree_depth (node_tree (trees nodes.now) head.now parts.now)) }
+{
+    let mut depth = 0;
+    for part in parts {
+        depth = greater(depth, nodes[*part].depth);
+    }
+    capped_sum(head_depth(head), depth)
 }
 
 /// Drops the last node.
@@ -79,7 +121,8 @@ fn add_node(
 ) -> Result<usize, Memory>
     requires table { IsTable nodes.old.items numbers.old }
     requires below { IsBelow (length nodes.old.items) node.parts }
-    requires sized { node.size ≡ capped (tree_size (node_tree (trees nodes.old.items) node.head node.parts)) }
+    requires measured { IsMeasured node.size node.depth
+        (node_tree (trees nodes.old.items) node.head node.parts) }
     requires key { key ≡ node_key node.head node.parts }
     requires absent { get key_cmp numbers.old key ≡ None }
     ensures table { IsTable nodes.new.items numbers.new }
@@ -136,18 +179,21 @@ impl TypeTable {
         requires below { IsBelow (length (trees self.old)) parts }
         ensures extends { Extends self.old self.new }
         ensures number { IfOk result (λ n. Stands self.new n (node_tree (trees self.old) head parts)) }
+        ensures there { IfOk result (λ n. n < length (trees self.new)) }
     {
         let key = key_of(alloc, &head, &parts)?;
         match self.numbers.get(&key) {
             Some(number) => Ok(*number),
             None => {
                 let size = size_of(&self.nodes, &head, parts.as_slice());
-                add_node(
-                    &mut self.nodes,
-                    &mut self.numbers,
-                    Node { head, parts, size },
-                    key,
-                )
+                let depth = depth_of(&self.nodes, &head, parts.as_slice());
+                let node = Node {
+                    head,
+                    parts,
+                    size,
+                    depth,
+                };
+                add_node(&mut self.nodes, &mut self.numbers, node, key)
             }
         }
     }
@@ -177,6 +223,15 @@ impl TypeTable {
         ensures { result ≡ capped (tree_size (tree_at (trees self.now) number)) }
     {
         self.nodes[number].size
+    }
+
+    /// How deep the value type is that a number stands for, or how deep the deepest is that stands in what is none, or
+    /// the largest number where it is deeper. This takes no time that grows with the size.
+    pub fn depth(&self, number: usize) -> usize
+        requires { number < length (trees self.now) }
+        ensures { result ≡ capped (tree_depth (tree_at (trees self.now) number)) }
+    {
+        self.nodes[number].depth
     }
 
     /// The numbers of the parts of what a number stands for. They are smaller.

@@ -2,7 +2,7 @@ use Rattle.std.proofs.Common.{rules, ◌<◌, ◌+◌, ◌∙◌, ap, sym, lengt
 use Rattle.comp_table.specs.declared.table.Node.{Node}
 use Rattle.comp_table.specs.Facts.{capped}
 use Rattle.comp_table.specs.Table.{trees}
-use Rattle.comp_table.proofs.TableLaws.{below_at, size_found}
+use Rattle.comp_table.proofs.TableLaws.{below_at, measured_found}
 use Rattle.comp_table.proofs.SizeLaws.{size_step}
 use Rattle.comp_table.proofs.table.size_of.Goals as goal
 
@@ -10,6 +10,6 @@ pub loop-part-preserved : goal.loop-part-preserved
 loop-part-preserved c =
     let lt : c.loop-part.part-index < length c.args.parts.now = search rules in
     let there = below_at (length c.args.nodes.now) c.args.parts.now c.loop-part.part-index 0 c.requires.below lt in
-    let size = size_found c.args.nodes.now (slice_index_or c.args.parts.now c.loop-part.part-index 0) c.index-nodes-part.result _ c.requires.sized there c.index-nodes-part.is in
-    size_step (trees c.args.nodes.now) c.args.parts.now c.loop-part.part-index c.loop-part.size c.index-nodes-part.result.size c.capped_sum-size.result lt c.loop-part.invariant size
+    let size = measured_found c.args.nodes.now (slice_index_or c.args.parts.now c.loop-part.part-index 0) c.index-nodes-part.result _ c.requires.measured there c.index-nodes-part.is in
+    size_step (trees c.args.nodes.now) c.args.parts.now c.loop-part.part-index c.loop-part.size c.index-nodes-part.result.size c.capped_sum-size.result lt c.loop-part.invariant size.size_is
     (c.capped_sum-size.ensures ∙ ap (λ (n : Node). capped (c.loop-part.size + n.size)) (sym c.index-nodes-part.is))

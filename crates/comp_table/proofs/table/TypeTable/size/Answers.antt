@@ -2,7 +2,7 @@ use Rattle.std.proofs.Common.{rules, ◌<◌, ◌∙◌, ap, sym, subst, List, l
 use Rattle.comp_table.specs.declared.table.Node.{Node}
 use Rattle.comp_table.specs.Facts.{capped, tree_size}
 use Rattle.comp_table.specs.Table.{trees, tree_at}
-use Rattle.comp_table.proofs.TableLaws.{within, number_size}
+use Rattle.comp_table.proofs.TableLaws.{within, number_measured}
 use Rattle.comp_table.proofs.table.TypeTable.size.Goals as goal
 
 pub index-requires : goal.index-requires
@@ -13,5 +13,5 @@ index-requires c =
 pub returns : goal.returns
 returns c =
     let lt = subst (λ (ns : List Node). c.args.number < length (trees ns)) (sym c.self.view_is) c.requires in
-    let is = number_size c.self.inside.nodes.items c.self.inside.numbers c.self.invariant c.args.number lt c.index.result.now in
-    ap (λ (n : Node). n.size) c.index.ensures ∙ is ∙ ap (λ (ns : List Node). capped (tree_size (tree_at (trees ns) c.args.number))) c.self.view_is
+    let is = number_measured c.self.inside.nodes.items c.self.inside.numbers c.self.invariant c.args.number lt c.index.result.now in
+    ap (λ (n : Node). n.size) c.index.ensures ∙ is.size_is ∙ ap (λ (ns : List Node). capped (tree_size (tree_at (trees ns) c.args.number))) c.self.view_is
