@@ -3,3 +3,5 @@
 
 #[cfg(test)]
 mod entity;
+#[cfg(test)]
+mod table;
