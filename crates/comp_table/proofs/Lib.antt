@@ -4,3 +4,4 @@ mod PlainLaws
 mod SizeLaws
 mod DepthLaws
 mod ChangeLaws
+mod EqualLaws

@@ -151,7 +151,7 @@ labels_same : (ls ks : List (List ℕ)) → plain_labels ls ≡ plain_labels ks 
 labels_same = all_same (λ label. leaf (head.Label label)) (λ l k e. ap (λ t. label_in (root t)) e)
 
 mutual
-  value_same : (v w : ValueTree) → plain_value v ≡ plain_value w → v ≡ w
+  pub value_same : (v w : ValueTree) → plain_value v ≡ plain_value w → v ≡ w
   value_same (Primitive p) (Primitive q) e = ap (λ t. Primitive (primitive_in (root t))) e
   value_same (TupleOf ts) (TupleOf us) e = ap TupleOf (values_same ts us (ap below_root e))
   value_same (RecordOf m ts) (RecordOf n us) e = λ i. RecordOf (place_in (root (e i))) (cases_same ts us (ap below_root e) i)

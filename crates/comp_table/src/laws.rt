@@ -1,12 +1,15 @@
 //! Laws of types and entities as trees of heads: each is a function that does nothing, and is proved of all of them.
 
-ghost use Rattle.std.specs.Prelude.{◌≡◌, ℕ};
+ghost use Rattle.std.specs.Prelude.{◌≡◌, ◌↔◌, ℕ, true};
 ghost use Rattle.comp_entity.specs.Bounds.{entity_nodes, value_depth};
 ghost use Rattle.comp_entity.specs.Entity.{EntityTree, ValueTree};
-ghost use Rattle.comp_entity.specs.Names.{Change, entity_by};
+ghost use Rattle.comp_entity.specs.Fits.{same_name, values_equal};
+ghost use Rattle.comp_entity.specs.Names.{Change, entity_by, value_by, without_places};
 ghost use Rattle.comp_table.specs.Changes.{tree_by};
 ghost use Rattle.comp_table.specs.Facts.{tree_depth, tree_size};
 ghost use Rattle.comp_table.specs.Plain.{plain_entity, plain_value};
+
+use comp_entity::laws::a_change_keeps_equality;
 
 /// No two entities have one tree of heads, so that those of one number are equal.
 pub fn one_entity()
@@ -28,3 +31,12 @@ pub fn changed_entities_have_changed_trees()
     ensures { (c : Change) (depth : ℕ) (e : EntityTree)
         → plain_entity (entity_by c depth e) ≡ tree_by c depth (plain_entity e) }
 {}
+
+/// Value types are equal exactly where they have one tree of heads without the places that named types, and so one
+/// number.
+pub fn equal_types_have_one_bare_tree()
+    ensures { (v w : ValueTree) → (values_equal same_name v w ≡ true)
+        ↔ (plain_value (value_by without_places 0 v) ≡ plain_value (value_by without_places 0 w)) }
+{
+    a_change_keeps_equality();
+}

@@ -12,4 +12,4 @@ mod table;
 
 pub use head::Head;
 pub use numbers::Numbers;
-pub use table::{Node, TypeTable};
+pub use table::TypeTable;

@@ -18,7 +18,9 @@ use warg_values::Memory;
 /// What stands at the root, and the numbers of the parts, which stand in front of it.
 #[derive(Drop)]
 pub struct Node {
+    /// What stands at the root.
     head: Head,
+    /// The numbers of the parts.
     parts: Numbers,
     /// How many nodes the whole has, as far as a number goes.
     size: usize,
@@ -127,7 +129,8 @@ fn add_node(
     requires absent { get key_cmp numbers.old key ≡ None }
     ensures table { IsTable nodes.new.items numbers.new }
     ensures extends { Extends nodes.old.items nodes.new.items }
-    ensures number { IfOk result (λ n. Stands nodes.new.items n (node_tree (trees nodes.old.items) node.head node.parts)) }
+    ensures number { IfOk result
+        (λ n. Stands nodes.new.items n (node_tree (trees nodes.old.items) node.head node.parts)) }
 {
     let number = nodes.len();
     nodes.push(node)?;
@@ -145,7 +148,9 @@ fn add_node(
 /// A clause sees a table as what its numbers stand for, from 0 on, by the word `trees`. No tree has two numbers.
 #[derive(Drop)]
 pub struct TypeTable {
+    /// What the numbers stand for, from 0 on.
     nodes: Vec<Node>,
+    /// The number of each node, by its key.
     numbers: BTreeMap<Key, usize>,
 }
 
@@ -204,6 +209,7 @@ impl TypeTable {
         requires right { b < length (trees self.now) }
         ensures { IsTrue result ↔ (tree_at (trees self.now) a ≡ tree_at (trees self.now) b) }
     {
+        // A look into the table, by which it is known here that no tree has two numbers.
         let _nodes = &self.nodes;
         a == b
     }
