@@ -1,3 +1,4 @@
 mod BoundLaws
 mod PartLaws
 mod Rows
+mod NameLaws

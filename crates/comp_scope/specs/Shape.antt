@@ -1,6 +1,6 @@
 -- The shape of a component: its imports and exports, with all indices followed (Component Model, Explainer.md, "Index
 -- Spaces" and "Component Definitions").
-use Rattle.std.specs.Prelude.{◌≡◌, ℕ, ◌+◌, true, List, [], ◌∷◌, ◌++◌, Some, Result, Ok, Err, if◌then◌else◌}
+use Rattle.std.specs.Prelude.{◌≡◌, ℕ, ◌+◌, true, List, [], ◌∷◌, ◌++◌, Some, Result, Ok, Err, if◌then◌else◌, false, Bool}
 use Rattle.warg_values.specs.Reading.{◌>>=◌}
 use Rattle.comp_format.specs.Items.{ItemTree, Custom, CoreModule, CoreMade, CoreTy, Component, Instance, Aliased, Ty, Canonical, Import, Export}
 use Rattle.comp_format.specs.Sections.{Section, Nested, Sections, none, more, section_items, ComponentForm}
@@ -8,7 +8,7 @@ use Rattle.comp_entity.specs.Entity.{EntityTree, IsComponent, IsOwnModule, Entri
 use Rattle.comp_entity.specs.Names.{Change, entity_by}
 use Rattle.comp_entity.specs.Bounds.{ShapeFault, Index, TooBig, Bounds, unbounded, is_within, entries_nodes}
 use Rattle.comp_entity.specs.Views.{Sides}
-use Rattle.comp_scope.specs.Spaces.{Spaces, Known, nothing_known, added, with_core_type}
+use Rattle.comp_scope.specs.Spaces.{Spaces, Known, nothing_known, added, with_core_type, Standing}
 use Rattle.comp_scope.specs.CoreScopes.{core_type_of}
 use Rattle.comp_scope.specs.Descriptions.{imported}
 use Rattle.comp_scope.specs.Aliases.{core_scopes, aliased}
@@ -91,6 +91,19 @@ unfoldable mutual
   pub after_parts : Bounds → List Spaces → Known → Parts → Result Known ShapeFault
   after_parts b around k nothing = Ok k
   after_parts b around k (then_part p ps) = after_part b around k p >>= λ next. after_parts b around next ps
+
+-- a part that is neither imported nor exported
+abbrev pub is_inner : Part → Bool
+is_inner (Plain (Import i)) = false
+is_inner (Plain (Export e)) = false
+is_inner p = true
+
+-- the same index spaces beside other imports and exports
+abbrev pub beside : List (List ℕ × Standing) → List (List ℕ × Standing) → Known → Known
+beside imports exports k = record { spaces = k.spaces; imports = imports; exports = exports }
+
+abbrev pub answer_beside : List (List ℕ × Standing) → List (List ℕ × Standing) → Result Known ShapeFault → Result Known ShapeFault
+answer_beside imports exports read = read >>= λ k. Ok (beside imports exports k)
 
 -- of a shape each entry has the naming bit
 abbrev pub settled : Change

@@ -2,11 +2,12 @@
 //!
 //! Parts, and the shape that they have, are those of `specs/Shape`.
 
-ghost use Rattle.std.specs.Prelude.{◌≡◌, ◌⊎◌, ℕ, List, Err};
+ghost use Rattle.std.specs.Prelude.{◌≡◌, ◌⊎◌, ℕ, List, Err, true};
 ghost use Rattle.comp_format.specs.Items.{ItemTree};
 ghost use Rattle.comp_format.specs.Sections.{Reads};
 ghost use Rattle.comp_entity.specs.Bounds.{Bounds, TooBig, TooDeep};
-ghost use Rattle.comp_scope.specs.Shape.{Expands, HasParts, Parts, shape, shape_within};
+ghost use Rattle.comp_scope.specs.Shape.{Expands, HasParts, Part, Parts, after_part, answer_beside, beside, is_inner, shape, shape_within};
+ghost use Rattle.comp_scope.specs.Spaces.{Known, Spaces, Standing};
 
 use comp_format::laws::one_reading;
 
@@ -30,3 +31,12 @@ pub fn one_list_of_parts()
 {
     one_reading();
 }
+
+/// A part that is neither imported nor exported means the same, whatever was imported and exported in front of it, and
+/// under which names: it adds the same to the index spaces, or has the same fault.
+pub fn inner_parts_see_no_names()
+    ensures { (b : Bounds) (around : List Spaces) (k : Known) (imports exports : List (List ℕ × Standing)) (p : Part)
+        → is_inner p ≡ true
+        → after_part b around (beside imports exports k) p
+        ≡ answer_beside imports exports (after_part b around k p) }
+{}
