@@ -13,3 +13,4 @@ pub mod prover;
 pub mod record;
 pub mod registry_url;
 pub mod values;
+pub mod verify;
