@@ -12,5 +12,6 @@ pub mod proof;
 pub mod prover;
 pub mod record;
 pub mod registry_url;
+pub mod request;
 pub mod values;
 pub mod verify;

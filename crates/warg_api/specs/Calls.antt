@@ -1,5 +1,5 @@
 -- What a call asks of its link, and why it gives no value.
-use Rattle.std.specs.Prelude.{◌≡◌, ◌⊎◌, Err}
+use Rattle.std.specs.Prelude.{◌≡◌, ◌⊎◌, Ok, Err}
 use Rattle.serde_json.specs.Data.{Data}
 use Rattle.warg_exchange.specs.declared.exchange.Request.{Request}
 use Rattle.warg_exchange.specs.declared.exchange.Reply.{Reply}
@@ -8,7 +8,7 @@ use Rattle.warg_exchange.specs.Body.{Meaning, Unexpected, NoHash}
 use Rattle.warg_exchange.specs.Replies.{NoMeaning, Refused, says}
 use Rattle.warg_exchange.specs.Requests.{Asker}
 use Rattle.warg_api.specs.Link.{Asked, answered, unanswered}
-use Rattle.warg_api.specs.Asking.{CanAsk}
+use Rattle.warg_request.specs.Asking.{CanAsk}
 use Rattle.warg_api.specs.declared.error.ClientError.{ClientError}
 use Rattle.warg_api.specs.declared.error.ClientError.TheVariants as error
 use Rattle.warg_api.specs.declared.error.Other.TheVariants as other
@@ -34,14 +34,7 @@ IsNoMeaning (error.UnexpectedResponse status message) Steps old request new f =
 IsNoMeaning (error.Hash text) Steps old request new f =
     Asks Steps old request new (λ reply. says f reply ≡ Err (NoMeaning (NoHash text)))
 IsNoMeaning error.Memory Steps old request new f = (new ≡ old) ⊎ Asks Steps old request new (λ reply. Unit {0})
-IsNoMeaning (error.Fetch x) Steps old request new f = ⊥
-IsNoMeaning (error.Package x) Steps old request new f = ⊥
-IsNoMeaning (error.Content x) Steps old request new f = ⊥
-IsNoMeaning (error.Proof x) Steps old request new f = ⊥
-IsNoMeaning (error.Monitor x) Steps old request new f = ⊥
-IsNoMeaning (error.Ledger x) Steps old request new f = ⊥
-IsNoMeaning (error.LogNotFoundWithHint id hint) Steps old request new f = ⊥
-IsNoMeaning (error.Other x) Steps old request new f = ⊥
+IsNoMeaning other Steps old request new f = ⊥
 
 -- why a call that sends this request, whose reply is read by f, gives no value
 abbrev pub IsAskFault : {T Y : Type 0} → (Reply → ServiceError → ClientError) → ClientError
@@ -55,3 +48,8 @@ abbrev pub IsCallFault : {T Y : Type 0} → Asker → (Reply → ServiceError �
 IsCallFault a told e Steps old request new f =
     ((e ≡ error.Other other.BadHeader) × (CanAsk a → ⊥) × (new ≡ old))
     ⊎ IsAskFault told e Steps old request new f
+
+-- the link was asked this request alone, and the reply means such a value
+abbrev pub Shows : {T Y : Type 0} → (T → Asked → T → Type 0) → T → Request → T → (Data → Meaning Y) → (Y → Type 0) → Type 0
+Shows {Y = Y} Steps old request new f Is =
+    Asks Steps old request new (λ reply. (meant : Y) × (says f reply ≡ Ok meant) × Is meant)

@@ -5,6 +5,8 @@ use Rattle.warg_exchange.specs.declared.exchange.Reply.{Reply}
 use Rattle.warg_exchange.specs.declared.service.ServiceError.{ServiceError}
 use Rattle.warg_exchange.specs.declared.service.ServiceError.TheVariants.{CheckpointNotFound, LogNotFound, FetchTokenNotFound, RecordNotFound, RecordNotSourcing, NamespaceNotDefined, NamespaceImported, Unauthorized, ConflictPendingPublish, Rejection, ContentDigestNotFound, LeafNotFound, Message}
 use Rattle.warg_exchange.specs.Replies.{first_header}
+use Rattle.warg_proof.specs.declared.fault.ProofFault.{ProofFault}
+use Rattle.warg_proof.specs.declared.fault.ProofFault.TheVariants.{Form, WrongCount, WrongLeaf, WrongLength, MissingHash, OtherRoot, Memory}
 use Rattle.warg_api.specs.declared.error.ClientError.{ClientError}
 use Rattle.warg_api.specs.declared.error.ClientError.TheVariants as error
 use Rattle.warg_api.specs.declared.error.ProofError.TheVariants as proof
@@ -51,3 +53,23 @@ error_with_hint x None = error.Fetch (record { error = x })
 -- of a request for logs, by the reply's first hint
 abbrev pub logs_error : Reply → ServiceError → ClientError
 logs_error reply x = error_with_hint x (first_header (codes "warg-registry-hint") reply)
+
+-- by what is wrong with bundles that are to show inclusion
+abbrev pub inclusion_error : ProofFault → ClientError
+inclusion_error Form = error.Proof (proof.BundleFailure Form)
+inclusion_error WrongCount = error.Proof (proof.BundleFailure WrongCount)
+inclusion_error (OtherRoot root found) = error.Proof (proof.IncorrectProof root found)
+inclusion_error WrongLeaf = error.InclusionProof WrongLeaf
+inclusion_error WrongLength = error.InclusionProof WrongLength
+inclusion_error MissingHash = error.InclusionProof MissingHash
+inclusion_error Memory = error.Memory
+
+-- by what is wrong with a bundle that is to show consistency
+abbrev pub consistency_error : ProofFault → ClientError
+consistency_error Form = error.Proof (proof.BundleFailure Form)
+consistency_error WrongCount = error.Proof (proof.BundleFailure WrongCount)
+consistency_error (OtherRoot root found) = error.IncorrectConsistencyProof root found
+consistency_error WrongLeaf = error.ConsistencyProof WrongLeaf
+consistency_error WrongLength = error.ConsistencyProof WrongLength
+consistency_error MissingHash = error.ConsistencyProof MissingHash
+consistency_error Memory = error.Memory

@@ -1,5 +1,4 @@
 pub mod Link
-pub mod Answers
 pub mod Asking
 pub mod Errors
 pub mod Calls

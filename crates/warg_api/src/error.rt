@@ -1,16 +1,31 @@
 //! Why a call of a registry gives no value.
 
+ghost use Rattle.std.specs.Prelude.{◌≡◌};
+ghost use Rattle.warg_api.specs.Errors.{inclusion_error as inclusion_error_of, consistency_error as consistency_error_of};
+
 use http_header::HeaderValue;
 use thiserror::Error;
 use warg_exchange::{
     ContentError, FetchError, LedgerError, MonitorError, PackageError, ServiceError,
 };
-use warg_hash::LogId;
+use warg_hash::{AnyHash, LogId};
+use warg_proof::ProofFault;
 use warg_values::Text;
 
 /// Why a registry gives no proof.
 #[derive(Debug, Drop, Error)]
 pub enum ProofError {
+    /// A bundle of proofs has another form, or holds other proofs than those that were asked for.
+    #[error("{0}")]
+    BundleFailure(ProofFault),
+    /// A proof of inclusion gives another root.
+    #[error("a proof gives the root {found} in place of {root}: do not trust this registry")]
+    IncorrectProof {
+        /// The root that was asked for.
+        root: AnyHash,
+        /// The root that the proof gives.
+        found: AnyHash,
+    },
     /// The registry answered an error.
     #[error("{0}")]
     Service(ServiceError),
@@ -45,6 +60,20 @@ pub enum ClientError {
     /// The registry refuses a request for the sources of its log.
     #[error("{0}")]
     Ledger(LedgerError),
+    /// A proof of inclusion is for another length or leaf, or lacks a hash.
+    #[error("{0}")]
+    InclusionProof(ProofFault),
+    /// A proof of consistency is for other lengths, or lacks a hash.
+    #[error("{0}")]
+    ConsistencyProof(ProofFault),
+    /// A proof of consistency gives another root.
+    #[error("a proof gives the root {found} in place of {root}: do not trust this registry")]
+    IncorrectConsistencyProof {
+        /// The root that was asked for.
+        root: AnyHash,
+        /// The root that the proof gives.
+        found: AnyHash,
+    },
     /// The link gave no reply.
     #[error("the registry could not be reached: check the network and the registry's URL")]
     LinkFault,
@@ -68,4 +97,40 @@ pub enum ClientError {
     /// No memory was left.
     #[error("out of memory: free some, or give the program more, and try again")]
     Memory,
+}
+
+/// How a call tells why bundles do not show that leaves are in a checkpoint's log and map.
+pub fn inclusion_error(fault: ProofFault) -> ClientError
+    ensures { result ≡ inclusion_error_of fault }
+{
+    match fault {
+        ProofFault::Form | ProofFault::WrongCount => {
+            ClientError::Proof(ProofError::BundleFailure(fault))
+        }
+        ProofFault::OtherRoot { root, found } => {
+            ClientError::Proof(ProofError::IncorrectProof { root, found })
+        }
+        ProofFault::WrongLeaf | ProofFault::WrongLength | ProofFault::MissingHash => {
+            ClientError::InclusionProof(fault)
+        }
+        ProofFault::Memory => ClientError::Memory,
+    }
+}
+
+/// How a call tells why a bundle does not show that a log continues an older one.
+pub fn consistency_error(fault: ProofFault) -> ClientError
+    ensures { result ≡ consistency_error_of fault }
+{
+    match fault {
+        ProofFault::Form | ProofFault::WrongCount => {
+            ClientError::Proof(ProofError::BundleFailure(fault))
+        }
+        ProofFault::OtherRoot { root, found } => {
+            ClientError::IncorrectConsistencyProof { root, found }
+        }
+        ProofFault::WrongLeaf | ProofFault::WrongLength | ProofFault::MissingHash => {
+            ClientError::ConsistencyProof(fault)
+        }
+        ProofFault::Memory => ClientError::Memory,
+    }
 }

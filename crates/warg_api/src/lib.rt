@@ -1,15 +1,12 @@
-//! Calls of registries: the requests that they send through a link, and what the replies say. The crates on which these
-//! stand, `warg_exchange` and `warg_url`, are handed on.
+//! Calls of registries: each sends its requests through a link, and answers what the replies say.
 #![tactic(auto)]
 
 mod ask;
-mod bodies;
 mod client;
 mod error;
 mod link;
+mod proving;
 mod recorded;
-mod reply;
-mod request;
 mod service;
 
 pub use client::Client;

@@ -8,10 +8,10 @@ ghost use Rattle.warg_api.specs.declared.error.ClientError.{ClientError as Told}
 ghost use Rattle.warg_api.specs.declared.error.ClientError.TheVariants.{LinkFault};
 
 use crate::error::{ClientError, ProofError};
-use crate::reply::first_header;
 use warg_exchange::{
     ContentError, FetchError, LedgerError, MonitorError, PackageError, Reply, ServiceError,
 };
+use warg_json::first_header;
 use warg_values::Memory;
 
 /// A service of a registry.

@@ -1,5 +1,5 @@
-//! Reading the JSON in the bodies of registries' replies. What a value means stands in `specs/Body` and `specs/Replies`
-//! of `warg_exchange`.
+//! Reading registries' replies, and the JSON in their bodies. What a value means, and what a reply says, stands in
+//! `specs/Body` and `specs/Replies` of `warg_exchange`.
 #![tactic(auto)]
 
 mod checkpoint;
@@ -14,9 +14,13 @@ mod members;
 mod names;
 mod package;
 mod proof;
+mod reply;
 mod service;
 mod value;
+mod well_known;
 
 pub use error::BodyError;
 pub use from_body::FromBody;
 pub use members::{member, optional, required};
+pub use reply::{ReplyError, first_header, is_success, read_reply, value_in_bytes};
+pub use well_known::read_well_known;
