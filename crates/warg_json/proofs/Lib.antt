@@ -1,4 +1,3 @@
 pub mod ListLaws
 pub mod MapLaws
-pub mod KeyLaws
 pub mod JsonLaws

@@ -15,6 +15,7 @@ use serde_json::Value;
 use std::alloc::Global;
 use warg_hash::{AnyHash, KeyId, NameError, PackageName, RecordId};
 use warg_record::Signature;
+use warg_record::laws::key_texts_are_tested;
 use warg_values::{Sequence, Text};
 
 impl FromBody for u64 {
@@ -140,6 +141,7 @@ impl FromBody for Signature {
     ghost meaning = { formed_in is_key_text };
 
     fn from_body(alloc: Global, value: &Value) -> Result<Signature, BodyError> {
+        key_texts_are_tested();
         let text = text_of(value)?;
         match Signature::new(alloc, text) {
             Ok(signature) => Ok(signature),
