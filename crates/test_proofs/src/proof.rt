@@ -314,7 +314,7 @@ fn bytes_of_another_form_are_no_bundle(rt: HostRuntime) -> Result<(), Fail> {
 }
 
 /// A bundle of the paths of two logs, each with one sibling at the depth 2.
-fn map_bundle(alloc: Global) -> Result<MapBundle, Fail> {
+pub fn map_bundle(alloc: Global) -> Result<MapBundle, Fail> {
     let mut bytes = [0, 0, 0, 0, 2].to_vec(alloc)?;
     for sibling in [
         "f1ba0b3f83e2f4de63efe1c405422c82c9dd0910f5b10e0bde94afbe2ccce460",

@@ -1,10 +1,12 @@
-//! Bundles that are made of the reference tree of Certificate Transparency, judged by `warg_proof` against its roots.
+//! Bundles that are made of the reference tree of Certificate Transparency and of small maps, judged by `warg_proof`
+//! against their roots.
 
-use crate::proof::{CONSISTENCY, ENTRIES, INCLUSION, bundle, root};
+use crate::proof::{CONSISTENCY, ENTRIES, INCLUSION, bundle, map_bundle, root};
 use std::alloc::Global;
 use std::test::Fail;
-use warg_proof::LogBundle;
-use warg_prover::{LogHashes, ProverFault};
+use warg_hash::{AnyHash, LogId, PackageName, RecordId};
+use warg_proof::{LogBundle, LogLeaf, MapBundle, MapLeaf};
+use warg_prover::{LogHashes, MapHashes, ProverFault};
 
 /// The leaves of the reference tree.
 fn reference(alloc: Global) -> Result<LogHashes, Fail> {
@@ -88,5 +90,95 @@ fn bundles_have_just_the_nodes_that_they_need(rt: HostRuntime) -> Result<(), Fai
     );
     assert!(rt; log.root(9).is_none());
     assert!(rt; log.root(5) == Some(root(rt.alloc(), 5)?));
+    Ok(())
+}
+
+/// The roots of maps, by how many logs they have: those of the first of `MAP_LOGS`, computed by Python's `hashlib`.
+const MAP_ROOTS: [&str; 6] = [
+    "sha256:6155289130893872355eac98042d22aefa2c2e708bea169402760e3b55f9a2dc",
+    "sha256:b4d9f5759b4b675b6e038eb8e21650b41a238f2d2700d0f4c7d2bc0b7b1ad5c1",
+    "sha256:b66660bf0d862ce107d572e3b6b315dc08d44d33b323d967d6ee51be044d685d",
+    "sha256:1dedcc10e75141a55035a994bed1829ab17cfe0260db842e1c5c4a7b473b2c2b",
+    "sha256:d9b90f3286befac1a558a3c9d769ba893b7a543adf7f1dfb563daa31ae7f533c",
+    "sha256:2a29dd2266f81e3c5f734447c9287e409672d960a808d120099f2ea58932af5a",
+];
+
+/// The packages whose logs stand in the maps behind the operator's, and the last records of all.
+const MAP_LOGS: [(&str, &[u8]); 5] = [
+    ("", b"record 0"),
+    ("demo:app", b"record 1"),
+    ("demo:base", b"record 2"),
+    ("demo:core", b"record 3"),
+    ("demo:data", b"record 4"),
+];
+
+/// The leaves of the map of the first logs.
+fn map_leaves(alloc: Global, count: usize) -> Result<Vec<LogLeaf>, Fail> {
+    let mut leaves = Vec::new(alloc);
+    for (name, record) in MAP_LOGS.as_slice().get(..count).ok_or("five logs")? {
+        let log_id = if name.is_empty() {
+            LogId::operator_log()
+        } else {
+            LogId::package_log(&PackageName::new(alloc, name)?)
+        };
+        leaves.push(LogLeaf {
+            log_id,
+            record_id: RecordId::of(record),
+        })?;
+    }
+    Ok(leaves)
+}
+
+/// Whether the map of the first logs has its root, and a bundle of all of them proves each record.
+fn is_proved(alloc: Global, count: usize) -> Result<bool, Fail> {
+    let leaves = map_leaves(alloc, count)?;
+    let map = MapHashes::new(alloc, leaves.as_slice())?;
+    let root = AnyHash::from_text(alloc, MAP_ROOTS.as_slice().get(count).ok_or("five logs")?)?;
+    let mut logs = Vec::new(alloc);
+    for leaf in leaves.as_slice() {
+        logs.push(leaf.log_id)?;
+    }
+    let bundle = MapBundle::decode(
+        alloc,
+        map.inclusion_bundle(alloc, logs.as_slice())?.as_slice(),
+    )?;
+    let mut proved = map.root() == root;
+    for (at, leaf) in leaves.iter().enumerate() {
+        let value = MapLeaf {
+            record_id: leaf.record_id,
+        };
+        proved = proved
+            && bundle
+                .inclusion(at, &leaf.log_id, &value.bytes(alloc)?, &root)
+                .is_ok();
+    }
+    Ok(proved)
+}
+
+#[test]
+fn each_record_of_a_map_is_proved(rt: HostRuntime) -> Result<(), Fail> {
+    for count in 0..=5usize {
+        assert!(rt; is_proved(rt.alloc(), count)?, "{count} logs");
+    }
+    Ok(())
+}
+
+/// Whether the bundle of the map of two logs has the bytes that were made outside.
+fn is_the_bundle_of_two(alloc: Global, map: &MapHashes) -> Result<bool, Fail> {
+    let app = LogId::package_log(&PackageName::new(alloc, "demo:app")?);
+    let bytes = map.inclusion_bundle(alloc, &[LogId::operator_log(), app])?;
+    Ok(bytes.as_slice() == map_bundle(alloc)?.encode(alloc)?.as_slice())
+}
+
+#[test]
+fn a_map_bundle_has_just_the_siblings_that_are_not_empty(rt: HostRuntime) -> Result<(), Fail> {
+    let alloc = rt.alloc();
+    let map = MapHashes::new(alloc, map_leaves(alloc, 2)?.as_slice())?;
+    assert!(rt; is_the_bundle_of_two(alloc, &map)?);
+    let absent = LogId::package_log(&PackageName::new(alloc, "demo:base")?);
+    assert_eq!(rt;
+        map.inclusion_bundle(alloc, &[absent]).err(),
+        Some(ProverFault::NoSuchProof)
+    );
     Ok(())
 }
