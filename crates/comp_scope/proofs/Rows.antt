@@ -1,6 +1,7 @@
 -- Shapes of small components, computed from the definitions, against what was written by hand from the rules.
 use Rattle.std.proofs.Common.{◌≡◌, ℕ, [], ◌∷◌, List, Option, Some, None, true, Ok, Err, refl}
 use Rattle.std.specs.Prelude.{codes}
+use Rattle.comp_format.specs.declared.types.CoreSort.TheVariants as core
 use Rattle.comp_format.specs.declared.types.Primitive.TheVariants as primitive
 use Rattle.comp_format.specs.declared.types.ValType.TheVariants as value
 use Rattle.comp_format.specs.declared.types.DefinedType.TheVariants as defined
@@ -11,7 +12,7 @@ use Rattle.comp_format.specs.declared.types.TypeRef.TheVariants as description
 use Rattle.comp_format.specs.declared.types.Alias.TheVariants as alias
 use Rattle.comp_format.specs.declared.types.InstanceItem.TheVariants as instance
 use Rattle.comp_format.specs.Definitions as ty
-use Rattle.comp_format.specs.Items.{ItemTree, Ty, Import, Export, Aliased, Instance}
+use Rattle.comp_format.specs.Items.{ItemTree, CoreModule, Ty, Import, Export, Aliased, Instance}
 use Rattle.comp_entity.specs.Entity.{ShapeTree, EntityTree, made, brought, Primitive, RecordOf, EnumOf, Own, labelled, no_case, present, Value, Resource, IsType, IsFunc, IsInstance, IsComponent, entry, no_entry}
 use Rattle.comp_entity.specs.Bounds.{Index, DoesNotFit}
 use Rattle.comp_scope.specs.Spaces.{added}
@@ -19,7 +20,7 @@ use Rattle.comp_scope.specs.Values.{part_of, resource_of, fields_of, value_of, p
 use Rattle.comp_scope.specs.Descriptions.{described, imported, declared_export}
 use Rattle.comp_scope.specs.Aliases.{outer_item, outer_alias, export_alias, aliased}
 use Rattle.comp_scope.specs.Types.{with_type}
-use Rattle.comp_scope.specs.Instances.{given, instance_of, with_instance}
+use Rattle.comp_scope.specs.Instances.{given, instance_of, members, with_instance}
 use Rattle.comp_scope.specs.Exports.{exported}
 use Rattle.comp_scope.specs.Shape.{Parts, Plain, Inner, nothing, then_part, shape, spaces_after, after, after_part, shape_within}
 
@@ -125,3 +126,45 @@ argument_resource : shape (importing (codes "a") description.TyFresh (importing 
     })
 unfolding described imported export_alias aliased given instance_of with_instance exported spaces_after after after_part shape_within added
 argument_resource = refl
+
+-- an argument under one name twice
+repeated_argument : shape (importing (codes "a") description.TyFresh
+    (then_part (Inner [] (importing (codes "r") description.TyFresh nothing))
+    (item (Instance (instance.Instantiate 0 (record { name = codes "r"; sort = sort.Ty; index = 0 } ∷ record { name = codes "r"; sort = sort.Ty; index = 0 } ∷ [])))
+    nothing)))
+    ≡ Err Index
+unfolding described imported given instance_of with_instance spaces_after after after_part shape_within added
+repeated_argument = refl
+
+-- two imports under one name, letter case set aside
+letter_case : shape (importing (codes "a") description.TyFresh (importing (codes "A") description.TyFresh nothing)) ≡ Err Index
+unfolding described imported after after_part shape_within added
+letter_case = refl
+
+abbrev exporting_as : List ℕ → Sort → ℕ → TypeRef → Parts → Parts
+exporting_as name kind index ref ps =
+    item (Export (record { name = name; sort = kind; index = index; ty = Some ref })) ps
+
+-- a described export is the described entity, in which a fresh resource is the one that fits it
+described_resource : shape (item (Ty (ty.Resource None)) (exporting_as (codes "r") sort.Ty 0 description.TyFresh nothing))
+    ≡ Ok (no_imports ((codes "r", IsType (Resource (made 0))) ∷ []))
+unfolding described with_type exported spaces_after after after_part shape_within added
+described_resource = refl
+
+-- a value type does not fit the description of a fresh resource
+value_for_resource : shape (item (Ty enum_type) (exporting_as (codes "r") sort.Ty 0 description.TyFresh nothing))
+    ≡ Err DoesNotFit
+unfolding value_of described with_type exported spaces_after after after_part shape_within added
+value_for_resource = refl
+
+-- a core module of the component's own has no type, and is not exported
+own_module : shape (item (CoreModule []) (exporting (codes "m") (sort.Core core.Module) 0 nothing)) ≡ Err Index
+unfolding exported spaces_after after after_part shape_within added
+own_module = refl
+
+-- an instance that is made of a record that nothing named is not exported
+unnamed_member : shape (item (Ty record_type) (item (Instance (instance.Exports (record { name = codes "r"; sort = sort.Ty; index = 0 } ∷ [])))
+    (exporting (codes "i") sort.Instance 0 nothing)))
+    ≡ Err Index
+unfolding part_of fields_of value_of members with_type with_instance exported spaces_after after after_part shape_within added
+unnamed_member = refl
