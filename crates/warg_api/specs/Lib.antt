@@ -2,3 +2,4 @@ pub mod Link
 pub mod Asking
 pub mod Errors
 pub mod Calls
+pub mod Download

@@ -2,6 +2,7 @@
 use Rattle.std.specs.Prelude.{◌≡◌, ℕ, List, [], ◌∷◌, ◌++◌, Option, Some, None}
 use Rattle.warg_exchange.specs.declared.exchange.Request.{Request}
 use Rattle.warg_exchange.specs.declared.exchange.Reply.{Reply}
+use Rattle.warg_exchange.specs.declared.exchange.Exchange.{Exchange}
 
 -- a request, with its reply where one came
 pub record Asked : Type 0 where
@@ -13,6 +14,12 @@ answered request reply = record { request = request; reply = Some reply }
 
 abbrev pub unanswered : Request → Asked
 unanswered request = record { request = request; reply = None }
+
+-- a link was asked these requests in turn, and replied so
+unfoldable pub Exchanges : {T : Type 0} → (T → Asked → T → Type 0) → T → List Exchange → T → Type 0
+Exchanges Steps old [] new = new ≡ old
+Exchanges {T = T} Steps old (x ∷ xs) new =
+    (next : T) × Steps old (answered x.request x.reply) next × Exchanges Steps next xs new
 
 -- recorded replies: those that are left, what was asked, and how often there was no reply
 pub record Recorded : Type 0 where

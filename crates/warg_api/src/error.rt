@@ -88,6 +88,9 @@ pub enum ClientError {
     /// A text in the reply that is to name a hash names none.
     #[error("`{0}` is not the text of a hash: check that this is the URL of a registry")]
     Hash(Text),
+    /// No source that the registry lists gave the content of this digest.
+    #[error("no source gave the content {0}: try again later, or ask the registry's operator")]
+    AllSourcesFailed(AnyHash),
     /// The registry has no such log, and tells of another registry: its header's value.
     #[error("the registry has no log `{0}`, and tells of another registry")]
     LogNotFoundWithHint(LogId, HeaderValue),

@@ -3,6 +3,7 @@
 
 mod ask;
 mod client;
+mod download;
 mod error;
 mod link;
 mod proving;
