@@ -15,6 +15,7 @@ mod reader;
 mod shape;
 mod texts;
 mod typed_reads;
+mod types;
 mod values;
 
 pub use completions::emitted_events_begin_a_document;
@@ -30,4 +31,5 @@ pub use reader::item_count;
 pub use shape::export_count;
 pub use texts::push_field;
 pub use typed_reads::port;
+pub use types::list_of;
 pub use values::saved;
