@@ -1,5 +1,5 @@
 -- Laws of exchanges in turn, and of the URLs that are left to be tried.
-use Rattle.std.proofs.Common.{◌≡◌, ◌∷◌, [], ◌++◌, ◌⊎◌, inl, inr, List, ℕ, true, false, Some, None, Ok, refl, sym, subst}
+use Rattle.std.proofs.Common.{◌≡◌, ◌∷◌, [], ◌++◌, inl, inr, List, ℕ, true, false, Some, None, Ok, refl, sym, subst}
 use Rattle.warg_exchange.specs.declared.content.ContentSource.{ContentSource}
 use Rattle.warg_exchange.specs.declared.exchange.Exchange.{Exchange}
 use Rattle.warg_exchange.specs.declared.exchange.Reply.{Reply}

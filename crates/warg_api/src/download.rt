@@ -1,6 +1,6 @@
 //! Downloads of contents.
 
-ghost use Rattle.std.specs.Prelude.{◌≡◌, ◌≤◌, ◌⊎◌, List, Err, true, IfOk, IfErr, option_copied, option_map};
+ghost use Rattle.std.specs.Prelude.{◌≡◌, ◌≤◌, ◌⊎◌, List, Err, true, IfOk, IfErr, option_copied};
 ghost use Rattle.warg_values.specs.Faults.{Rose};
 ghost use Rattle.warg_exchange.specs.declared.exchange.Exchange.{Exchange};
 ghost use Rattle.warg_exchange.specs.declared.exchange.Request.{Request as Sent};

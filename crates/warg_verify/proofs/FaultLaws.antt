@@ -1,5 +1,5 @@
 -- Why a path or a proof does not show what was asked, by what a bundle answers.
-use Rattle.std.proofs.Common.{◌≡◌, ◌≢◌, ◌⊎◌, inl, inr, List, ℕ, None, refl}
+use Rattle.std.proofs.Common.{◌≡◌, ◌≢◌, inl, inr, List, ℕ, None, refl}
 use Rattle.std.specs.Prelude.{Result, Ok, Err, IfErr, IsSome, slice_get}
 use Rattle.std.specs.Option.{IsSomeAnd}
 use Rattle.warg_proof.specs.declared.fault.ProofFault.{ProofFault}

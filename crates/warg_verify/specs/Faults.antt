@@ -1,5 +1,5 @@
 -- Why bundles do not show what was asked: the first fault, and want of memory.
-use Rattle.std.specs.Prelude.{◌≡◌, ◌≢◌, ◌⊎◌, ℕ, ◌<◌, List, [], length, Option, Some, None, IsSome, slice_get}
+use Rattle.std.specs.Prelude.{◌≡◌, ◌≢◌, ◌⊎◌, ℕ, ◌<◌, List, [], length, Some, None, IsSome, slice_get}
 use Rattle.std.specs.Option.{IsSomeAnd}
 use Rattle.warg_proof.specs.declared.fault.ProofFault.{ProofFault}
 use Rattle.warg_proof.specs.declared.fault.ProofFault.TheVariants.{Form, WrongCount, WrongLeaf, WrongLength, MissingHash, OtherRoot, Memory}
@@ -55,19 +55,19 @@ pub record IsFirstFault (Is : ℕ → ℕ → LogLeaf → Type 0) (Fails : ℕ �
 -- no bundle has these bytes; or it does not hold one path for each leaf, and nothing else; or a path has this fault
 abbrev pub IsLogFault : Checkpoint → List ℕ → List LogLeaf → List ℕ → ProofFault → Type 0
 IsLogFault c indices leafs bytes fault =
-    ((fault ≡ Memory))
+    (fault ≡ Memory)
     ⊎ ((fault ≡ Form) × ((bundle : LogProofs) → IsLogBundle bundle → bytes ≡ log_text bundle → ⊥))
     ⊎ ((bundle : LogProofs) × IsLogBundle bundle × (bytes ≡ log_text bundle)
-        × (((fault ≡ WrongCount) × ((bundle.consistencies ≡ []) → length bundle.inclusions ≢ length leafs))
-            ⊎ IsFirstFault (InLog bundle c) (λ at index leaf. IsLogPathFault bundle c at index leaf fault) indices leafs))
+    × (((fault ≡ WrongCount) × ((bundle.consistencies ≡ []) → length bundle.inclusions ≢ length leafs))
+    ⊎ IsFirstFault (InLog bundle c) (λ at index leaf. IsLogPathFault bundle c at index leaf fault) indices leafs))
 
 abbrev pub IsMapFault : Checkpoint → List ℕ → List LogLeaf → List ℕ → ProofFault → Type 0
 IsMapFault c indices leafs bytes fault =
-    ((fault ≡ Memory))
+    (fault ≡ Memory)
     ⊎ ((fault ≡ Form) × ((bundle : List MapPath) → IsMapBundle bundle → bytes ≡ map_text bundle → ⊥))
     ⊎ ((bundle : List MapPath) × IsMapBundle bundle × (bytes ≡ map_text bundle)
-        × (((fault ≡ WrongCount) × (length bundle ≢ length leafs))
-            ⊎ IsFirstFault (InMap bundle c) (λ at index leaf. IsMapPathFault bundle c at index leaf fault) indices leafs))
+    × (((fault ≡ WrongCount) × (length bundle ≢ length leafs))
+    ⊎ IsFirstFault (InMap bundle c) (λ at index leaf. IsMapPathFault bundle c at index leaf fault) indices leafs))
 
 -- ---- both bundles
 
@@ -96,7 +96,7 @@ IsConsistencyProofFault log old new old_root new_root Memory = Unit {0}
 -- no bundle has these bytes, or its one proof has this fault
 abbrev pub IsConsistencyFault : ℕ → ℕ → List ℕ → List ℕ → List ℕ → ProofFault → Type 0
 IsConsistencyFault old new old_root new_root bytes fault =
-    ((fault ≡ Memory))
+    (fault ≡ Memory)
     ⊎ ((fault ≡ Form) × ((bundle : LogProofs) → IsLogBundle bundle → bytes ≡ log_text bundle → ⊥))
     ⊎ ((bundle : LogProofs) × IsLogBundle bundle × (bytes ≡ log_text bundle)
-        × IsConsistencyProofFault bundle old new old_root new_root fault)
+    × IsConsistencyProofFault bundle old new old_root new_root fault)

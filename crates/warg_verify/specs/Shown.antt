@@ -1,6 +1,6 @@
 -- What bundles of proofs show: that leaves are in a checkpoint's log and map, and that a log continues an older one
 -- (RFC 6962, sections 2.1.1 and 2.1.2).
-use Rattle.std.specs.Prelude.{◌≡◌, ℕ, ◌<◌, List, [], length, Some, slice_get}
+use Rattle.std.specs.Prelude.{◌≡◌, ℕ, List, [], length, Some, slice_get}
 use Rattle.warg_proof.specs.declared.leaf.LogLeaf.{LogLeaf}
 use Rattle.warg_proof.specs.Leaves.{log_entry, map_value}
 use Rattle.warg_proof.specs.LogProofs.{LogProofs, IsLogBundle, log_text, ProvesInclusion, ProvesConsistency}

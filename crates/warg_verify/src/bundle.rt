@@ -1,7 +1,6 @@
 //! Verifying one path of a bundle, and those of all leaves.
 
-ghost use Rattle.std.specs.Prelude.{◌≡◌, ℕ, List, length, OnOk, IfErr};
-ghost use Rattle.warg_proof.specs.LogProofs.{LogProofs};
+ghost use Rattle.std.specs.Prelude.{◌≡◌, ℕ, length, OnOk, IfErr};
 ghost use Rattle.warg_proof.specs.declared.leaf.LogLeaf.{LogLeaf as Leaf};
 ghost use Rattle.warg_proof.specs.declared.fault.ProofFault.{ProofFault as Fault};
 ghost use Rattle.warg_exchange.specs.declared.checkpoint.Checkpoint.{Checkpoint as Shown};

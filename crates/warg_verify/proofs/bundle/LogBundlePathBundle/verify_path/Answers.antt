@@ -13,6 +13,6 @@ returns-clause-err c =
     let entry : c.as_slice.result.now ≡ log_entry leaf.log_id leaf.record_id = c.as_slice.ensures.value ∙ c.in_ok-entry.ensures in
     log_path_fault log checkpoint c.args.at c.args.index leaf c.inclusion.result e.wrong_count.0 e.wrong_length.0 e.wrong_leaf.0 e.missing_hash.0
     (λ root found is.
-        let other = (e.other_root root found).0 is in
-        (other.0, other.1, subst (λ (t : List ℕ). ProvesInclusion log c.args.at checkpoint.log_length c.args.index t found) entry other.2))
+    let other = (e.other_root root found).0 is in
+    (other.0, other.1, subst (λ (t : List ℕ). ProvesInclusion log c.args.at checkpoint.log_length c.args.index t found) entry other.2))
     e.judged.0
