@@ -1,1 +1,2 @@
 pub mod FloatLaws
+mod UploadLaws

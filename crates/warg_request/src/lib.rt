@@ -6,6 +6,8 @@ mod bodies;
 mod headers;
 mod paths;
 mod plain;
+mod upload;
 
 pub use asker::Asker;
 pub use plain::{plain_get, well_known_request};
+pub use upload::{UploadError, upload_request};

@@ -1,5 +1,5 @@
 -- What stands before the slashes at the end of a path.
-use Rattle.std.proofs.Common.{◌≡◌, ◌≢◌, ◌<◌, ◌≤◌, ◌+◌, ◌==◌, ℕ, Bool, false, List, [], ◌∷◌, ◌++◌, length, get_or, take, refl, ◌∙◌, ap, arith}
+use Rattle.std.proofs.Common.{◌≡◌, ◌≢◌, ◌≤◌, ◌+◌, ◌==◌, ℕ, false, List, [], ◌∷◌, ◌++◌, length, get_or, take, ◌∙◌, ap, arith}
 use Rattle.std.specs.Prelude.{reverse}
 use Rattle.std.proofs.lemmas.Bool.{eqb-true, false_from_ne_true}
 use Rattle.std.proofs.lemmas.List.{reverse-append, reverse-reverse, take_more}

@@ -1,9 +1,8 @@
 -- URLs of registries: what a text names by the URL Standard, which schemes and hosts are taken, and the form in which a
 -- URL is kept.
-use Rattle.std.specs.Prelude.{◌≡◌, ◌≢◌, ℕ, ◌-◌, ◌==◌, ◌⊎◌, if◌then◌else◌, List, [], ◌∷◌, ◌++◌, length, slice_index, codes, Option, Some, None, Ok, Err}
+use Rattle.std.specs.Prelude.{◌≡◌, ℕ, ◌-◌, ◌==◌, ◌⊎◌, if◌then◌else◌, List, [], ◌∷◌, ◌++◌, length, slice_index, codes, Option, Some, None}
 use Rattle.std.specs.Str.Iter.{HasSubslice}
 use Rattle.std.specs.Net.Addr.{IsLoopbackV4, IsLoopbackV6}
-use Rattle.url.specs.declared.error.ParseError.{ParseError}
 use Rattle.url.specs.declared.host.Host.{Host}
 use Rattle.url.specs.declared.host.Host.TheVariants.{Domain, Ipv4, Ipv6}
 use Rattle.url.specs.Parser.{Parsed, parse_url}

@@ -1,8 +1,11 @@
 //! URLs of registries.
 
-ghost use Rattle.std.specs.Prelude.{◌≡◌, ◌≢◌, ◌++◌, ◌↔◌, codes, IfOk, IfErr, OnOk, IsTrue, Some, Err, Ok, string_bytes, List, ℕ};
+ghost use Rattle.std.specs.Prelude.{◌≡◌, ◌≢◌, ◌++◌, ◌↔◌, bytes_eq, codes, IfOk, IfErr, OnOk, IsTrue, Some, Err, Ok, string_bytes, List, ℕ};
+ghost use Rattle.std.specs.Cmp.{on_equiv, on_per, partial_equiv_from_equiv};
+ghost use Rattle.std.specs.Cmp.Lexicographic.{nat_list_eq_equiv};
 ghost use Rattle.std.specs.Str.Iter.{HasSubslice};
 ghost use Rattle.url.specs.declared.error.ParseError.{ParseError as Fault};
+ghost use Rattle.url.specs.declared.error.ParseError.TheVariants.{OutOfMemory as HasNoMemory, Overflow as IsTooLong};
 ghost use Rattle.url.specs.Parts.{Parts, nonempty_host, serialize};
 ghost use Rattle.url.specs.Parser.{parse_url};
 ghost use Rattle.warg_url.specs.Label.{label};
@@ -53,6 +56,19 @@ fn whole_text(alloc: Global, text: &str) -> Result<String, Memory>
     Ok(whole)
 }
 
+/// A URL that was read, or why there is none.
+fn parsed(read: Result<Url, ParseError>) -> Result<Url, UrlError>
+    ensures ok { IfOk result (λ url. read ≡ Ok url) }
+    ensures not_url { (result ≡ Err IsNotUrl) → (e : Fault) × (read ≡ Err e) × (e ≢ IsTooLong) × (e ≢ HasNoMemory) }
+    ensures err { IfErr result (λ e. (e ≢ IsNotHttps) × (e ≢ IsInsecure)) }
+{
+    match read {
+        Ok(url) => Ok(url),
+        Err(ParseError::OutOfMemory | ParseError::Overflow) => Err(UrlError::Memory),
+        Err(_) => Err(UrlError::NotUrl),
+    }
+}
+
 /// Reads a text as a whole URL's, or as a URL that begins with `https://`.
 fn read_url(alloc: Global, text: &str) -> Result<Url, UrlError>
     ensures ok { IfOk result (λ url. ReadsAs text.now (Ok url)) }
@@ -60,11 +76,7 @@ fn read_url(alloc: Global, text: &str) -> Result<Url, UrlError>
     ensures err { IfErr result (λ e. (e ≢ IsNotHttps) × (e ≢ IsInsecure)) }
 {
     let whole = whole_text(alloc, text)?;
-    match Url::parse(alloc, &whole) {
-        Ok(url) => Ok(url),
-        Err(ParseError::OutOfMemory | ParseError::Overflow) => Err(UrlError::Memory),
-        Err(_) => Err(UrlError::NotUrl),
-    }
+    parsed(Url::parse(alloc, &whole))
 }
 
 /// Whether the host is this machine.
@@ -152,6 +164,27 @@ impl RegistryUrl {
         self.url.as_str()
     }
 
+    /// An equal URL of its own.
+    pub fn try_clone(&self) -> Result<Self, Memory>
+        ensures { IfOk result (λ copy. copy ≡ self.now) }
+    {
+        Ok(RegistryUrl {
+            url: self.url.clone()?,
+        })
+    }
+
+    /// The text of the URL that a text names with this one as its base (the URL Standard, section 4.4). A text that names
+    /// none is `NotUrl`.
+    pub fn join(&self, alloc: Global, text: &str) -> Result<Text, UrlError>
+        ensures ok { IfOk result (λ joined.
+            (read : Parts) × (parse_url (Some self.now) text.now ≡ Ok read) × (joined ≡ serialize read)) }
+        ensures not_url { (result ≡ Err IsNotUrl) → (e : Fault) × (parse_url (Some self.now) text.now ≡ Err e) }
+        ensures err { IfErr result (λ e. (e ≢ IsNotHttps) × (e ≢ IsInsecure)) }
+    {
+        let url = parsed(self.url.join(text))?;
+        Ok(Text::copy_of(alloc, url.as_str())?)
+    }
+
     /// A label of the URL that holds nothing but ASCII letters, digits, `-`, `.` and `_`.
     ///
     /// It is the host, an IPv6 one as `ipv6_` and its text with dots for colons, then `-` and the port where it is not
@@ -181,6 +214,21 @@ impl RegistryUrl {
         let RegistryUrl { url } = self;
         url
     }
+}
+
+/// URLs are equal where their texts are.
+impl PartialEq for RegistryUrl {
+    ghost eq = { λ a b. bytes_eq (serialize a) (serialize b) };
+
+    ghost laws = { on_per serialize (partial_equiv_from_equiv nat_list_eq_equiv) };
+
+    fn eq(&self, other: &RegistryUrl) -> bool {
+        self.url == other.url
+    }
+}
+
+impl Eq for RegistryUrl {
+    ghost laws = { on_equiv serialize nat_list_eq_equiv };
 }
 
 impl fmt::Display for RegistryUrl {
