@@ -11,6 +11,7 @@ pub mod names;
 pub mod proof;
 pub mod prover;
 pub mod record;
+pub mod recorded;
 pub mod registry_url;
 pub mod request;
 pub mod values;

@@ -1,1 +1,3 @@
 pub mod DownloadLaws
+mod StreamLaws
+mod ConfigLaws

@@ -9,7 +9,17 @@ use Rattle.warg_proof.specs.declared.fault.ProofFault.{ProofFault}
 use Rattle.warg_proof.specs.declared.fault.ProofFault.TheVariants.{Form, WrongCount, WrongLeaf, WrongLength, MissingHash, OtherRoot, Memory}
 use Rattle.warg_api.specs.declared.error.ClientError.{ClientError}
 use Rattle.warg_api.specs.declared.error.ClientError.TheVariants as error
+use Rattle.warg_api.specs.declared.error.Other.TheVariants as other
 use Rattle.warg_api.specs.declared.error.ProofError.TheVariants as proof
+use Rattle.warg_url.specs.declared.error.UrlError.{UrlError}
+use Rattle.warg_url.specs.declared.error.UrlError.TheVariants as url
+
+-- of a text that is to be a URL
+abbrev pub url_error : UrlError → ClientError
+url_error url.Memory = error.Memory
+url_error url.NotUrl = error.Other other.BadUrl
+url_error url.NotHttps = error.Other other.BadUrl
+url_error url.Insecure = error.Other other.BadUrl
 
 -- by which service was asked
 abbrev pub fetch_error : Reply → ServiceError → ClientError

@@ -21,7 +21,7 @@ use warg_url::HeaderError;
 use warg_values::Memory;
 
 /// What is wrong with a reply that is not of the form that is asked.
-const UNEXPECTED: &str =
+pub const UNEXPECTED: &str =
     "the reply is not the JSON that was asked for: check that this is the URL of a registry";
 
 /// Sends a request, and reads what its reply says.

@@ -27,7 +27,7 @@ use warg_url::RegistryDomain;
 use warg_values::{Memory, Sequence, Text};
 
 /// The URL's text.
-fn source_url(source: &ContentSource) -> &Text
+pub fn source_url(source: &ContentSource) -> &Text
     ensures { result.now ≡ url_in source.now }
 {
     match source {
@@ -36,7 +36,7 @@ fn source_url(source: &ContentSource) -> &Text
 }
 
 /// Whether a text is a URL by itself (the URL Standard, section 4.4).
-fn is_url(alloc: Global, text: &str) -> Result<bool, Memory>
+pub fn is_url(alloc: Global, text: &str) -> Result<bool, Memory>
     ensures { IfOk result (λ is. is ≡ is_url_of text.now) }
 {
     match Url::parse(alloc, text) {
@@ -116,7 +116,7 @@ fn find<L: Link>(
 }
 
 /// The sources that a registry lists for a content.
-fn listed<'a>(sources: &'a ContentSourcesResponse, digest: &AnyHash) -> &'a [ContentSource]
+pub fn listed<'a>(sources: &'a ContentSourcesResponse, digest: &AnyHash) -> &'a [ContentSource]
     ensures { urls result.now ≡ urls_of digest.now (sources_view sources.now) }
 {
     match sources.content_sources.get(digest) {

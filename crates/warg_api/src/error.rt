@@ -1,7 +1,7 @@
 //! Why a call of a registry gives no value.
 
 ghost use Rattle.std.specs.Prelude.{◌≡◌};
-ghost use Rattle.warg_api.specs.Errors.{inclusion_error as inclusion_error_of, consistency_error as consistency_error_of};
+ghost use Rattle.warg_api.specs.Errors.{url_error, inclusion_error as inclusion_error_of, consistency_error as consistency_error_of};
 
 use http_header::HeaderValue;
 use thiserror::Error;
@@ -10,6 +10,7 @@ use warg_exchange::{
 };
 use warg_hash::{AnyHash, LogId};
 use warg_proof::ProofFault;
+use warg_url::UrlError;
 use warg_values::Text;
 
 /// Why a registry gives no proof.
@@ -31,12 +32,15 @@ pub enum ProofError {
     Service(ServiceError),
 }
 
-/// Why a request can't be sent.
+/// What is wrong with a text that a call is given, or that a registry gives.
 #[derive(Clone, Copy, Debug, PartialEq, Eq, Error)]
 pub enum Other {
     /// The registry's name, or the client's token, is no value of a header.
     #[error("the registry's name or the token can't be sent in a header: take out their control characters")]
     BadHeader,
+    /// The place of an upload is no URL, or that of a configuration is the URL of no registry.
+    #[error("the registry names a place that is no URL, or none to which anything is sent: ask its operator")]
+    BadUrl,
 }
 
 /// Why a call of a registry gives no value.
@@ -91,15 +95,38 @@ pub enum ClientError {
     /// No source that the registry lists gave the content of this digest.
     #[error("no source gave the content {0}: try again later, or ask the registry's operator")]
     AllSourcesFailed(AnyHash),
+    /// A content is to be sent by a method that is neither `POST` nor `PUT`.
+    #[error("a content can't be sent by `{0}`: ask the registry's operator to name `POST` or `PUT`")]
+    InvalidHttpMethod(Text),
+    /// A content is to be sent with a header, of this name and value, that is none of an upload.
+    #[error("the header `{0}` with the value `{1}` can't be sent with a content: ask the registry's operator")]
+    InvalidHttpHeader(Text, Text),
+    /// The configuration at the well-known place of the registry with this label has another form.
+    #[error("registry `{0}` has a configuration of another form: check that this is the URL of a registry")]
+    InvalidWellKnownConfig(Text),
     /// The registry has no such log, and tells of another registry: its header's value.
     #[error("the registry has no log `{0}`, and tells of another registry")]
     LogNotFoundWithHint(LogId, HeaderValue),
-    /// The request can't be sent.
+    /// A text that is needed is of no use.
     #[error("{0}")]
     Other(Other),
     /// No memory was left.
     #[error("out of memory: free some, or give the program more, and try again")]
     Memory,
+}
+
+/// Why a text that a registry gives is no URL to which anything is sent.
+impl From<UrlError> for ClientError {
+    ghost from_gives = { λ e told. told ≡ url_error e };
+
+    fn from(error: UrlError) -> ClientError {
+        match error {
+            UrlError::Memory => ClientError::Memory,
+            UrlError::NotUrl | UrlError::NotHttps | UrlError::Insecure => {
+                ClientError::Other(Other::BadUrl)
+            }
+        }
+    }
 }
 
 /// How a call tells why bundles do not show that leaves are in a checkpoint's log and map.

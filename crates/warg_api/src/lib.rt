@@ -9,9 +9,12 @@ mod link;
 mod proving;
 mod recorded;
 mod service;
+mod streams;
+mod uploads;
+mod well_known;
 
 pub use client::Client;
 pub use error::{ClientError, Other, ProofError};
 pub use link::Link;
-pub use recorded::RecordedLink;
+pub use recorded::{RecordedBody, RecordedLink};
 pub use warg_body::{DigestError, LinkError, StreamError, ValidatedStream};

@@ -2,13 +2,19 @@
 
 ghost use Rattle.std.specs.Prelude.{◌≡◌, ◌≤◌, ◌++◌, ◌∷◌, ◌⊎◌, [], ℕ, List, Some, None, IfOk, IsErrOf, reverse};
 ghost use Rattle.warg_values.specs.Faults.{Rose};
+ghost use Rattle.futures.specs.Runs.{LeadsIf, Ends};
+ghost use Rattle.warg_api.specs.Streams.{IsPiece, IsRecordedOpening};
 ghost use Rattle.warg_api.specs.Link.{Asked, Recorded, IsRecordedStep, answered, unanswered};
 
 use crate::link::Link;
+use bytes::Bytes;
+use futures::Stream;
+use futures::task::{Context, Poll};
 use std::alloc::Global;
 use std::marker::Model;
 use warg_body::LinkError;
 use warg_exchange::{Reply, Request};
+use warg_values::Sequence;
 
 /// A link that gives recorded replies in order, whatever is asked, and fails once they are used up.
 #[derive(Debug, Drop)]
@@ -45,12 +51,48 @@ impl RecordedLink {
     }
 }
 
+/// The body of a recorded reply, which comes as one piece.
+///
+/// A clause sees it as the piece that is still to come.
+#[derive(Debug, Drop)]
+pub struct RecordedBody {
+    left: Option<Sequence<u8>>,
+}
+
+impl Model for RecordedBody {
+    ghost use Rattle.std.specs.Prelude.{ℕ, List, Option};
+
+    ghost Value = { Option (List ℕ) };
+
+    ghost view = { λ b. b.left };
+}
+
+impl Stream for RecordedBody {
+    type Item = Result<Bytes, LinkError>;
+
+    ghost yields = { λ body. LeadsIf body IsPiece Ends };
+
+    fn poll_next(&mut self, _cx: &mut Context<'_>) -> Poll<Option<Result<Bytes, LinkError>>> {
+        match self.left.take() {
+            Some(bytes) => match Bytes::from_vec(bytes.into_vec()) {
+                Ok(piece) => Poll::Ready(Some(Ok(piece))),
+                Err(_) => Poll::Ready(Some(Err(LinkError::Memory))),
+            },
+            None => Poll::Ready(None),
+        }
+    }
+}
+
 impl Link for RecordedLink {
+    type Body = RecordedBody;
+
     ghost Told = { Recorded };
 
     ghost told = { λ l. l };
 
     ghost Steps = { IsRecordedStep };
+
+    ghost Opens = { IsRecordedOpening };
 
     ghost faults = { λ l. l.faults };
 
@@ -68,5 +110,17 @@ impl Link for RecordedLink {
                 Err(LinkError::Failed)
             }
         }
+    }
+
+    fn open_body(
+        &mut self,
+        alloc: Global,
+        request: &Request,
+    ) -> Result<(u16, RecordedBody), LinkError> {
+        let reply = self.exchange(alloc, request)?;
+        let body = RecordedBody {
+            left: Some(reply.body),
+        };
+        Ok((reply.status, body))
     }
 }

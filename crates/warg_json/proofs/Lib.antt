@@ -1,3 +1,4 @@
 pub mod ListLaws
 pub mod MapLaws
 pub mod JsonLaws
+mod HeaderLaws

@@ -81,8 +81,8 @@ pub fn is_success(status: u16) -> bool
     (200..=299).contains(&status)
 }
 
-/// The error that a reply's body names.
-fn refusal_of(alloc: Global, reply: &Reply) -> Result<ServiceError, BodyError>
+/// The error that the body of a reply names, whatever its status is.
+pub fn refusal_of(alloc: Global, reply: &Reply) -> Result<ServiceError, BodyError>
     ensures { BodyGives (λ e. e) result (refusal_in reply.now) }
 {
     let value = body_of(alloc, reply)?;

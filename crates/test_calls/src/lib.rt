@@ -1,0 +1,11 @@
+//! Tests of the calls of registries, over recorded replies: what each answers, and each kind of refusal once.
+#![tactic(auto)]
+
+#[cfg(test)]
+mod contents;
+#[cfg(test)]
+mod recorded;
+#[cfg(test)]
+mod registry;
+#[cfg(test)]
+mod replies;

@@ -1,0 +1,90 @@
+//! Files of recorded replies and of checked signatures.
+
+use std::alloc::Global;
+use std::test::Fail;
+use warg_log::Verifier;
+use warg_record::{PublicKey, Signature};
+use warg_recorded::{FormError, read_checked, read_replies};
+
+/// Files that hold replies, with how many.
+const REPLIES: [(&str, usize); 3] = [
+    (" [ ] ", 0),
+    (r#"[{"status":0,"headers":[],"body":""}]"#, 1),
+    (
+        r#"[{"body":"YWJj","headers":[["Content-Type","a/b"],["x",""]],"status":65535,"other":1},{"status":404,"headers":[],"body":""}]"#,
+        2,
+    ),
+];
+
+/// Files of another form.
+const OTHERS: [&str; 10] = [
+    "",
+    "{}",
+    "[",
+    "[1]",
+    r#"[{"status":65536,"headers":[],"body":""}]"#,
+    r#"[{"status":200,"headers":[["a b","c"]],"body":""}]"#,
+    r#"[{"status":200,"headers":[["a","\n"]],"body":""}]"#,
+    r#"[{"status":200,"headers":[["a","b","c"]],"body":""}]"#,
+    r#"[{"status":200,"headers":[],"body":"YW"}]"#,
+    r#"[{"status":200,"headers":[]}]"#,
+];
+
+/// How many replies a file holds, unless it has another form.
+fn count(alloc: Global, file: &str) -> Result<Option<usize>, Fail> {
+    match read_replies(alloc, file.as_bytes()) {
+        Ok(replies) => Ok(Some(replies.len())),
+        Err(FormError::Form) => Ok(None),
+        Err(FormError::Memory) => Err(Fail::from("out of memory")),
+    }
+}
+
+#[test]
+fn files_of_replies_are_read(rt: HostRuntime) -> Result<(), Fail> {
+    for (file, expected) in REPLIES.as_slice() {
+        assert!(rt; count(rt.alloc(), file)? == Some(*expected));
+    }
+    Ok(())
+}
+
+#[test]
+fn files_of_another_form_are_refused(rt: HostRuntime) -> Result<(), Fail> {
+    for file in OTHERS.as_slice() {
+        assert!(rt; count(rt.alloc(), file)?.is_none());
+    }
+    Ok(())
+}
+
+#[test]
+fn headers_are_kept_in_lower_case_and_bodies_decoded(rt: HostRuntime) -> Result<(), Fail> {
+    let file = r#"[{"body":"YWJj","headers":[["Content-Type","a/b"]],"status":200}]"#;
+    let replies = read_replies(rt.alloc(), file.as_bytes())?;
+    let reply = replies.as_slice().first().ok_or("one reply")?;
+    let (name, value) = reply.headers.as_slice().first().ok_or("one header")?;
+    assert!(rt; reply.status == 200 && reply.body.as_slice() == b"abc".as_slice());
+    assert!(rt; name.as_str() == "content-type" && value.as_bytes() == b"a/b".as_slice());
+    Ok(())
+}
+
+/// Whether a signature of `abc` that a file lists is accepted.
+fn accepts(alloc: Global, digest: &str) -> Result<Option<bool>, Fail> {
+    let file = format!(in alloc; r#"[{{"key":"k:AA==","text":"{digest}","signature":"s:AA=="}}]"#)?;
+    let key = PublicKey::new(alloc, "k:AA==")?;
+    let signature = Signature::new(alloc, "s:AA==")?;
+    match read_checked(alloc, file.as_bytes()) {
+        Ok(verifier) => Ok(Some(verifier.accepts(&key, b"abc", &signature))),
+        Err(FormError::Form) => Ok(None),
+        Err(FormError::Memory) => Err(Fail::from("out of memory")),
+    }
+}
+
+#[test]
+fn a_listed_signature_is_accepted_by_the_digest_of_its_text(rt: HostRuntime) -> Result<(), Fail> {
+    let alloc = rt.alloc();
+    let lower = "ba7816bf8f01cfea414140de5dae2223b00361a396177a9cb410ff61f20015ad";
+    let upper = "BA7816BF8F01CFEA414140DE5DAE2223B00361A396177A9CB410FF61F20015AD";
+    let other = "0000000000000000000000000000000000000000000000000000000000000000";
+    assert!(rt; accepts(alloc, lower)? == Some(true) && accepts(alloc, upper)? == Some(true));
+    assert!(rt; accepts(alloc, other)? == Some(false) && accepts(alloc, "ab")?.is_none());
+    Ok(())
+}

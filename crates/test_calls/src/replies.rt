@@ -1,0 +1,21 @@
+//! A client over recorded replies.
+
+use std::alloc::Global;
+use std::test::Fail;
+use warg_api::{Client, RecordedLink};
+use warg_recorded::read_replies;
+use warg_values::Text;
+
+/// The SHA-256 of `abc`, as its hash text.
+pub const HASH: &str = "sha256:ba7816bf8f01cfea414140de5dae2223b00361a396177a9cb410ff61f20015ad";
+
+/// A client of a registry, with a token.
+pub fn client(alloc: Global) -> Result<Client, Fail> {
+    let token = Text::copy_of(alloc, "secret")?;
+    Ok(Client::new(alloc, "https://home.test", Some(token))?)
+}
+
+/// A link over the replies in a text.
+pub fn link(alloc: Global, replies: &str) -> Result<RecordedLink, Fail> {
+    Ok(RecordedLink::new(alloc, read_replies(alloc, replies.as_bytes())?))
+}
