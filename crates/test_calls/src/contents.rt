@@ -4,6 +4,7 @@ use crate::replies::{HASH, client, link};
 use indexmap::IndexMap;
 use std::alloc::Global;
 use std::test::Fail;
+use warg_api::{Client, ClientError, RecordedBody, RecordedLink, ValidatedStream};
 use warg_hash::AnyHash;
 use warg_values::Text;
 
@@ -15,26 +16,56 @@ const GONE: &str = r#"{"status":410,"headers":[],"body":""}"#;
 
 const FOUND: &str = r#"{"status":200,"headers":[],"body":"YWJj"}"#;
 
+/// The call that loads a content whole.
+fn whole(
+    alloc: Global,
+    client: &Client,
+    link: &mut RecordedLink,
+    digest: &AnyHash,
+) -> Result<Vec<u8>, ClientError> {
+    client.download_whole(alloc, link, None, digest)
+}
+
+/// The call that opens a content as a stream.
+fn stream(
+    alloc: Global,
+    client: &Client,
+    link: &mut RecordedLink,
+    digest: &AnyHash,
+) -> Result<ValidatedStream<RecordedBody>, ClientError> {
+    client.download_content(alloc, link, None, digest)
+}
+
 /// What a content is loaded as.
-fn loaded(alloc: Global, replies: &str) -> Result<String, Fail> {
-    let client = client(alloc)?;
-    let mut link = link(alloc, replies)?;
+fn load(alloc: Global, client: &Client, link: &mut RecordedLink) -> Result<String, Fail> {
     let digest = AnyHash::from_text(alloc, HASH)?;
-    match client.download_whole(alloc, &mut link, None, &digest) {
+    match whole(alloc, client, link, &digest) {
         Ok(bytes) => Ok(String::from_utf8(bytes)?),
         Err(error) => Ok(format!(in alloc; "{error}")?),
     }
 }
 
 /// What the opening of a content as a stream answers.
-fn opened(alloc: Global, replies: &str) -> Result<String, Fail> {
-    let client = client(alloc)?;
-    let mut link = link(alloc, replies)?;
+fn open(alloc: Global, client: &Client, link: &mut RecordedLink) -> Result<String, Fail> {
     let digest = AnyHash::from_text(alloc, HASH)?;
-    match client.download_content(alloc, &mut link, None, &digest) {
+    match stream(alloc, client, link, &digest) {
         Ok(_) => Ok(String::from_str(alloc, "opened")?),
         Err(error) => Ok(format!(in alloc; "{error}")?),
     }
+}
+
+/// What a content is loaded as over these replies.
+fn loaded(alloc: Global, replies: &str) -> Result<String, Fail> {
+    let client = client(alloc)?;
+    let mut link = link(alloc, replies)?;
+    load(alloc, &client, &mut link)
+}
+
+/// What the opening of a content answers over these replies.
+fn opened(alloc: Global, replies: &str) -> Result<String, Fail> {
+    let client = client(alloc)?;
+    let mut link = link(alloc, replies)?;
+    open(alloc, &client, &mut link)
 }
 
 #[test]
@@ -130,17 +161,40 @@ const UPLOADS: [Upload; 7] = [
     ),
 ];
 
+/// The call that sends a content.
+fn send(
+    alloc: Global,
+    client: &Client,
+    link: &mut RecordedLink,
+    upload: &Upload,
+    headers: &IndexMap<Text, Text>,
+) -> Result<(), ClientError> {
+    client.upload_content(alloc, link, upload.0, upload.1, headers, b"abc")
+}
+
 /// What an upload answers.
-fn sent(alloc: Global, upload: &Upload) -> Result<String, Fail> {
-    let (method, url, name, value, replies, _) = upload;
-    let client = client(alloc)?;
-    let mut link = link(alloc, replies)?;
+fn upload_with(
+    alloc: Global,
+    client: &Client,
+    link: &mut RecordedLink,
+    upload: &Upload,
+) -> Result<String, Fail> {
     let mut headers = IndexMap::new(alloc);
-    headers.insert(Text::copy_of(alloc, name)?, Text::copy_of(alloc, value)?)?;
-    match client.upload_content(alloc, &mut link, method, url, &headers, b"abc") {
+    headers.insert(
+        Text::copy_of(alloc, upload.2)?,
+        Text::copy_of(alloc, upload.3)?,
+    )?;
+    match send(alloc, client, link, upload, &headers) {
         Ok(()) => Ok(String::from_str(alloc, "taken")?),
         Err(error) => Ok(format!(in alloc; "{error}")?),
     }
+}
+
+/// What it answers over its replies.
+fn sent(alloc: Global, upload: &Upload) -> Result<String, Fail> {
+    let client = client(alloc)?;
+    let mut link = link(alloc, upload.4)?;
+    upload_with(alloc, &client, &mut link, upload)
 }
 
 #[test]

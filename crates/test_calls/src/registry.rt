@@ -3,6 +3,9 @@
 use crate::replies::{client, link};
 use std::alloc::Global;
 use std::test::Fail;
+use warg_api::{Client, ClientError, RecordedLink};
+use warg_exchange::SignedCheckpoint;
+use warg_url::RegistryUrl;
 
 /// Replies to the request for a registry's configuration, with what is answered.
 const CONFIGURATIONS: [(&str, &str); 6] = [
@@ -29,15 +32,29 @@ const CONFIGURATIONS: [(&str, &str); 6] = [
     ),
 ];
 
+/// The call for a registry's configuration.
+fn well_known(
+    alloc: Global,
+    client: &Client,
+    link: &mut RecordedLink,
+) -> Result<Option<RegistryUrl>, ClientError> {
+    client.well_known_config(alloc, link)
+}
+
 /// What the call for a registry's configuration answers.
-fn configured(alloc: Global, replies: &str) -> Result<String, Fail> {
-    let client = client(alloc)?;
-    let mut link = link(alloc, replies)?;
-    match client.well_known_config(alloc, &mut link) {
+fn configuration(alloc: Global, client: &Client, link: &mut RecordedLink) -> Result<String, Fail> {
+    match well_known(alloc, client, link) {
         Ok(Some(url)) => Ok(format!(in alloc; "{url}")?),
         Ok(None) => Ok(String::from_str(alloc, "none")?),
         Err(error) => Ok(format!(in alloc; "{error}")?),
     }
+}
+
+/// What it answers over these replies.
+fn configured(alloc: Global, replies: &str) -> Result<String, Fail> {
+    let client = client(alloc)?;
+    let mut link = link(alloc, replies)?;
+    configuration(alloc, &client, &mut link)
 }
 
 #[test]
@@ -60,14 +77,28 @@ fn json(alloc: Global, status: u16, kind: &str, body: &str) -> Result<String, Fa
     )?)
 }
 
+/// The call for the latest checkpoint.
+fn checkpoint(
+    alloc: Global,
+    client: &Client,
+    link: &mut RecordedLink,
+) -> Result<SignedCheckpoint, ClientError> {
+    client.latest_checkpoint(alloc, link, None)
+}
+
 /// What the call for the latest checkpoint answers.
-fn latest(alloc: Global, replies: &str) -> Result<String, Fail> {
-    let client = client(alloc)?;
-    let mut link = link(alloc, replies)?;
-    match client.latest_checkpoint(alloc, &mut link, None) {
+fn length(alloc: Global, client: &Client, link: &mut RecordedLink) -> Result<String, Fail> {
+    match checkpoint(alloc, client, link) {
         Ok(checkpoint) => Ok(format!(in alloc; "{}", checkpoint.contents.log_length)?),
         Err(error) => Ok(format!(in alloc; "{error}")?),
     }
+}
+
+/// What it answers over these replies.
+fn latest(alloc: Global, replies: &str) -> Result<String, Fail> {
+    let client = client(alloc)?;
+    let mut link = link(alloc, replies)?;
+    length(alloc, &client, &mut link)
 }
 
 #[test]
