@@ -14,8 +14,8 @@ use Rattle.comp_table.specs.declared.head.Head.{Head}
 use Rattle.comp_table.specs.declared.head.Head.TheVariants as head
 use Rattle.comp_table.specs.declared.key.Key.{Key}
 use Rattle.comp_table.specs.declared.table.Node.{Node}
-use Rattle.comp_table.specs.Trees.{PlainTree, tree, PlainTrees, none, more, trees_of, root, below_root}
-use Rattle.comp_table.specs.Table.{IsMeasured, AreMeasured, tree_at, node_tree, trees_from, trees, IsBelow, node_key, key_cmp, IsFound, IsTable, Extends, Stands}
+use Rattle.comp_table.specs.Trees.{PlainTree, tree, PlainTrees, none, more, trees_of, root, below_root, tree_at, node_tree, IsBelow, Extends, Stands, IsOnce}
+use Rattle.comp_table.specs.Table.{IsMeasured, AreMeasured, trees_from, trees, node_key, key_cmp, IsFound, IsTable}
 use Rattle.comp_table.proofs.HeadLaws.{same_head}
 
 -- what is at a number where no tree is
@@ -77,7 +77,7 @@ stands_from ts (m ∷ ns) (suc i) n e b =
     subst (λ j. slice_get (trees_from ts (m ∷ ns)) j ≡ Some (tree_in (trees_from ts (m ∷ ns)) n)) at
     (stands_from (ts ++ tree_in ts m ∷ []) ns i n e (subst (λ j. IsBelow j n.parts) (sym at) b))
 
-number_stands : (ns : List Node) (i : ℕ) (n : Node) → slice_get ns i ≡ Some n → IsBelow i n.parts → Stands ns i (tree_in (trees ns) n)
+number_stands : (ns : List Node) (i : ℕ) (n : Node) → slice_get ns i ≡ Some n → IsBelow i n.parts → Stands (trees ns) i (tree_in (trees ns) n)
 number_stands ns i n e b =
     let at : 0 + i ≡ i = omega arith in
     subst (λ j. slice_get (trees ns) j ≡ Some (tree_in (trees ns) n)) at (stands_from [] ns i n e (subst (λ j. IsBelow j n.parts) (sym at) b))
@@ -171,7 +171,7 @@ trees_with ns ms n nodes = ap (trees_from []) nodes ∙ trees_push [] ns n
 get_is : {X : Type 0} (ts : List X) (n : ℕ) (d x : X) → slice_get ts n ≡ Some x → slice_index_or ts n d ≡ x
 get_is ts n d x e = same_Some (slice_index_or ts n d) x (sym (slice_get-get_or ts n d (slice_get_within ts n x e)) ∙ e)
 
-pub stands_last : (ns ms : List Node) (n : Node) (k : ℕ) → k ≡ length ns → ms ≡ ns ++ n ∷ [] → Stands ms k (node_tree (trees ns) n.head n.parts)
+pub stands_last : (ns ms : List Node) (n : Node) (k : ℕ) → k ≡ length ns → ms ≡ ns ++ n ∷ [] → Stands (trees ms) k (node_tree (trees ns) n.head n.parts)
 stands_last ns ms n k at nodes =
     let same : k ≡ length (trees ns) = let h = trees_length ns in omega (arith, h, at) in
     rw (trees_with ns ms n nodes) (seam (trees ns) [] (tree_in (trees ns) n) k same)
@@ -203,14 +203,14 @@ table_with ns ms t u n k at is below absent nodes measured by_k =
       measured = λ i q e. measured_more ns ms n nodes is.measured measured i q (ap (λ xs. slice_get xs i) (sym nodes) ∙ e);
     }
 
-pub extends_with : (ns ms : List Node) (n : Node) → ms ≡ ns ++ n ∷ [] → Extends ns ms
+pub extends_with : (ns ms : List Node) (n : Node) → ms ≡ ns ++ n ∷ [] → Extends (trees ns) (trees ms)
 extends_with ns ms n nodes = (tree_in (trees ns) n ∷ [], trees_with ns ms n nodes)
 
-pub extends_same : (ns ms : List Node) → ms ≡ ns → Extends ns ms
+pub extends_same : (ns ms : List Node) → ms ≡ ns → Extends (trees ns) (trees ms)
 extends_same ns ms same = ([], ap trees same ∙ sym (append-nil (trees ns)))
 
 -- where a node of this key is found, its tree stands
-pub stands_found : (ns : List Node) (t : BTreeMap Key ℕ) (i : ℕ) (h : Head) (ps : List ℕ) → IsTable ns t → get key_cmp t (node_key h ps) ≡ Some i → Stands ns i (node_tree (trees ns) h ps)
+pub stands_found : (ns : List Node) (t : BTreeMap Key ℕ) (i : ℕ) (h : Head) (ps : List ℕ) → IsTable ns t → get key_cmp t (node_key h ps) ≡ Some i → Stands (trees ns) i (node_tree (trees ns) h ps)
 stands_found ns t i h ps is e =
     let f = is.found (node_key h ps) i e in
     let heads = same_head f.node.head h f.node.parts ps f.is_its_key in
@@ -266,8 +266,11 @@ module _ (ns : List Node) (t : BTreeMap Key ℕ) (is : IsTable ns t) where
       let keys : node_key n.0.head n.0.parts ≡ node_key m.0.head m.0.parts = λ x. node_key (ap root same x) (parts x) in
       same_Some i j (sym (is.all i n.0 n.1) ∙ ap (get key_cmp t) keys ∙ is.all j m.0 m.1)
 
-  pub one_number : (i j : ℕ) → i < length (trees ns) → j < length (trees ns) → tree_at (trees ns) i ≡ tree_at (trees ns) j → i ≡ j
+  one_number : (i j : ℕ) → i < length (trees ns) → j < length (trees ns) → tree_at (trees ns) i ≡ tree_at (trees ns) j → i ≡ j
   one_number i j a b e = one_within (suc i) i j (omega arith) a b e
+
+  pub once : IsOnce (trees ns)
+  once i j a b e = one_number i j a b e
 
   module _ (i : ℕ) (lt : i < length (trees ns)) (d : Node) where
     at_number : slice_get ns i ≡ Some (slice_index_or ns i d)

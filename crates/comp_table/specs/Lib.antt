@@ -4,3 +4,4 @@ pub mod Facts
 pub mod Table
 pub mod Plain
 pub mod Changes
+pub mod Codes

@@ -1,24 +1,15 @@
--- A table of trees: what its numbers stand for.
-use Rattle.std.specs.Prelude.{◌≡◌, ℕ, ◌<◌, List, [], ◌∷◌, ◌++◌, map, Some, slice_get, slice_index_or}
-use Rattle.std.specs.List.{AllByRecursion}
+-- A table of trees as it lies in memory: what its nodes stand for, and by what they are found.
+use Rattle.std.specs.Prelude.{◌≡◌, ℕ, List, [], ◌∷◌, ◌++◌, Some, slice_get}
 use Rattle.std.specs.BTreeMap.{BTreeMap, get}
 use Rattle.std.specs.Cmp.Lexicographic.{slice_cmp}
 use Rattle.std.specs.Ordering.{nat_cmp, ordering_then}
 use Rattle.std.specs.declared.cmp.Ordering.{Ordering}
 use Rattle.comp_table.specs.declared.head.Head.{Head}
-use Rattle.comp_table.specs.declared.head.Head.TheVariants as head
 use Rattle.comp_table.specs.declared.key.Key.{Key}
 use Rattle.comp_table.specs.declared.table.Node.{Node}
 use Rattle.comp_table.specs.Heads.{head_code, head_numbers, head_label}
 use Rattle.comp_table.specs.Facts.{capped, tree_size, tree_depth}
-use Rattle.comp_table.specs.Trees.{PlainTree, tree, none, trees_of}
-
-abbrev pub tree_at : List PlainTree → ℕ → PlainTree
-tree_at ts n = slice_index_or ts n (tree head.Absent none)
-
--- the tree of a node, where these are the trees of the numbers so far
-abbrev pub node_tree : List PlainTree → Head → List ℕ → PlainTree
-node_tree ts h parts = tree h (trees_of (map (tree_at ts) parts))
+use Rattle.comp_table.specs.Trees.{PlainTree, tree_at, node_tree, IsBelow}
 
 -- the trees of some nodes behind others
 abbrev pub trees_from : List PlainTree → List Node → List PlainTree
@@ -28,10 +19,6 @@ trees_from ts (n ∷ ns) = trees_from (ts ++ node_tree ts n.head n.parts ∷ [])
 -- what the numbers of a table stand for, from 0 on
 abbrev pub trees : List Node → List PlainTree
 trees nodes = trees_from [] nodes
-
--- each part has a number below this
-abbrev pub IsBelow : ℕ → List ℕ → Type 0
-IsBelow n parts = AllByRecursion (λ p. p < n) parts
 
 -- that by which a node is found
 abbrev pub node_key : Head → List ℕ → Key
@@ -63,11 +50,3 @@ pub record IsTable (nodes : List Node) (numbers : BTreeMap Key ℕ) : Type 0 whe
   pub all : (i : ℕ) (n : Node) → slice_get nodes i ≡ Some n → get key_cmp numbers (node_key n.head n.parts) ≡ Some i
   pub below : (i : ℕ) (n : Node) → slice_get nodes i ≡ Some n → IsBelow i n.parts
   pub measured : AreMeasured nodes
-
--- what the numbers given so far stand for is kept
-abbrev pub Extends : List Node → List Node → Type 0
-Extends old new = (more : List PlainTree) × (trees new ≡ trees old ++ more)
-
--- a number stands for a tree
-abbrev pub Stands : List Node → ℕ → PlainTree → Type 0
-Stands nodes n t = slice_get (trees nodes) n ≡ Some t

@@ -4,8 +4,8 @@ ghost use Rattle.std.specs.Prelude.{◌≡◌, ◌<◌, ◌↔◌, ◌+◌, ◌+
 ghost use Rattle.std.specs.BTreeMap.{get};
 ghost use Rattle.comp_table.specs.declared.table.Node.{Node};
 ghost use Rattle.comp_table.specs.Facts.{capped, head_depth, head_size, tree_depth, tree_size};
-ghost use Rattle.comp_table.specs.Table.{AreMeasured, IsBelow, IsTable, Extends, Stands, key_cmp, node_key, node_tree, tree_at, trees, IsMeasured};
-ghost use Rattle.comp_table.specs.Trees.{root, below_root, trees_of};
+ghost use Rattle.comp_table.specs.Table.{AreMeasured, IsTable, key_cmp, node_key, trees, IsMeasured};
+ghost use Rattle.comp_table.specs.Trees.{Extends, IsBelow, IsOnce, Stands, below_root, node_tree, root, tree_at, trees_of};
 
 use crate::head::Head;
 use crate::key::{Key, key_of};
@@ -128,9 +128,9 @@ fn add_node(
     requires key { key ≡ node_key node.head node.parts }
     requires absent { get key_cmp numbers.old key ≡ None }
     ensures table { IsTable nodes.new.items numbers.new }
-    ensures extends { Extends nodes.old.items nodes.new.items }
+    ensures extends { Extends (trees nodes.old.items) (trees nodes.new.items) }
     ensures number { IfOk result
-        (λ n. Stands nodes.new.items n (node_tree (trees nodes.old.items) node.head node.parts)) }
+        (λ n. Stands (trees nodes.new.items) n (node_tree (trees nodes.old.items) node.head node.parts)) }
 {
     let number = nodes.len();
     nodes.push(node)?;
@@ -143,9 +143,41 @@ fn add_node(
     }
 }
 
+/// The number of the node of this head and of parts of these numbers. It is added where it is not there.
+fn place_node(
+    nodes: &mut Vec<Node>,
+    numbers: &mut BTreeMap<Key, usize>,
+    alloc: Global,
+    head: Head,
+    parts: Numbers,
+) -> Result<usize, Memory>
+    requires table { IsTable nodes.old.items numbers.old }
+    requires below { IsBelow (length nodes.old.items) parts }
+    ensures table { IsTable nodes.new.items numbers.new }
+    ensures extends { Extends (trees nodes.old.items) (trees nodes.new.items) }
+    ensures number { IfOk result
+        (λ n. Stands (trees nodes.new.items) n (node_tree (trees nodes.old.items) head parts)) }
+{
+    let key = key_of(alloc, &head, &parts)?;
+    match numbers.get(&key) {
+        Some(number) => Ok(*number),
+        None => {
+            let size = size_of(nodes, &head, parts.as_slice());
+            let depth = depth_of(nodes, &head, parts.as_slice());
+            let node = Node {
+                head,
+                parts,
+                size,
+                depth,
+            };
+            add_node(nodes, numbers, node, key)
+        }
+    }
+}
+
 /// Types and entities by number.
 ///
-/// A clause sees a table as what its numbers stand for, from 0 on, by the word `trees`. No tree has two numbers.
+/// A clause sees a table as the list of what its numbers stand for, from 0 on. No tree has two numbers.
 #[derive(Drop)]
 pub struct TypeTable {
     /// What the numbers stand for, from 0 on.
@@ -156,13 +188,17 @@ pub struct TypeTable {
 
 impl Model for TypeTable {
     ghost use Rattle.std.specs.Prelude.{List};
-    ghost use Rattle.comp_table.specs.declared.table.Node.{Node};
+    ghost use Rattle.comp_table.specs.Table.{IsTable, trees};
+    ghost use Rattle.std.specs.Coded.{coded_list};
+    ghost use Rattle.comp_table.specs.Trees.{PlainTree};
+    ghost use Rattle.comp_table.specs.Codes.{tree_code};
+    ghost use Rattle.comp_table.specs.contracts.head.Head as head;
 
-    ghost Value = { List Node };
+    ghost Value = { List PlainTree };
 
-    ghost use Rattle.comp_table.specs.Table.{IsTable};
+    ghost coded = { coded_list (tree_code head.the_row.coded) };
 
-    ghost view = { λ t. t.nodes.items };
+    ghost view = { λ t. trees t.nodes.items };
 
     ghost invariant = { λ t. IsTable t.nodes.items t.numbers };
 }
@@ -170,7 +206,7 @@ impl Model for TypeTable {
 impl TypeTable {
     /// A table in which no number stands for anything.
     pub fn new(alloc: Global) -> Self
-        ensures { trees result ≡ [] }
+        ensures { result ≡ [] }
     {
         TypeTable {
             nodes: Vec::new(alloc),
@@ -181,33 +217,20 @@ impl TypeTable {
     /// The number of what has this root and parts of these numbers. It is added where it is not there. Whatever the
     /// answer, the numbers given so far keep their meaning.
     pub fn number_of(&mut self, alloc: Global, head: Head, parts: Numbers) -> Result<usize, Memory>
-        requires below { IsBelow (length (trees self.old)) parts }
+        requires below { IsBelow (length self.old) parts }
         ensures extends { Extends self.old self.new }
-        ensures number { IfOk result (λ n. Stands self.new n (node_tree (trees self.old) head parts)) }
-        ensures there { IfOk result (λ n. n < length (trees self.new)) }
+        ensures number { IfOk result (λ n. Stands self.new n (node_tree self.old head parts)) }
+        ensures there { IfOk result (λ n. n < length self.new) }
+        ensures once { IsOnce self.new }
     {
-        let key = key_of(alloc, &head, &parts)?;
-        match self.numbers.get(&key) {
-            Some(number) => Ok(*number),
-            None => {
-                let size = size_of(&self.nodes, &head, parts.as_slice());
-                let depth = depth_of(&self.nodes, &head, parts.as_slice());
-                let node = Node {
-                    head,
-                    parts,
-                    size,
-                    depth,
-                };
-                add_node(&mut self.nodes, &mut self.numbers, node, key)
-            }
-        }
+        place_node(&mut self.nodes, &mut self.numbers, alloc, head, parts)
     }
 
     /// Whether two numbers of this table stand for the same: whether they are one number.
     pub fn is_same(&self, a: usize, b: usize) -> bool
-        requires left { a < length (trees self.now) }
-        requires right { b < length (trees self.now) }
-        ensures { IsTrue result ↔ (tree_at (trees self.now) a ≡ tree_at (trees self.now) b) }
+        requires left { a < length self.now }
+        requires right { b < length self.now }
+        ensures { IsTrue result ↔ (tree_at self.now a ≡ tree_at self.now b) }
     {
         // A look into the table, by which it is known here that no tree has two numbers.
         let _nodes = &self.nodes;
@@ -216,8 +239,8 @@ impl TypeTable {
 
     /// What stands at the root of what a number stands for.
     pub fn head(&self, number: usize) -> &Head
-        requires { number < length (trees self.now) }
-        ensures { result.now ≡ root (tree_at (trees self.now) number) }
+        requires { number < length self.now }
+        ensures { result.now ≡ root (tree_at self.now number) }
     {
         &self.nodes[number].head
     }
@@ -225,8 +248,8 @@ impl TypeTable {
     /// How many nodes what a number stands for has, or the largest number where it has more. This takes no time that
     /// grows with the size.
     pub fn size(&self, number: usize) -> usize
-        requires { number < length (trees self.now) }
-        ensures { result ≡ capped (tree_size (tree_at (trees self.now) number)) }
+        requires { number < length self.now }
+        ensures { result ≡ capped (tree_size (tree_at self.now number)) }
     {
         self.nodes[number].size
     }
@@ -234,17 +257,17 @@ impl TypeTable {
     /// How deep the value type is that a number stands for, or how deep the deepest is that stands in what is none, or
     /// the largest number where it is deeper. This takes no time that grows with the size.
     pub fn depth(&self, number: usize) -> usize
-        requires { number < length (trees self.now) }
-        ensures { result ≡ capped (tree_depth (tree_at (trees self.now) number)) }
+        requires { number < length self.now }
+        ensures { result ≡ capped (tree_depth (tree_at self.now number)) }
     {
         self.nodes[number].depth
     }
 
     /// The numbers of the parts of what a number stands for. They are smaller.
     pub fn parts(&self, number: usize) -> &[usize]
-        requires { number < length (trees self.now) }
-        ensures parts { trees_of (map (tree_at (trees self.now)) result.now)
-            ≡ below_root (tree_at (trees self.now) number) }
+        requires { number < length self.now }
+        ensures parts { trees_of (map (tree_at self.now) result.now)
+            ≡ below_root (tree_at self.now number) }
         ensures below { IsBelow number result.now }
     {
         self.nodes[number].parts.as_slice()

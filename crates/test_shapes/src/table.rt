@@ -1,7 +1,6 @@
 //! Types stand once in a table, with their sizes beside them. The rows were counted by hand.
 
 ghost use Rattle.std.specs.Prelude.{◌<◌, ◌≤◌, length, IfOk};
-ghost use Rattle.comp_table.specs.Table.{trees};
 
 use comp_entity::Primitive;
 use comp_table::{Head, Numbers, TypeTable};
@@ -11,9 +10,9 @@ use warg_values::Memory;
 
 /// The number of a tuple of two parts, each of the type of this number.
 fn pair_of(alloc: Global, table: &mut TypeTable, part: usize) -> Result<usize, Memory>
-    requires { part < length (trees table.old) }
-    ensures there { IfOk result (λ n. n < length (trees table.new)) }
-    ensures kept { length (trees table.old) ≤ length (trees table.new) }
+    requires { part < length table.old }
+    ensures there { IfOk result (λ n. n < length table.new) }
+    ensures kept { length table.old ≤ length table.new }
 {
     let mut parts = Vec::new(alloc);
     parts.push(part)?;
