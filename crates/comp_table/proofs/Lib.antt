@@ -1,7 +1,10 @@
 mod HeadLaws
 mod TableLaws
+mod StandLaws
 mod PlainLaws
 mod SizeLaws
 mod DepthLaws
 mod ChangeLaws
 mod EqualLaws
+mod InternLaws
+mod EntityLaws

@@ -77,7 +77,7 @@ stands_from ts (m ∷ ns) (suc i) n e b =
     subst (λ j. slice_get (trees_from ts (m ∷ ns)) j ≡ Some (tree_in (trees_from ts (m ∷ ns)) n)) at
     (stands_from (ts ++ tree_in ts m ∷ []) ns i n e (subst (λ j. IsBelow j n.parts) (sym at) b))
 
-number_stands : (ns : List Node) (i : ℕ) (n : Node) → slice_get ns i ≡ Some n → IsBelow i n.parts → Stands (trees ns) i (tree_in (trees ns) n)
+number_stands : (ns : List Node) (i : ℕ) (n : Node) → slice_get ns i ≡ Some n → IsBelow i n.parts → slice_get (trees ns) i ≡ Some (tree_in (trees ns) n)
 number_stands ns i n e b =
     let at : 0 + i ≡ i = omega arith in
     subst (λ j. slice_get (trees ns) j ≡ Some (tree_in (trees ns) n)) at (stands_from [] ns i n e (subst (λ j. IsBelow j n.parts) (sym at) b))
@@ -171,10 +171,13 @@ trees_with ns ms n nodes = ap (trees_from []) nodes ∙ trees_push [] ns n
 get_is : {X : Type 0} (ts : List X) (n : ℕ) (d x : X) → slice_get ts n ≡ Some x → slice_index_or ts n d ≡ x
 get_is ts n d x e = same_Some (slice_index_or ts n d) x (sym (slice_get-get_or ts n d (slice_get_within ts n x e)) ∙ e)
 
-pub stands_last : (ns ms : List Node) (n : Node) (k : ℕ) → k ≡ length ns → ms ≡ ns ++ n ∷ [] → Stands (trees ms) k (node_tree (trees ns) n.head n.parts)
+pub stands_last : (ns ms : List Node) (n : Node) (k : ℕ) → k ≡ length ns → ms ≡ ns ++ n ∷ [] → slice_get (trees ms) k ≡ Some (node_tree (trees ns) n.head n.parts)
 stands_last ns ms n k at nodes =
     let same : k ≡ length (trees ns) = let h = trees_length ns in omega (arith, h, at) in
     rw (trees_with ns ms n nodes) (seam (trees ns) [] (tree_in (trees ns) n) k same)
+
+pub stands : (ts : List PlainTree) (n : ℕ) (t : PlainTree) → slice_get ts n ≡ Some t → Stands ts n t
+stands ts n t e = record { there = slice_get_within ts n t e; tree_is = get_is ts n absent t e }
 
 -- measures with one node more
 measured_more : (ns ms : List Node) (n : Node) → ms ≡ ns ++ n ∷ [] → AreMeasured ns → IsMeasured n.size n.depth (tree_in (trees ns) n) → (i : ℕ) (q : Node) → slice_get (ns ++ n ∷ []) i ≡ Some q → IsMeasured q.size q.depth (tree_at (trees ms) i)
@@ -204,13 +207,13 @@ table_with ns ms t u n k at is below absent nodes measured by_k =
     }
 
 pub extends_with : (ns ms : List Node) (n : Node) → ms ≡ ns ++ n ∷ [] → Extends (trees ns) (trees ms)
-extends_with ns ms n nodes = (tree_in (trees ns) n ∷ [], trees_with ns ms n nodes)
+extends_with ns ms n nodes = record { added = tree_in (trees ns) n ∷ []; new_is = trees_with ns ms n nodes }
 
 pub extends_same : (ns ms : List Node) → ms ≡ ns → Extends (trees ns) (trees ms)
-extends_same ns ms same = ([], ap trees same ∙ sym (append-nil (trees ns)))
+extends_same ns ms same = record { added = []; new_is = ap trees same ∙ sym (append-nil (trees ns)) }
 
 -- where a node of this key is found, its tree stands
-pub stands_found : (ns : List Node) (t : BTreeMap Key ℕ) (i : ℕ) (h : Head) (ps : List ℕ) → IsTable ns t → get key_cmp t (node_key h ps) ≡ Some i → Stands (trees ns) i (node_tree (trees ns) h ps)
+pub stands_found : (ns : List Node) (t : BTreeMap Key ℕ) (i : ℕ) (h : Head) (ps : List ℕ) → IsTable ns t → get key_cmp t (node_key h ps) ≡ Some i → slice_get (trees ns) i ≡ Some (node_tree (trees ns) h ps)
 stands_found ns t i h ps is e =
     let f = is.found (node_key h ps) i e in
     let heads = same_head f.node.head h f.node.parts ps f.is_its_key in

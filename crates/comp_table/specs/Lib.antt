@@ -5,3 +5,4 @@ pub mod Table
 pub mod Plain
 pub mod Changes
 pub mod Codes
+pub mod Rows

@@ -1,6 +1,6 @@
 -- Types and entities as trees of one kind: what stands at the root, and the parts. A table is the list of the trees that
 -- its numbers stand for, from 0 on.
-use Rattle.std.specs.Prelude.{◌≡◌, ℕ, ◌<◌, List, [], ◌∷◌, ◌++◌, map, length, Some, slice_get, slice_index_or}
+use Rattle.std.specs.Prelude.{◌≡◌, ℕ, ◌<◌, List, [], ◌∷◌, ◌++◌, map, length, slice_index_or}
 use Rattle.std.specs.List.{AllByRecursion}
 use Rattle.comp_table.specs.declared.head.Head.{Head}
 use Rattle.comp_table.specs.declared.head.Head.TheVariants as head
@@ -36,12 +36,19 @@ abbrev pub IsBelow : ℕ → List ℕ → Type 0
 IsBelow n parts = AllByRecursion (λ p. p < n) parts
 
 -- a number stands for a tree
-abbrev pub Stands : List PlainTree → ℕ → PlainTree → Type 0
-Stands ts n t = slice_get ts n ≡ Some t
+pub record Stands (ts : List PlainTree) (n : ℕ) (t : PlainTree) : Type 0 where
+  pub there : n < length ts
+  pub tree_is : tree_at ts n ≡ t
+
+-- numbers stand for trees, in order
+pub record AllStand (ts : List PlainTree) (ns : List ℕ) (us : List PlainTree) : Type 0 where
+  pub all_there : IsBelow (length ts) ns
+  pub trees_are : map (tree_at ts) ns ≡ us
 
 -- what the numbers given so far stand for is kept
-abbrev pub Extends : List PlainTree → List PlainTree → Type 0
-Extends old new = (more : List PlainTree) × (new ≡ old ++ more)
+pub record Extends (old new : List PlainTree) : Type 0 where
+  pub added : List PlainTree
+  pub new_is : new ≡ old ++ added
 
 -- no tree has two numbers
 abbrev pub IsOnce : List PlainTree → Type 0

@@ -4,12 +4,17 @@ ghost use Rattle.std.specs.Prelude.{◌≡◌, ◌<◌, ◌↔◌, ◌+◌, ◌+
 ghost use Rattle.std.specs.BTreeMap.{get};
 ghost use Rattle.comp_table.specs.declared.table.Node.{Node};
 ghost use Rattle.comp_table.specs.Facts.{capped, head_depth, head_size, tree_depth, tree_size};
+ghost use Rattle.comp_table.specs.Plain.{plain_module};
+ghost use Rattle.comp_table.specs.Rows.{entity_plain, type_plain, value_plain};
 ghost use Rattle.comp_table.specs.Table.{AreMeasured, IsTable, key_cmp, node_key, trees, IsMeasured};
 ghost use Rattle.comp_table.specs.Trees.{Extends, IsBelow, IsOnce, Stands, below_root, node_tree, root, tree_at, trees_of};
 
 use crate::head::Head;
+use crate::intern::{intern_module, intern_value};
+use crate::intern_entity::{intern_entity, intern_type};
 use crate::key::{Key, key_of};
 use crate::numbers::Numbers;
+use comp_entity::{Entity, ModuleShape, TypeShape, ValueShape};
 use std::alloc::Global;
 use std::collections::BTreeMap;
 use std::marker::Model;
@@ -175,6 +180,13 @@ fn place_node(
     }
 }
 
+/// How many levels deep what is put into a table, or is built from it, may lie at most.
+const LEVELS: usize = 1000;
+
+/// The number of an entity in a table.
+#[derive(Clone, Copy, Debug, PartialEq, Eq, PartialOrd, Ord, Hash)]
+pub struct TypeNumber(pub usize);
+
 /// Types and entities by number.
 ///
 /// A clause sees a table as the list of what its numbers stand for, from 0 on. No tree has two numbers.
@@ -220,10 +232,44 @@ impl TypeTable {
         requires below { IsBelow (length self.old) parts }
         ensures extends { Extends self.old self.new }
         ensures number { IfOk result (λ n. Stands self.new n (node_tree self.old head parts)) }
-        ensures there { IfOk result (λ n. n < length self.new) }
         ensures once { IsOnce self.new }
     {
         place_node(&mut self.nodes, &mut self.numbers, alloc, head, parts)
+    }
+
+    /// The number of an entity. It is added where it is not there, and so are its parts. Whatever the answer, the
+    /// numbers given so far keep their meaning. `Memory` also where more than a thousand types and entities lie within
+    /// each other.
+    pub fn intern(&mut self, alloc: Global, entity: &Entity) -> Result<TypeNumber, Memory>
+        ensures kept { Extends self.old self.new }
+        ensures number { IfOk result (λ n. Stands self.new n.0 (entity_plain entity.now)) }
+    {
+        let number = intern_entity(self, alloc, LEVELS, entity)?;
+        Ok(TypeNumber(number))
+    }
+
+    /// The number of a core module, as `intern` gives it for an entity.
+    pub fn intern_module(&mut self, alloc: Global, module: &ModuleShape) -> Result<usize, Memory>
+        ensures kept { Extends self.old self.new }
+        ensures number { IfOk result (λ n. Stands self.new n (plain_module module.now)) }
+    {
+        intern_module(self, alloc, module)
+    }
+
+    /// The number of a value type, as `intern` gives it for an entity.
+    pub fn intern_value(&mut self, alloc: Global, value: &ValueShape) -> Result<usize, Memory>
+        ensures kept { Extends self.old self.new }
+        ensures number { IfOk result (λ n. Stands self.new n (value_plain value.now)) }
+    {
+        intern_value(self, alloc, LEVELS, value)
+    }
+
+    /// The number of a type, as `intern` gives it for an entity.
+    pub fn intern_type(&mut self, alloc: Global, ty: &TypeShape) -> Result<usize, Memory>
+        ensures kept { Extends self.old self.new }
+        ensures number { IfOk result (λ n. Stands self.new n (type_plain ty.now)) }
+    {
+        intern_type(self, alloc, LEVELS, ty)
     }
 
     /// Whether two numbers of this table stand for the same: whether they are one number.

@@ -1,7 +1,5 @@
-use Rattle.std.proofs.Common.{rules, subst, sym, List, length}
-use Rattle.std.proofs.lemmas.Option.{slice_get_within}
-use Rattle.std.proofs.lemmas.Result.{IfOk-weaker}
-use Rattle.comp_table.specs.Trees.{PlainTree, IsBelow, Extends, IsOnce, Stands, node_tree}
+use Rattle.std.proofs.Common.{subst, sym, List, length}
+use Rattle.comp_table.specs.Trees.{PlainTree, IsBelow}
 use Rattle.comp_table.proofs.TableLaws.{nodes_below, once}
 use Rattle.comp_table.proofs.table.TypeTable.number_of.Goals as goal
 
