@@ -8,3 +8,4 @@ mod ChangeLaws
 mod EqualLaws
 mod InternLaws
 mod EntityLaws
+mod EntityEqualLaws

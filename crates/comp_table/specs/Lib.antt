@@ -6,3 +6,4 @@ pub mod Plain
 pub mod Changes
 pub mod Codes
 pub mod Rows
+pub mod Shown
