@@ -9,3 +9,4 @@ mod EqualLaws
 mod InternLaws
 mod EntityLaws
 mod EntityEqualLaws
+mod BareLaws

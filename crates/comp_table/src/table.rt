@@ -4,12 +4,16 @@ ghost use Rattle.std.specs.Prelude.{◌≡◌, ◌<◌, ◌↔◌, ◌+◌, ◌+
 ghost use Rattle.std.specs.BTreeMap.{get};
 ghost use Rattle.comp_table.specs.declared.table.Node.{Node};
 ghost use Rattle.comp_table.specs.Facts.{capped, head_depth, head_size, tree_depth, tree_size};
-ghost use Rattle.comp_table.specs.Plain.{plain_module};
+ghost use Rattle.comp_entity.specs.Entity.{EntityTree};
+ghost use Rattle.comp_entity.specs.Fits.{equal};
+ghost use Rattle.comp_table.specs.Changes.{bare_tree};
+ghost use Rattle.comp_table.specs.Plain.{plain_entity, plain_module};
 ghost use Rattle.comp_table.specs.Rows.{entity_plain, type_plain, value_plain};
-ghost use Rattle.comp_table.specs.Table.{AreMeasured, IsTable, key_cmp, node_key, trees, IsMeasured};
-ghost use Rattle.comp_table.specs.Trees.{Extends, IsBelow, IsOnce, Stands, below_root, node_tree, root, tree_at, trees_of};
+ghost use Rattle.comp_table.specs.Shown.{IsGiven};
+ghost use Rattle.comp_table.specs.Table.{AreBare, AreMeasured, IsBareOf, IsTable, key_cmp, node_key, trees, IsMeasured};
+ghost use Rattle.comp_table.specs.Trees.{AllStand, Extends, IsBelow, IsOnce, Stands, below_root, node_tree, root, tree_at, trees_of};
 
-use crate::head::Head;
+use crate::head::{Head, bare_head};
 use crate::intern::{intern_module, intern_value};
 use crate::intern_entity::{intern_entity, intern_type};
 use crate::key::{Key, key_of};
@@ -31,6 +35,8 @@ pub struct Node {
     size: usize,
     /// How deep the deepest value type in it is, as far as a number goes.
     depth: usize,
+    /// The number of the same without the places that named types and with all naming bits.
+    bare: usize,
 }
 
 /// A sum, or the largest number where it is larger.
@@ -130,6 +136,8 @@ fn add_node(
     requires below { IsBelow (length nodes.old.items) node.parts }
     requires measured { IsMeasured node.size node.depth
         (node_tree (trees nodes.old.items) node.head node.parts) }
+    requires bare { IsBareOf (trees nodes.old.items)
+        (node_tree (trees nodes.old.items) node.head node.parts) node.bare }
     requires key { key ≡ node_key node.head node.parts }
     requires absent { get key_cmp numbers.old key ≡ None }
     ensures table { IsTable nodes.new.items numbers.new }
@@ -148,16 +156,19 @@ fn add_node(
     }
 }
 
-/// The number of the node of this head and of parts of these numbers. It is added where it is not there.
+/// The number of the node of this head and of parts of these numbers. It is added where it is not there, with this
+/// number of its bare tree.
 fn place_node(
     nodes: &mut Vec<Node>,
     numbers: &mut BTreeMap<Key, usize>,
     alloc: Global,
     head: Head,
     parts: Numbers,
+    bare: usize,
 ) -> Result<usize, Memory>
     requires table { IsTable nodes.old.items numbers.old }
     requires below { IsBelow (length nodes.old.items) parts }
+    requires bare { IsBareOf (trees nodes.old.items) (node_tree (trees nodes.old.items) head parts) bare }
     ensures table { IsTable nodes.new.items numbers.new }
     ensures extends { Extends (trees nodes.old.items) (trees nodes.new.items) }
     ensures number { IfOk result
@@ -174,10 +185,78 @@ fn place_node(
                 parts,
                 size,
                 depth,
+                bare,
             };
             add_node(nodes, numbers, node, key)
         }
     }
+}
+
+/// The bare numbers of parts.
+fn bare_parts(nodes: &[Node], alloc: Global, parts: &[usize]) -> Result<Vec<usize>, Memory>
+    requires bare { AreBare nodes.now }
+    requires below { IsBelow (length nodes.now) parts.now }
+    ensures { IfOk result (λ ns. AllStand (trees nodes.now) ns.items
+        (map (λ p. bare_tree (tree_at (trees nodes.now) p)) parts.now)) }
+{
+    let mut numbers = Vec::new(alloc);
+    for part in parts {
+        numbers.push(nodes[*part].bare)?;
+    }
+    Ok(numbers)
+}
+
+/// The number of a node without the places that named types and with all naming bits. It is added where it is not
+/// there.
+fn place_bare(
+    nodes: &mut Vec<Node>,
+    numbers: &mut BTreeMap<Key, usize>,
+    alloc: Global,
+    head: &Head,
+    parts: &[usize],
+) -> Result<usize, Memory>
+    requires table { IsTable nodes.old.items numbers.old }
+    requires below { IsBelow (length nodes.old.items) parts.now }
+    ensures table { IsTable nodes.new.items numbers.new }
+    ensures extends { Extends (trees nodes.old.items) (trees nodes.new.items) }
+    ensures number { IfOk result (λ n. Stands (trees nodes.new.items) n
+        (bare_tree (node_tree (trees nodes.old.items) head.now parts.now))) }
+{
+    let bare = bare_head(alloc, head)?;
+    let bare_parts = bare_parts(nodes, alloc, parts)?;
+    let own = nodes.len();
+    place_node(
+        nodes,
+        numbers,
+        alloc,
+        bare,
+        Numbers::from_vec(bare_parts),
+        own,
+    )
+}
+
+/// The number of the node of this head and of parts of these numbers. It is added where it is not there, and so is its
+/// bare tree.
+fn place(
+    nodes: &mut Vec<Node>,
+    numbers: &mut BTreeMap<Key, usize>,
+    alloc: Global,
+    head: Head,
+    parts: Numbers,
+) -> Result<usize, Memory>
+    requires table { IsTable nodes.old.items numbers.old }
+    requires below { IsBelow (length nodes.old.items) parts }
+    ensures table { IsTable nodes.new.items numbers.new }
+    ensures extends { Extends (trees nodes.old.items) (trees nodes.new.items) }
+    ensures number { IfOk result
+        (λ n. Stands (trees nodes.new.items) n (node_tree (trees nodes.old.items) head parts)) }
+{
+    let key = key_of(alloc, &head, &parts)?;
+    if let Some(number) = numbers.get(&key) {
+        return Ok(*number);
+    }
+    let bare = place_bare(nodes, numbers, alloc, &head, parts.as_slice())?;
+    place_node(nodes, numbers, alloc, head, parts, bare)
 }
 
 /// How many levels deep what is put into a table, or is built from it, may lie at most.
@@ -234,7 +313,7 @@ impl TypeTable {
         ensures number { IfOk result (λ n. Stands self.new n (node_tree self.old head parts)) }
         ensures once { IsOnce self.new }
     {
-        place_node(&mut self.nodes, &mut self.numbers, alloc, head, parts)
+        place(&mut self.nodes, &mut self.numbers, alloc, head, parts)
     }
 
     /// The number of an entity. It is added where it is not there, and so are its parts. Whatever the answer, the
@@ -307,6 +386,28 @@ impl TypeTable {
         ensures { result ≡ capped (tree_depth (tree_at self.now number)) }
     {
         self.nodes[number].depth
+    }
+
+    /// The number of the same without the places that named types and with all naming bits. This takes no time that
+    /// grows with the size.
+    pub fn bare(&self, number: usize) -> usize
+        requires { number < length self.now }
+        ensures { Stands self.now result (bare_tree (tree_at self.now number)) }
+    {
+        self.nodes[number].bare
+    }
+
+    /// Whether two entities are equal (`Explainer.md`, "Type Checking"). Which places named types is set aside. This
+    /// takes no time that grows with the size.
+    pub fn equal(&self, a: TypeNumber, b: TypeNumber) -> bool
+        requires left { a.0 < length self.now }
+        requires right { IsGiven self.now b.0 }
+        ensures { (x y : EntityTree) → Stands self.now a.0 (plain_entity x) → Stands self.now b.0 (plain_entity y)
+            → result ≡ equal x y }
+    {
+        let bare = self.bare(a.0);
+        let other = self.bare(b.0);
+        self.is_same(bare, other)
     }
 
     /// The numbers of the parts of what a number stands for. They are smaller.

@@ -9,7 +9,7 @@ use Rattle.comp_table.proofs.table.add_node.Goals.{in-Ok, in-Err}
 pub returns-clause-table : goal.returns-clause-table
 returns-clause-table c = elim c.match-insert.branch [
   | in-Ok w ↦ table_with c.args.nodes.now.items c.match-insert.nodes.items c.args.numbers.now c.insert.new.self c.args.node c.len-number.result (search rules)
-      c.requires.table c.requires.below (subst (λ (k : Key). get key_cmp c.args.numbers.now k ≡ None) c.requires.key c.requires.absent) (search rules) c.requires.measured
+      c.requires.table c.requires.below (subst (λ (k : Key). get key_cmp c.args.numbers.now k ≡ None) c.requires.key c.requires.absent) (search rules) c.requires.measured c.requires.bare
       (subst (λ (k : Key). Updates key_cmp c.args.numbers.now c.insert.new.self k (Some c.len-number.result)) c.requires.key w.in-Ok.ensures.updates)
   | in-Err w ↦ same_table c.args.nodes.now.items c.match-insert.nodes.items c.args.numbers.now c.insert.new.self c.requires.table (search (rules, w.drop_last.ensures)) (search rules)
 ]
