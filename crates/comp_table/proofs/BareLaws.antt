@@ -15,7 +15,7 @@ use Rattle.comp_table.specs.Table.{IsBare, IsBareOf, trees}
 use Rattle.comp_table.proofs.ChangeLaws.{entity_changed}
 use Rattle.comp_table.proofs.EntityEqualLaws.{equal_by_tree}
 use Rattle.comp_table.proofs.PlainLaws.{one_entity}
-use Rattle.comp_table.proofs.StandLaws.{all_kept}
+use Rattle.comp_table.specs.StandLaws.{all_kept}
 use Rattle.comp_table.proofs.TableLaws.{trees_length}
 use Rattle.comp_table.specs.declared.table.Node.{Node}
 

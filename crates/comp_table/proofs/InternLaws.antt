@@ -1,28 +1,17 @@
 -- Laws of what stands in memory, as trees of heads: each kind by its rows.
-use Rattle.std.specs.Prelude.{◌≡◌, ℕ, List, [], ◌∷◌, map, Option, Some, None, option_map, Result, IfOk, Box, Vec, refl}
+use Rattle.std.specs.Prelude.{◌≡◌, ℕ, List, [], ◌∷◌, map, Option, Some, None, option_map, Box, Vec, refl}
 use Rattle.std.specs.Global.{Global}
-use Rattle.std.proofs.Common.{sym, ◌∙◌, ap, subst}
+use Rattle.std.proofs.Common.{sym, ◌∙◌, ap}
 use Rattle.comp_entity.specs.declared.entity.ValueShape.{ValueShape, fold-roll-ValueShape}
 use Rattle.comp_entity.specs.declared.entity.ValueShape.TheOpen as layer
 use Rattle.comp_entity.specs.declared.entity.ValueShape.TheVariants as value
 use Rattle.comp_entity.specs.declared.entity.FuncShape.{FuncShape}
 use Rattle.comp_entity.specs.Entity.{Name, ValueTree, RecordOf, VariantOf, TupleOf, ResultOf}
 use Rattle.comp_entity.specs.Views.{value_tree, func_tree, value_step, values_of, fields_of, cases_of, payload_of, boxed}
-use Rattle.comp_table.specs.declared.head.Head.{Head}
 use Rattle.comp_table.specs.declared.head.Head.TheVariants as head
-use Rattle.comp_table.specs.Trees.{PlainTree, PlainTrees, tree, more, trees_of, tree_at, node_tree, AllStand, Stands}
+use Rattle.comp_table.specs.Trees.{PlainTree, PlainTrees, tree, more, trees_of}
 use Rattle.comp_table.specs.Plain.{around, around_two, under_label, plain_value, plain_values, plain_cases, plain_payload, plain_result, plain_param, plain_func}
 use Rattle.comp_table.specs.Rows.{value_plain, boxed_plain, held_plain, field_plain, case_plain}
-
--- a number that stands for a tree stands for an equal one
-pub number_of_same : {E : Type 0} (r : Result ℕ E) (ts : List PlainTree) (t u : PlainTree) → t ≡ u → IfOk r (λ n. Stands ts n t) → IfOk r (λ n. Stands ts n u)
-number_of_same r ts t u e h = subst (λ x. IfOk r (λ n. Stands ts n x)) e h
-
-pub same_stands : (ts : List PlainTree) (n : ℕ) (t u : PlainTree) → t ≡ u → Stands ts n t → Stands ts n u
-same_stands ts n t u e s = subst (Stands ts n) e s
-
-pub node_is : (ts : List PlainTree) (h : Head) (ns : List ℕ) (us : List PlainTree) → AllStand ts ns us → node_tree ts h ns ≡ tree h (trees_of us)
-node_is ts h ns us a = ap (λ xs. tree h (trees_of xs)) a.trees_are
 
 parts_plain : (ts : List ValueShape) → plain_values (values_of (map value_tree ts)) ≡ trees_of (map value_plain ts)
 parts_plain [] = refl

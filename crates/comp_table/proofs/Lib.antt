@@ -1,6 +1,5 @@
 mod HeadLaws
 mod TableLaws
-mod StandLaws
 mod PlainLaws
 mod SizeLaws
 mod DepthLaws

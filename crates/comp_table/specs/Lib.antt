@@ -7,3 +7,4 @@ pub mod Changes
 pub mod Codes
 pub mod Rows
 pub mod Shown
+pub mod StandLaws

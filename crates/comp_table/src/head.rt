@@ -68,6 +68,45 @@ pub enum Head {
     CoreValue(CoreVal),
 }
 
+impl Head {
+    /// A copy.
+    pub fn try_clone(&self, alloc: Global) -> Result<Head, Memory>
+        ensures { IfOk result (λ copy. copy ≡ self.now) }
+    {
+        match self {
+            Head::RecordOf(place) => Ok(Head::RecordOf(*place)),
+            Head::VariantOf(place) => Ok(Head::VariantOf(*place)),
+            Head::FlagsOf(place) => Ok(Head::FlagsOf(*place)),
+            Head::EnumOf(place) => Ok(Head::EnumOf(*place)),
+            Head::Label(label) => Ok(Head::Label(label.try_clone(alloc)?)),
+            Head::Entry(mark, name) => Ok(Head::Entry(*mark, name.try_clone(alloc)?)),
+            Head::Primitive(primitive) => Ok(Head::Primitive(*primitive)),
+            Head::ListOf => Ok(Head::ListOf),
+            Head::TupleOf => Ok(Head::TupleOf),
+            Head::OptionOf => Ok(Head::OptionOf),
+            Head::ResultOf => Ok(Head::ResultOf),
+            Head::Own(resource) => Ok(Head::Own(*resource)),
+            Head::Borrow(resource) => Ok(Head::Borrow(*resource)),
+            Head::Absent => Ok(Head::Absent),
+            Head::FuncType => Ok(Head::FuncType),
+            Head::Resource(resource) => Ok(Head::Resource(*resource)),
+            Head::InstanceType => Ok(Head::InstanceType),
+            Head::ComponentType => Ok(Head::ComponentType),
+            Head::Entries => Ok(Head::Entries),
+            Head::Func => Ok(Head::Func),
+            Head::Instance => Ok(Head::Instance),
+            Head::Component => Ok(Head::Component),
+            Head::Module => Ok(Head::Module),
+            Head::OwnModule => Ok(Head::OwnModule),
+            Head::CoreFunc => Ok(Head::CoreFunc),
+            Head::CoreTable(element, limits) => Ok(Head::CoreTable(*element, *limits)),
+            Head::CoreMemory(limits) => Ok(Head::CoreMemory(*limits)),
+            Head::CoreGlobal(value, mutable) => Ok(Head::CoreGlobal(*value, *mutable)),
+            Head::CoreValue(value) => Ok(Head::CoreValue(*value)),
+        }
+    }
+}
+
 /// The same head, without the place that named a type and with the naming bit.
 pub fn bare_head(alloc: Global, head: &Head) -> Result<Head, Memory>
     ensures { IfOk result (λ bare. bare ≡ head_by without_places 0 head.now) }
@@ -77,30 +116,7 @@ pub fn bare_head(alloc: Global, head: &Head) -> Result<Head, Memory>
         Head::VariantOf(_) => Ok(Head::VariantOf(None)),
         Head::FlagsOf(_) => Ok(Head::FlagsOf(None)),
         Head::EnumOf(_) => Ok(Head::EnumOf(None)),
-        Head::Label(label) => Ok(Head::Label(label.try_clone(alloc)?)),
         Head::Entry(_, name) => Ok(Head::Entry(true, name.try_clone(alloc)?)),
-        Head::Primitive(primitive) => Ok(Head::Primitive(*primitive)),
-        Head::ListOf => Ok(Head::ListOf),
-        Head::TupleOf => Ok(Head::TupleOf),
-        Head::OptionOf => Ok(Head::OptionOf),
-        Head::ResultOf => Ok(Head::ResultOf),
-        Head::Own(resource) => Ok(Head::Own(*resource)),
-        Head::Borrow(resource) => Ok(Head::Borrow(*resource)),
-        Head::Absent => Ok(Head::Absent),
-        Head::FuncType => Ok(Head::FuncType),
-        Head::Resource(resource) => Ok(Head::Resource(*resource)),
-        Head::InstanceType => Ok(Head::InstanceType),
-        Head::ComponentType => Ok(Head::ComponentType),
-        Head::Entries => Ok(Head::Entries),
-        Head::Func => Ok(Head::Func),
-        Head::Instance => Ok(Head::Instance),
-        Head::Component => Ok(Head::Component),
-        Head::Module => Ok(Head::Module),
-        Head::OwnModule => Ok(Head::OwnModule),
-        Head::CoreFunc => Ok(Head::CoreFunc),
-        Head::CoreTable(element, limits) => Ok(Head::CoreTable(*element, *limits)),
-        Head::CoreMemory(limits) => Ok(Head::CoreMemory(*limits)),
-        Head::CoreGlobal(value, mutable) => Ok(Head::CoreGlobal(*value, *mutable)),
-        Head::CoreValue(value) => Ok(Head::CoreValue(*value)),
+        other => other.try_clone(alloc),
     }
 }

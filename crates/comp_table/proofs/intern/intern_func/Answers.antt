@@ -2,8 +2,8 @@ use Rattle.std.proofs.Common.{rules, ap, sym, subst, ◌∙◌, ◌∷◌, map, 
 use Rattle.comp_table.specs.declared.head.Head.TheVariants as head
 use Rattle.comp_table.specs.Rows.{held_plain, field_plain}
 use Rattle.comp_table.specs.Trees.{IsBelow, node_tree, tree, trees_of}
-use Rattle.comp_table.proofs.StandLaws.{stands_kept, all_first}
-use Rattle.comp_table.proofs.InternLaws.{number_of_same, node_is, func_is}
+use Rattle.comp_table.specs.StandLaws.{stands_kept, all_first, number_of_same, node_is}
+use Rattle.comp_table.proofs.InternLaws.{func_is}
 use Rattle.comp_table.proofs.intern.intern_func.Goals as goal
 
 pub node-requires : goal.node-requires

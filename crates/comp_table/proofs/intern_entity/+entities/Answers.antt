@@ -3,8 +3,7 @@ use Rattle.comp_table.specs.declared.head.Head.TheVariants as head
 use Rattle.comp_table.specs.Plain.{around, around_two}
 use Rattle.comp_table.specs.Trees.{tree, trees_of}
 use Rattle.comp_table.specs.Rows.{entity_plain, type_plain, entry_plain, entries_plain}
-use Rattle.comp_table.proofs.StandLaws.{grows_not, grows_on, stands_kept, all_none, all_step, all_end}
-use Rattle.comp_table.proofs.InternLaws.{number_of_same, same_stands, node_is}
+use Rattle.comp_table.specs.StandLaws.{grows_not, grows_on, stands_kept, all_none, all_step, all_end, number_of_same, same_stands, node_is}
 use Rattle.comp_table.proofs.EntityLaws.{instance_rows, import_rows, export_rows, entity_instance, entity_component, type_instance, type_component}
 use Rattle.comp_table.proofs.intern_entity.+entities.Goals as goal
 

@@ -4,7 +4,7 @@ use Rattle.comp_table.specs.declared.table.Node.{Node}
 use Rattle.comp_table.specs.Table.{trees, IsBare}
 use Rattle.comp_table.specs.Trees.{tree_at}
 use Rattle.comp_table.proofs.TableLaws.{below_at, bare_found}
-use Rattle.comp_table.proofs.StandLaws.{grows_not, all_none, all_step}
+use Rattle.comp_table.specs.StandLaws.{grows_not, all_none, all_step}
 use Rattle.comp_table.proofs.BareLaws.{bare_stands}
 use Rattle.comp_table.proofs.table.bare_parts.Goals as goal
 

@@ -4,8 +4,8 @@ use Rattle.comp_table.specs.declared.key.Key.{Key}
 use Rattle.comp_table.specs.Changes.{bare_tree}
 use Rattle.comp_table.specs.Table.{key_cmp, trees}
 use Rattle.comp_table.specs.Trees.{node_tree, tree_at}
+use Rattle.comp_table.specs.StandLaws.{number_of_same, same_stands, node_is}
 use Rattle.comp_table.proofs.TableLaws.{nodes_below, stands, stands_found}
-use Rattle.comp_table.proofs.InternLaws.{number_of_same, same_stands, node_is}
 use Rattle.comp_table.proofs.BareLaws.{node_kept, bare_there}
 use Rattle.comp_table.proofs.table.place.Goals as goal
 

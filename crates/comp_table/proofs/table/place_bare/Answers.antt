@@ -3,8 +3,8 @@ use Rattle.comp_table.specs.declared.table.Node.{Node}
 use Rattle.comp_table.specs.Table.{AreBare, trees}
 use Rattle.comp_table.specs.Trees.{AllStand, node_tree, tree_at}
 use Rattle.comp_table.specs.Changes.{bare_tree}
+use Rattle.comp_table.specs.StandLaws.{number_of_same}
 use Rattle.comp_table.proofs.TableLaws.{nodes_below, trees_length}
-use Rattle.comp_table.proofs.InternLaws.{number_of_same}
 use Rattle.comp_table.proofs.BareLaws.{node_bare, bare_itself}
 use Rattle.comp_table.proofs.table.place_bare.Goals as goal
 

@@ -1,5 +1,5 @@
 -- Laws of numbers that stand for trees, also in a table that has grown.
-use Rattle.std.specs.Prelude.{◌≡◌, ℕ, zero, suc, ◌+◌, ◌<◌, List, [], ◌∷◌, ◌++◌, map, length, refl, take, slice_index_or}
+use Rattle.std.specs.Prelude.{◌≡◌, ℕ, zero, suc, ◌+◌, ◌<◌, List, [], ◌∷◌, ◌++◌, map, length, refl, take, slice_index_or, Result, IfOk}
 use Rattle.std.specs.List.{AllByRecursion}
 use Rattle.std.proofs.Common.{sym, ◌∙◌, ap, subst, append_assoc, append-nil, arith, length-append}
 use Rattle.std.proofs.lemmas.List.{get_or_append_left, map-append, take_more, take_all}
@@ -65,6 +65,13 @@ module _ {X : Type 0} (f : X → PlainTree) (xs : List X) where
   pub all_end : (ts : List PlainTree) (ns : List ℕ) → AllStand ts ns (map f (take (length xs) xs)) → AllStand ts ns (map f xs)
   all_end ts ns a = subst (λ ys. AllStand ts ns (map f ys)) (take_all (length xs) xs (omega arith)) a
 
--- a node whose parts stand for these trees
-pub node_of : (ts vs : List PlainTree) (h : Head) (ns : List ℕ) (us : List PlainTree) (n : ℕ) → AllStand ts ns us → Stands vs n (node_tree ts h ns) → Stands vs n (tree h (trees_of us))
-node_of ts vs h ns us n a s = record { there = s.there; tree_is = s.tree_is ∙ ap (λ xs. tree h (trees_of xs)) a.trees_are }
+-- a number that stands for a tree stands for an equal one
+pub same_stands : (ts : List PlainTree) (n : ℕ) (t u : PlainTree) → t ≡ u → Stands ts n t → Stands ts n u
+same_stands ts n t u e s = subst (Stands ts n) e s
+
+pub number_of_same : {E : Type 0} (r : Result ℕ E) (ts : List PlainTree) (t u : PlainTree) → t ≡ u → IfOk r (λ n. Stands ts n t) → IfOk r (λ n. Stands ts n u)
+number_of_same r ts t u e h = subst (λ x. IfOk r (λ n. Stands ts n x)) e h
+
+-- the tree of a node whose parts stand for these trees
+pub node_is : (ts : List PlainTree) (h : Head) (ns : List ℕ) (us : List PlainTree) → AllStand ts ns us → node_tree ts h ns ≡ tree h (trees_of us)
+node_is ts h ns us a = ap (λ xs. tree h (trees_of xs)) a.trees_are
