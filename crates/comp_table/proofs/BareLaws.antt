@@ -10,11 +10,10 @@ use Rattle.comp_table.specs.declared.head.Head.TheVariants as head
 use Rattle.comp_table.specs.Trees.{PlainTree, tree, PlainTrees, none, more, trees_of, tree_at, node_tree, Stands, AllStand, Extends, IsBelow}
 use Rattle.comp_table.specs.Changes.{head_by, scopes_in, tree_by, trees_by, bare_tree}
 use Rattle.comp_table.specs.Plain.{plain_entity}
-use Rattle.comp_table.specs.Shown.{IsShown, IsGiven}
+use Rattle.comp_table.specs.Shown.{IsShown}
 use Rattle.comp_table.specs.Table.{IsBare, IsBareOf, trees}
 use Rattle.comp_table.proofs.ChangeLaws.{entity_changed}
 use Rattle.comp_table.proofs.EntityEqualLaws.{equal_by_tree}
-use Rattle.comp_table.proofs.PlainLaws.{one_entity}
 use Rattle.comp_table.specs.StandLaws.{all_kept}
 use Rattle.comp_table.proofs.TableLaws.{trees_length}
 use Rattle.comp_table.specs.declared.table.Node.{Node}
@@ -100,11 +99,17 @@ same_bool true b f g = sym (f refl)
 same_bool false true f g = g refl
 same_bool false false f g = refl
 
--- two entities whose bare numbers stand for one tree are equal
-pub equal_by_numbers : (ts : List PlainTree) (a b m n : ℕ) (r : Bool) → IsGiven ts b → Stands ts m (bare_tree (tree_at ts a)) → Stands ts n (bare_tree (tree_at ts b)) → (r ≡ true ↔ (tree_at ts m ≡ tree_at ts n)) → (x y : EntityTree) → Stands ts a (plain_entity x) → Stands ts b (plain_entity y) → r ≡ equal x y
-equal_by_numbers ts a b m n r given first second same x y is_x is_y =
-    let one = one_entity given.entity y (sym given.stands.tree_is ∙ is_y.tree_is) in
-    let law = equal_by_tree x y (subst IsShown one given.shown) in
-    let left : tree_at ts m ≡ plain_entity (bare x) = first.tree_is ∙ ap bare_tree is_x.tree_is ∙ sym (entity_changed without_places 0 x) in
-    let right : tree_at ts n ≡ plain_entity (bare y) = second.tree_is ∙ ap bare_tree is_y.tree_is ∙ sym (entity_changed without_places 0 y) in
+-- two bare numbers stand for one tree exactly where the bare trees are one
+pub one_bare : (ts : List PlainTree) (a b m n : ℕ) (r : Bool) → Stands ts m (bare_tree (tree_at ts a)) → Stands ts n (bare_tree (tree_at ts b)) → (r ≡ true ↔ (tree_at ts m ≡ tree_at ts n)) → (r ≡ true ↔ (bare_tree (tree_at ts a) ≡ bare_tree (tree_at ts b)))
+one_bare ts a b m n r first second same = (
+  λ t. sym first.tree_is ∙ same.0 t ∙ second.tree_is,
+  λ e. same.1 (first.tree_is ∙ e ∙ sym second.tree_is),
+)
+
+-- entities are equal where their bare trees are one
+pub equal_by_bare : (ts : List PlainTree) (a b : ℕ) (r : Bool) → (r ≡ true ↔ (bare_tree (tree_at ts a) ≡ bare_tree (tree_at ts b))) → (x y : EntityTree) → Stands ts a (plain_entity x) → Stands ts b (plain_entity y) → IsShown y → r ≡ equal x y
+equal_by_bare ts a b r same x y is_x is_y shown =
+    let law = equal_by_tree x y shown in
+    let left : bare_tree (tree_at ts a) ≡ plain_entity (bare x) = ap bare_tree is_x.tree_is ∙ sym (entity_changed without_places 0 x) in
+    let right : bare_tree (tree_at ts b) ≡ plain_entity (bare y) = ap bare_tree is_y.tree_is ∙ sym (entity_changed without_places 0 y) in
     same_bool r (equal x y) (λ t. law.1 (sym left ∙ same.0 t ∙ right)) (λ e. same.1 (left ∙ law.0 e ∙ sym right))

@@ -1,9 +1,6 @@
 -- Entities in which no core module of a component's own stands. The type of such a module is not known, so that nothing
 -- equals it, and it is in no shape.
-use Rattle.std.specs.Prelude.{ℕ, List}
 use Rattle.comp_entity.specs.Entity.{TypeShapeTree, Value, Resource, Func, Instance, Component, EntityTree, IsType, IsFunc, IsInstance, IsComponent, IsModule, IsOwnModule, Entries, no_entry, entry}
-use Rattle.comp_table.specs.Trees.{PlainTree, Stands}
-use Rattle.comp_table.specs.Plain.{plain_entity}
 
 abbrev mutual
   pub IsShownType : TypeShapeTree → Type 0
@@ -24,9 +21,3 @@ abbrev mutual
   pub AreShown : Entries → Type 0
   AreShown no_entry = Unit {0}
   AreShown (entry name e mark es) = IsShown e × AreShown es
-
--- a number stands for such an entity
-pub record IsGiven (ts : List PlainTree) (n : ℕ) : Type 0 where
-  pub entity : EntityTree
-  pub stands : Stands ts n (plain_entity entity)
-  pub shown : IsShown entity

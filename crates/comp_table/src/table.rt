@@ -9,7 +9,7 @@ ghost use Rattle.comp_entity.specs.Fits.{equal};
 ghost use Rattle.comp_table.specs.Changes.{bare_tree};
 ghost use Rattle.comp_table.specs.Plain.{plain_entity, plain_module};
 ghost use Rattle.comp_table.specs.Rows.{entity_plain, type_plain, value_plain};
-ghost use Rattle.comp_table.specs.Shown.{IsGiven};
+ghost use Rattle.comp_table.specs.Shown.{IsShown};
 ghost use Rattle.comp_table.specs.Table.{AreBare, AreMeasured, IsBareOf, IsTable, key_cmp, node_key, trees, IsMeasured};
 ghost use Rattle.comp_table.specs.Trees.{AllStand, Extends, IsBelow, IsOnce, Stands, below_root, node_tree, root, tree_at, trees_of};
 
@@ -397,12 +397,15 @@ impl TypeTable {
         self.nodes[number].bare
     }
 
-    /// Whether two entities are equal (`Explainer.md`, "Type Checking"). Which places named types is set aside. This
-    /// takes no time that grows with the size.
+    /// Whether two entities are equal (`Explainer.md`, "Type Checking"), where no core module of a component's own, whose
+    /// type is not known, stands in the second. Which places named types is set aside. This takes no time that grows
+    /// with the size.
     pub fn equal(&self, a: TypeNumber, b: TypeNumber) -> bool
         requires left { a.0 < length self.now }
-        requires right { IsGiven self.now b.0 }
-        ensures { (x y : EntityTree) → Stands self.now a.0 (plain_entity x) → Stands self.now b.0 (plain_entity y)
+        requires right { b.0 < length self.now }
+        ensures bare { IsTrue result ↔ (bare_tree (tree_at self.now a.0) ≡ bare_tree (tree_at self.now b.0)) }
+        ensures equal { (x y : EntityTree)
+            → Stands self.now a.0 (plain_entity x) → Stands self.now b.0 (plain_entity y) → IsShown y
             → result ≡ equal x y }
     {
         let bare = self.bare(a.0);

@@ -1,8 +1,12 @@
-//! A caller of `comp_table`.
+//! Callers of `comp_table`.
 
-ghost use Rattle.std.specs.Prelude.{◌<◌, length, IfOk};
-ghost use Rattle.comp_table.specs.Trees.{Extends, Stands, tree, tree_at, more, none};
+ghost use Rattle.std.specs.Prelude.{◌≡◌, ◌<◌, length, IfOk};
+ghost use Rattle.comp_entity.specs.Fits.{equal};
+ghost use Rattle.comp_entity.specs.Views.{entity_tree};
+ghost use Rattle.comp_table.specs.Shown.{IsShown};
+ghost use Rattle.comp_table.specs.Trees.{Extends, Stands, more, none, tree, tree_at};
 
+use comp_entity::Entity;
 use comp_table::{Head, Numbers, TypeTable};
 use std::alloc::Global;
 use warg_values::Memory;
@@ -16,4 +20,19 @@ pub fn list_of(alloc: Global, table: &mut TypeTable, item: usize) -> Result<usiz
 {
     let parts = Numbers::from_vec(vec![in alloc; item]?);
     table.number_of(alloc, Head::ListOf, parts)
+}
+
+/// Whether two entities are equal, by their numbers in a table.
+pub fn are_equal(
+    alloc: Global,
+    table: &mut TypeTable,
+    first: &Entity,
+    second: &Entity,
+) -> Result<bool, Memory>
+    ensures { IfOk result (λ answer. IsShown (entity_tree second.now)
+        → answer ≡ equal (entity_tree first.now) (entity_tree second.now)) }
+{
+    let first = table.intern(alloc, first)?;
+    let second = table.intern(alloc, second)?;
+    Ok(table.equal(first, second))
 }
