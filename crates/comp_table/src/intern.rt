@@ -383,12 +383,12 @@ fn intern_core_exports(
 pub fn intern_module(
     table: &mut TypeTable,
     alloc: Global,
-    module: &ModuleShape,
+    shape: &ModuleShape,
 ) -> Result<usize, Memory>
     ensures extends { Extends table.old table.new }
-    ensures number { IfOk result (λ n. Stands table.new n (plain_module module.now)) }
+    ensures number { IfOk result (λ n. Stands table.new n (plain_module shape.now)) }
 {
-    let imports = intern_core_imports(table, alloc, module.imports.as_slice())?;
-    let exports = intern_core_exports(table, alloc, module.exports.as_slice())?;
+    let imports = intern_core_imports(table, alloc, shape.imports.as_slice())?;
+    let exports = intern_core_exports(table, alloc, shape.exports.as_slice())?;
     around_two(table, alloc, Head::Module, imports, exports)
 }

@@ -328,11 +328,11 @@ impl TypeTable {
     }
 
     /// The number of a core module, as `intern` gives it for an entity.
-    pub fn intern_module(&mut self, alloc: Global, module: &ModuleShape) -> Result<usize, Memory>
+    pub fn intern_module(&mut self, alloc: Global, shape: &ModuleShape) -> Result<usize, Memory>
         ensures kept { Extends self.old self.new }
-        ensures number { IfOk result (λ n. Stands self.new n (plain_module module.now)) }
+        ensures number { IfOk result (λ n. Stands self.new n (plain_module shape.now)) }
     {
-        intern_module(self, alloc, module)
+        intern_module(self, alloc, shape)
     }
 
     /// The number of a value type, as `intern` gives it for an entity.
