@@ -8,8 +8,7 @@ use Rattle.std.proofs.lemmas.List.{take_more}
 use Rattle.comp_entity.specs.Entity.{ValueTree, Primitive, TupleOf, RecordOf, VariantOf, ListOf, FlagsOf, EnumOf, OptionOf, ResultOf, Own, Borrow, ValueTrees, Cases, no_case, labelled, Payload, absent, present}
 use Rattle.comp_entity.specs.Entity as entity
 use Rattle.comp_entity.specs.Bounds.{value_depth, parts_depth as values_depth_of, cases_depth as cases_depth_of, payload_depth as payload_depth_of}
-use Rattle.comp_table.specs.Trees.{PlainTree, trees_of}
-use Rattle.comp_table.specs.Table.{tree_at}
+use Rattle.comp_table.specs.Trees.{PlainTree, trees_of, tree_at}
 use Rattle.comp_table.specs.Plain.{plain_labels, plain_value, plain_values, plain_cases, plain_payload}
 use Rattle.comp_table.specs.Facts.{capped, tree_depth, trees_depth}
 use Rattle.comp_table.proofs.SizeLaws.{capped_is}

@@ -12,27 +12,27 @@ use Rattle.comp_entity.specs.Entity as entity
 use Rattle.comp_entity.specs.Names.{without_places, place_by, value_by, values_by, cases_by, payload_by}
 use Rattle.comp_entity.specs.Fits.{same_name, values_equal, all_equal, cases_equal, payloads_equal}
 
-both : (a b : Bool) → a && b ≡ true → (a ≡ true) × (b ≡ true)
+pub both : (a b : Bool) → a && b ≡ true → (a ≡ true) × (b ≡ true)
 both true b e = (refl, e)
 both false b e = absurd cc
 
-both_hold : (a b : Bool) → a ≡ true → b ≡ true → a && b ≡ true
+pub both_hold : (a b : Bool) → a ≡ true → b ≡ true → a && b ≡ true
 both_hold a b p q = ap (λ x. x && b) p ∙ q
 
-name_same : (m n : Name) → same_name m n ≡ true → m ≡ n
+pub name_same : (m n : Name) → same_name m n ≡ true → m ≡ n
 name_same m n e =
     let h = both (m.out == n.out) (m.number == n.number) e in
     let out = eqb-true m.out n.out h.0 in
     let number = eqb-true m.number n.number h.1 in
     λ i. record { out = out i; number = number i }
 
-name_itself : (n : Name) → same_name n n ≡ true
+pub name_itself : (n : Name) → same_name n n ≡ true
 name_itself n = both_hold (n.out == n.out) (n.number == n.number) (eq-eqb n.out n.out refl) (eq-eqb n.number n.number refl)
 
-label_same : (l k : List ℕ) → bytes_eq l k ≡ true → l ≡ k
+pub label_same : (l k : List ℕ) → bytes_eq l k ≡ true → l ≡ k
 label_same l k e = same_text l k (sym e)
 
-label_itself : (l : List ℕ) → bytes_eq l l ≡ true
+pub label_itself : (l : List ℕ) → bytes_eq l l ≡ true
 label_itself [] = refl
 label_itself (b ∷ bs) = both_hold (b == b) (bytes_eq bs bs) (eq-eqb b b refl) (label_itself bs)
 
@@ -69,54 +69,52 @@ or_bool None = primitive.Bool
 primitive_same : (p q : PrimitiveType) → primitive_code p == primitive_code q ≡ true → p ≡ q
 primitive_same p q e = ap or_bool (sym (code_again p) ∙ ap primitive_of (eqb-true (primitive_code p) (primitive_code q) e) ∙ code_again q)
 
--- a type without the places that named types
-abbrev pub bare_value : ValueTree → ValueTree
-bare_value v = value_by without_places 0 v
+-- types that stand so many scopes deep, without the places that named types
+module _ (d : ℕ) where
+  place_bare : (p : Option Name) → place_by without_places d p ≡ None
+  place_bare None = refl
+  place_bare (Some n) = refl
 
-place_bare : (p : Option Name) → place_by without_places 0 p ≡ None
-place_bare None = refl
-place_bare (Some n) = refl
+  places_told : (p q : Option Name) → place_by without_places d p ≡ place_by without_places d q
+  places_told p q = place_bare p ∙ sym (place_bare q)
 
-places_told : (p q : Option Name) → place_by without_places 0 p ≡ place_by without_places 0 q
-places_told p q = place_bare p ∙ sym (place_bare q)
+  mutual
+    pub value_told : (v w : ValueTree) → values_equal same_name v w ≡ true → value_by without_places d v ≡ value_by without_places d w
+    value_told (Primitive p) (Primitive q) e = ap Primitive (primitive_same p q e)
+    value_told (TupleOf ts) (TupleOf us) e = ap TupleOf (values_told ts us e)
+    value_told (RecordOf m ts) (RecordOf n us) e = λ i. RecordOf (places_told m n i) (cases_told ts us e i)
+    value_told (VariantOf m ts) (VariantOf n us) e = λ i. VariantOf (places_told m n i) (cases_told ts us e i)
+    value_told (ListOf t) (ListOf u) e = ap ListOf (value_told t u e)
+    value_told (FlagsOf m ls) (FlagsOf n ks) e = λ i. FlagsOf (places_told m n i) (labels_same ls ks e i)
+    value_told (EnumOf m ls) (EnumOf n ks) e = λ i. EnumOf (places_told m n i) (labels_same ls ks e i)
+    value_told (OptionOf t) (OptionOf u) e = ap OptionOf (value_told t u e)
+    value_told (ResultOf t g) (ResultOf u f) e =
+        let h = both (payloads_equal same_name t u) (payloads_equal same_name g f) e in λ i. ResultOf (payload_told t u h.0 i) (payload_told g f h.1 i)
+    value_told (Own r) (Own s) e = ap Own (name_same r s e)
+    value_told (Borrow r) (Borrow s) e = ap Borrow (name_same r s e)
+    value_told v w e = absurd cc
 
-mutual
-  pub value_told : (v w : ValueTree) → values_equal same_name v w ≡ true → bare_value v ≡ bare_value w
-  value_told (Primitive p) (Primitive q) e = ap Primitive (primitive_same p q e)
-  value_told (TupleOf ts) (TupleOf us) e = ap TupleOf (values_told ts us e)
-  value_told (RecordOf m ts) (RecordOf n us) e = λ i. RecordOf (places_told m n i) (cases_told ts us e i)
-  value_told (VariantOf m ts) (VariantOf n us) e = λ i. VariantOf (places_told m n i) (cases_told ts us e i)
-  value_told (ListOf t) (ListOf u) e = ap ListOf (value_told t u e)
-  value_told (FlagsOf m ls) (FlagsOf n ks) e = λ i. FlagsOf (places_told m n i) (labels_same ls ks e i)
-  value_told (EnumOf m ls) (EnumOf n ks) e = λ i. EnumOf (places_told m n i) (labels_same ls ks e i)
-  value_told (OptionOf t) (OptionOf u) e = ap OptionOf (value_told t u e)
-  value_told (ResultOf t d) (ResultOf u f) e =
-      let h = both (payloads_equal same_name t u) (payloads_equal same_name d f) e in λ i. ResultOf (payload_told t u h.0 i) (payload_told d f h.1 i)
-  value_told (Own r) (Own s) e = ap Own (name_same r s e)
-  value_told (Borrow r) (Borrow s) e = ap Borrow (name_same r s e)
-  value_told v w e = absurd cc
+    values_told : (ts us : ValueTrees) → all_equal same_name ts us ≡ true → values_by without_places d ts ≡ values_by without_places d us
+    values_told entity.none entity.none e = refl
+    values_told entity.none (entity.more u us) e = absurd cc
+    values_told (entity.more t ts) entity.none e = absurd cc
+    values_told (entity.more t ts) (entity.more u us) e =
+        let h = both (values_equal same_name t u) (all_equal same_name ts us) e in λ i. entity.more (value_told t u h.0 i) (values_told ts us h.1 i)
 
-  values_told : (ts us : ValueTrees) → all_equal same_name ts us ≡ true → values_by without_places 0 ts ≡ values_by without_places 0 us
-  values_told entity.none entity.none e = refl
-  values_told entity.none (entity.more u us) e = absurd cc
-  values_told (entity.more t ts) entity.none e = absurd cc
-  values_told (entity.more t ts) (entity.more u us) e =
-      let h = both (values_equal same_name t u) (all_equal same_name ts us) e in λ i. entity.more (value_told t u h.0 i) (values_told ts us h.1 i)
+    cases_told : (ts us : Cases) → cases_equal same_name ts us ≡ true → cases_by without_places d ts ≡ cases_by without_places d us
+    cases_told no_case no_case e = refl
+    cases_told no_case (labelled k u us) e = absurd cc
+    cases_told (labelled l t ts) no_case e = absurd cc
+    cases_told (labelled l t ts) (labelled k u us) e =
+        let h = both (bytes_eq l k && payloads_equal same_name t u) (cases_equal same_name ts us) e in
+        let g = both (bytes_eq l k) (payloads_equal same_name t u) h.0 in
+        λ i. labelled (label_same l k g.0 i) (payload_told t u g.1 i) (cases_told ts us h.1 i)
 
-  cases_told : (ts us : Cases) → cases_equal same_name ts us ≡ true → cases_by without_places 0 ts ≡ cases_by without_places 0 us
-  cases_told no_case no_case e = refl
-  cases_told no_case (labelled k u us) e = absurd cc
-  cases_told (labelled l t ts) no_case e = absurd cc
-  cases_told (labelled l t ts) (labelled k u us) e =
-      let h = both (bytes_eq l k && payloads_equal same_name t u) (cases_equal same_name ts us) e in
-      let g = both (bytes_eq l k) (payloads_equal same_name t u) h.0 in
-      λ i. labelled (label_same l k g.0 i) (payload_told t u g.1 i) (cases_told ts us h.1 i)
-
-  payload_told : (t u : Payload) → payloads_equal same_name t u ≡ true → payload_by without_places 0 t ≡ payload_by without_places 0 u
-  payload_told absent absent e = refl
-  payload_told absent (present u) e = absurd cc
-  payload_told (present t) absent e = absurd cc
-  payload_told (present t) (present u) e = ap present (value_told t u e)
+    payload_told : (t u : Payload) → payloads_equal same_name t u ≡ true → payload_by without_places d t ≡ payload_by without_places d u
+    payload_told absent absent e = refl
+    payload_told absent (present u) e = absurd cc
+    payload_told (present t) absent e = absurd cc
+    payload_told (present t) (present u) e = ap present (value_told t u e)
 
 mutual
   pub value_itself : (v : ValueTree) → values_equal same_name v v ≡ true

@@ -5,3 +5,7 @@ mod SizeLaws
 mod DepthLaws
 mod ChangeLaws
 mod EqualLaws
+mod InternLaws
+mod EntityLaws
+mod EntityEqualLaws
+mod BareLaws

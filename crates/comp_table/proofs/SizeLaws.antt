@@ -15,8 +15,7 @@ use Rattle.comp_entity.specs.Entity as entity
 use Rattle.comp_entity.specs.Bounds.{value_nodes, parts_nodes, cases_nodes, payload_nodes, func_nodes, module_nodes, type_nodes, entity_nodes, entries_nodes}
 use Rattle.comp_table.specs.declared.head.Head.{Head}
 use Rattle.comp_table.specs.declared.head.Head.TheVariants as head
-use Rattle.comp_table.specs.Trees.{PlainTree, trees_of}
-use Rattle.comp_table.specs.Table.{tree_at, node_tree}
+use Rattle.comp_table.specs.Trees.{PlainTree, trees_of, tree_at, node_tree}
 use Rattle.comp_table.specs.Plain.{leaf, plain_labels, plain_value, plain_values, plain_cases, plain_payload, plain_result, plain_param, plain_func, plain_core, plain_import, plain_export, plain_module, plain_type, plain_entity, plain_entries}
 use Rattle.comp_table.specs.Facts.{largest, capped, head_size, tree_size, trees_size}
 

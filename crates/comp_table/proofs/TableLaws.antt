@@ -1,5 +1,5 @@
 -- Laws of tables: what their numbers stand for, and that each tree has one number.
-use Rattle.std.specs.Prelude.{◌≡◌, ℕ, zero, suc, ◌+◌, ◌<◌, List, [], ◌∷◌, ◌++◌, map, length, Option, Some, None, slice_get, slice_index_or, refl, cond, ◌⊎◌}
+use Rattle.std.specs.Prelude.{◌≡◌, ℕ, zero, suc, ◌+◌, ◌<◌, ◌≤◌, List, [], ◌∷◌, ◌++◌, map, length, Option, Some, None, slice_get, slice_index_or, refl, cond, ◌⊎◌}
 use Rattle.std.specs.BTreeMap.{BTreeMap, get, Updates, is_at}
 use Rattle.std.specs.Map.{lookup}
 use Rattle.std.specs.Cmp.Lexicographic.{slice_cmp}
@@ -11,11 +11,12 @@ use Rattle.std.proofs.Common.{sym, ◌∙◌, ap, subst, append_assoc, append-ni
 use Rattle.std.proofs.lemmas.List.{get_or_append_left}
 use Rattle.std.proofs.lemmas.Option.{slice_get_within, slice_get-get_or, same_Some}
 use Rattle.comp_table.specs.declared.head.Head.{Head}
+use Rattle.comp_table.specs.Changes.{bare_tree}
 use Rattle.comp_table.specs.declared.head.Head.TheVariants as head
 use Rattle.comp_table.specs.declared.key.Key.{Key}
 use Rattle.comp_table.specs.declared.table.Node.{Node}
-use Rattle.comp_table.specs.Trees.{PlainTree, tree, PlainTrees, none, more, trees_of, root, below_root}
-use Rattle.comp_table.specs.Table.{IsMeasured, AreMeasured, tree_at, node_tree, trees_from, trees, IsBelow, node_key, key_cmp, IsFound, IsTable, Extends, Stands}
+use Rattle.comp_table.specs.Trees.{PlainTree, tree, PlainTrees, none, more, trees_of, root, below_root, tree_at, node_tree, IsBelow, Extends, Stands, IsOnce}
+use Rattle.comp_table.specs.Table.{IsBare, IsBareOf, AreBare, IsMeasured, AreMeasured, trees_from, trees, node_key, key_cmp, IsFound, IsTable}
 use Rattle.comp_table.proofs.HeadLaws.{same_head}
 
 -- what is at a number where no tree is
@@ -77,7 +78,7 @@ stands_from ts (m ∷ ns) (suc i) n e b =
     subst (λ j. slice_get (trees_from ts (m ∷ ns)) j ≡ Some (tree_in (trees_from ts (m ∷ ns)) n)) at
     (stands_from (ts ++ tree_in ts m ∷ []) ns i n e (subst (λ j. IsBelow j n.parts) (sym at) b))
 
-number_stands : (ns : List Node) (i : ℕ) (n : Node) → slice_get ns i ≡ Some n → IsBelow i n.parts → Stands ns i (tree_in (trees ns) n)
+number_stands : (ns : List Node) (i : ℕ) (n : Node) → slice_get ns i ≡ Some n → IsBelow i n.parts → slice_get (trees ns) i ≡ Some (tree_in (trees ns) n)
 number_stands ns i n e b =
     let at : 0 + i ≡ i = omega arith in
     subst (λ j. slice_get (trees ns) j ≡ Some (tree_in (trees ns) n)) at (stands_from [] ns i n e (subst (λ j. IsBelow j n.parts) (sym at) b))
@@ -163,6 +164,7 @@ same_table ns ms t u is nodes numbers = record {
   all = λ i q e. ap (λ es. lookup (is_at (key_cmp (node_key q.head q.parts))) es) numbers ∙ is.all i q (ap (λ xs. slice_get xs i) (sym nodes) ∙ e);
   below = λ i q e. is.below i q (ap (λ xs. slice_get xs i) (sym nodes) ∙ e);
   measured = λ i q e. subst (λ xs. IsMeasured q.size q.depth (tree_at (trees xs) i)) (sym nodes) (is.measured i q (ap (λ xs. slice_get xs i) (sym nodes) ∙ e));
+  bare = λ i q e. subst (λ xs. IsBare (trees xs) i q.bare) (sym nodes) (is.bare i q (ap (λ xs. slice_get xs i) (sym nodes) ∙ e));
 }
 
 pub trees_with : (ns ms : List Node) (n : Node) → ms ≡ ns ++ n ∷ [] → trees ms ≡ trees ns ++ tree_in (trees ns) n ∷ []
@@ -171,10 +173,13 @@ trees_with ns ms n nodes = ap (trees_from []) nodes ∙ trees_push [] ns n
 get_is : {X : Type 0} (ts : List X) (n : ℕ) (d x : X) → slice_get ts n ≡ Some x → slice_index_or ts n d ≡ x
 get_is ts n d x e = same_Some (slice_index_or ts n d) x (sym (slice_get-get_or ts n d (slice_get_within ts n x e)) ∙ e)
 
-pub stands_last : (ns ms : List Node) (n : Node) (k : ℕ) → k ≡ length ns → ms ≡ ns ++ n ∷ [] → Stands ms k (node_tree (trees ns) n.head n.parts)
+pub stands_last : (ns ms : List Node) (n : Node) (k : ℕ) → k ≡ length ns → ms ≡ ns ++ n ∷ [] → slice_get (trees ms) k ≡ Some (node_tree (trees ns) n.head n.parts)
 stands_last ns ms n k at nodes =
     let same : k ≡ length (trees ns) = let h = trees_length ns in omega (arith, h, at) in
     rw (trees_with ns ms n nodes) (seam (trees ns) [] (tree_in (trees ns) n) k same)
+
+pub stands : (ts : List PlainTree) (n : ℕ) (t : PlainTree) → slice_get ts n ≡ Some t → Stands ts n t
+stands ts n t e = record { there = slice_get_within ts n t e; tree_is = get_is ts n absent t e }
 
 -- measures with one node more
 measured_more : (ns ms : List Node) (n : Node) → ms ≡ ns ++ n ∷ [] → AreMeasured ns → IsMeasured n.size n.depth (tree_in (trees ns) n) → (i : ℕ) (q : Node) → slice_get (ns ++ n ∷ []) i ≡ Some q → IsMeasured q.size q.depth (tree_at (trees ms) i)
@@ -190,9 +195,36 @@ measured_more ns ms n nodes measured here i q e = of (get_pushed ns n i q e)
         let there = get_is (trees ms) i absent (tree_in (trees ns) n) (stands_last ns ms n i h.0 nodes) in
         subst (λ (x : Node). IsMeasured x.size x.depth (tree_at (trees ms) i)) h.1 (subst (λ t. IsMeasured n.size n.depth t) (sym there) here)
 
+-- bare numbers with one node more
+bare_more : (ns ms : List Node) (n : Node) → ms ≡ ns ++ n ∷ [] → AreBare ns → IsBareOf (trees ns) (tree_in (trees ns) n) n.bare → (i : ℕ) (q : Node) → slice_get (ns ++ n ∷ []) i ≡ Some q → IsBare (trees ms) i q.bare
+bare_more ns ms n nodes bare here i q e = of (get_pushed ns n i q e)
+  where
+    of : (slice_get ns i ≡ Some q) ⊎ ((i ≡ length ns) × (n ≡ q)) → IsBare (trees ms) i q.bare
+    of (inl h) =
+        let lt = slice_get_within ns i q h in
+        let k = trees_length ns in
+        let old = bare i q h in
+        let within = old.within in
+        let kept = get_or_append_left (trees ns) (tree_in (trees ns) n ∷ []) absent i (omega (arith, lt, k)) in
+        let bare_kept = get_or_append_left (trees ns) (tree_in (trees ns) n ∷ []) absent q.bare (omega (arith, lt, k, within)) in
+        let more = trees_with ns ms n nodes in
+        record {
+          within = within;
+          bare_is = ap (λ ts. tree_at ts q.bare) more ∙ bare_kept ∙ old.bare_is ∙ ap bare_tree (sym kept) ∙ ap (λ ts. bare_tree (tree_at ts i)) (sym more);
+        }
+    of (inr h) =
+        let k = trees_length ns in
+        let there = get_is (trees ms) i absent (tree_in (trees ns) n) (stands_last ns ms n i h.0 nodes) in
+        let within = here.within in
+        let at = h.0 in
+        subst (λ (x : Node). IsBare (trees ms) i x.bare) h.1 (record {
+          within = omega (arith, within, k, at);
+          bare_is = ap (λ ts. tree_at ts n.bare) (trees_with ns ms n nodes) ∙ here.bare_is ∙ ap bare_tree (sym there);
+        })
+
 -- a table with one node more
-pub table_with : (ns ms : List Node) (t u : BTreeMap Key ℕ) (n : Node) (k : ℕ) → k ≡ length ns → IsTable ns t → IsBelow (length ns) n.parts → get key_cmp t (node_key n.head n.parts) ≡ None → ms ≡ ns ++ n ∷ [] → IsMeasured n.size n.depth (tree_in (trees ns) n) → Updates key_cmp t u (node_key n.head n.parts) (Some k) → IsTable ms u
-table_with ns ms t u n k at is below absent nodes measured by_k =
+pub table_with : (ns ms : List Node) (t u : BTreeMap Key ℕ) (n : Node) (k : ℕ) → k ≡ length ns → IsTable ns t → IsBelow (length ns) n.parts → get key_cmp t (node_key n.head n.parts) ≡ None → ms ≡ ns ++ n ∷ [] → IsMeasured n.size n.depth (tree_in (trees ns) n) → IsBareOf (trees ns) (tree_in (trees ns) n) n.bare → Updates key_cmp t u (node_key n.head n.parts) (Some k) → IsTable ms u
+table_with ns ms t u n k at is below absent nodes measured bare by_k =
     let updates = subst (λ j. Updates key_cmp t u (node_key n.head n.parts) (Some j)) at by_k in
     let found = found_more ns (get key_cmp t) (get key_cmp u) n is.found is.all absent updates.0 updates.1 in
     let all = all_more ns (get key_cmp t) (get key_cmp u) n is.found is.all absent updates.0 updates.1 in
@@ -201,16 +233,17 @@ table_with ns ms t u n k at is below absent nodes measured by_k =
       all = λ i q e. all i q (ap (λ xs. slice_get xs i) (sym nodes) ∙ e);
       below = λ i q e. below_more ns n is.below below i q (ap (λ xs. slice_get xs i) (sym nodes) ∙ e);
       measured = λ i q e. measured_more ns ms n nodes is.measured measured i q (ap (λ xs. slice_get xs i) (sym nodes) ∙ e);
+      bare = λ i q e. bare_more ns ms n nodes is.bare bare i q (ap (λ xs. slice_get xs i) (sym nodes) ∙ e);
     }
 
-pub extends_with : (ns ms : List Node) (n : Node) → ms ≡ ns ++ n ∷ [] → Extends ns ms
-extends_with ns ms n nodes = (tree_in (trees ns) n ∷ [], trees_with ns ms n nodes)
+pub extends_with : (ns ms : List Node) (n : Node) → ms ≡ ns ++ n ∷ [] → Extends (trees ns) (trees ms)
+extends_with ns ms n nodes = record { added = tree_in (trees ns) n ∷ []; new_is = trees_with ns ms n nodes }
 
-pub extends_same : (ns ms : List Node) → ms ≡ ns → Extends ns ms
-extends_same ns ms same = ([], ap trees same ∙ sym (append-nil (trees ns)))
+pub extends_same : (ns ms : List Node) → ms ≡ ns → Extends (trees ns) (trees ms)
+extends_same ns ms same = record { added = []; new_is = ap trees same ∙ sym (append-nil (trees ns)) }
 
 -- where a node of this key is found, its tree stands
-pub stands_found : (ns : List Node) (t : BTreeMap Key ℕ) (i : ℕ) (h : Head) (ps : List ℕ) → IsTable ns t → get key_cmp t (node_key h ps) ≡ Some i → Stands ns i (node_tree (trees ns) h ps)
+pub stands_found : (ns : List Node) (t : BTreeMap Key ℕ) (i : ℕ) (h : Head) (ps : List ℕ) → IsTable ns t → get key_cmp t (node_key h ps) ≡ Some i → slice_get (trees ns) i ≡ Some (node_tree (trees ns) h ps)
 stands_found ns t i h ps is e =
     let f = is.found (node_key h ps) i e in
     let heads = same_head f.node.head h f.node.parts ps f.is_its_key in
@@ -266,8 +299,11 @@ module _ (ns : List Node) (t : BTreeMap Key ℕ) (is : IsTable ns t) where
       let keys : node_key n.0.head n.0.parts ≡ node_key m.0.head m.0.parts = λ x. node_key (ap root same x) (parts x) in
       same_Some i j (sym (is.all i n.0 n.1) ∙ ap (get key_cmp t) keys ∙ is.all j m.0 m.1)
 
-  pub one_number : (i j : ℕ) → i < length (trees ns) → j < length (trees ns) → tree_at (trees ns) i ≡ tree_at (trees ns) j → i ≡ j
+  one_number : (i j : ℕ) → i < length (trees ns) → j < length (trees ns) → tree_at (trees ns) i ≡ tree_at (trees ns) j → i ≡ j
   one_number i j a b e = one_within (suc i) i j (omega arith) a b e
+
+  pub once : IsOnce (trees ns)
+  once i j a b e = one_number i j a b e
 
   module _ (i : ℕ) (lt : i < length (trees ns)) (d : Node) where
     at_number : slice_get ns i ≡ Some (slice_index_or ns i d)
@@ -278,6 +314,9 @@ module _ (ns : List Node) (t : BTreeMap Key ℕ) (is : IsTable ns t) where
 
     pub number_measured : IsMeasured (slice_index_or ns i d).size (slice_index_or ns i d).depth (tree_at (trees ns) i)
     number_measured = is.measured i (slice_index_or ns i d) at_number
+
+    pub number_bare : IsBare (trees ns) i (slice_index_or ns i d).bare
+    number_bare = is.bare i (slice_index_or ns i d) at_number
 
     pub number_below : IsBelow i (slice_index_or ns i d).parts
     number_below = is.below i (slice_index_or ns i d) at_number
@@ -290,6 +329,10 @@ pub below_at : (k : ℕ) (ns : List ℕ) (i d : ℕ) → IsBelow k ns → i < le
 below_at k [] i d b lt = absurd (omega (arith, lt))
 below_at k (n ∷ ns) zero d b lt = b.0
 below_at k (n ∷ ns) (suc i) d b lt = below_at k ns i d b.1 (omega (arith, lt))
+
+-- the bare number of a node that was found
+pub bare_found : (ns : List Node) (p : ℕ) (n d : Node) → AreBare ns → p < length ns → n ≡ slice_index_or ns p d → IsBare (trees ns) p n.bare
+bare_found ns p n d bare lt is = bare p n (slice_get-get_or ns p d lt ∙ ap Some (sym is))
 
 -- the measures of a node that was found
 pub measured_found : (ns : List Node) (p : ℕ) (n d : Node) → AreMeasured ns → p < length ns → n ≡ slice_index_or ns p d → IsMeasured n.size n.depth (tree_at (trees ns) p)

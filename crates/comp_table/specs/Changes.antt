@@ -1,6 +1,6 @@
 -- Changes of names in trees of heads.
 use Rattle.std.specs.Prelude.{ℕ, suc}
-use Rattle.comp_entity.specs.Names.{Change, place_by}
+use Rattle.comp_entity.specs.Names.{Change, place_by, without_places}
 use Rattle.comp_table.specs.declared.head.Head.{Head}
 use Rattle.comp_table.specs.declared.head.Head.TheVariants as head
 use Rattle.comp_table.specs.Trees.{PlainTree, tree, PlainTrees, none, more}
@@ -31,3 +31,7 @@ abbrev mutual
   pub trees_by : Change → ℕ → PlainTrees → PlainTrees
   trees_by c d none = none
   trees_by c d (more t ts) = more (tree_by c d t) (trees_by c d ts)
+
+-- a tree without the places that named types, and with all naming bits
+abbrev pub bare_tree : PlainTree → PlainTree
+bare_tree t = tree_by without_places 0 t

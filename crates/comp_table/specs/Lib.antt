@@ -4,3 +4,7 @@ pub mod Facts
 pub mod Table
 pub mod Plain
 pub mod Changes
+pub mod Codes
+pub mod Rows
+pub mod Shown
+pub mod StandLaws

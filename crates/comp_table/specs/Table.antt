@@ -1,24 +1,16 @@
--- A table of trees: what its numbers stand for.
-use Rattle.std.specs.Prelude.{◌≡◌, ℕ, ◌<◌, List, [], ◌∷◌, ◌++◌, map, Some, slice_get, slice_index_or}
-use Rattle.std.specs.List.{AllByRecursion}
+-- A table of trees as it lies in memory: what its nodes stand for, and by what they are found.
+use Rattle.std.specs.Prelude.{◌≡◌, ℕ, ◌≤◌, List, [], ◌∷◌, ◌++◌, length, Some, slice_get}
 use Rattle.std.specs.BTreeMap.{BTreeMap, get}
 use Rattle.std.specs.Cmp.Lexicographic.{slice_cmp}
 use Rattle.std.specs.Ordering.{nat_cmp, ordering_then}
 use Rattle.std.specs.declared.cmp.Ordering.{Ordering}
 use Rattle.comp_table.specs.declared.head.Head.{Head}
-use Rattle.comp_table.specs.declared.head.Head.TheVariants as head
 use Rattle.comp_table.specs.declared.key.Key.{Key}
 use Rattle.comp_table.specs.declared.table.Node.{Node}
 use Rattle.comp_table.specs.Heads.{head_code, head_numbers, head_label}
+use Rattle.comp_table.specs.Changes.{bare_tree}
 use Rattle.comp_table.specs.Facts.{capped, tree_size, tree_depth}
-use Rattle.comp_table.specs.Trees.{PlainTree, tree, none, trees_of}
-
-abbrev pub tree_at : List PlainTree → ℕ → PlainTree
-tree_at ts n = slice_index_or ts n (tree head.Absent none)
-
--- the tree of a node, where these are the trees of the numbers so far
-abbrev pub node_tree : List PlainTree → Head → List ℕ → PlainTree
-node_tree ts h parts = tree h (trees_of (map (tree_at ts) parts))
+use Rattle.comp_table.specs.Trees.{PlainTree, tree_at, node_tree, IsBelow}
 
 -- the trees of some nodes behind others
 abbrev pub trees_from : List PlainTree → List Node → List PlainTree
@@ -28,10 +20,6 @@ trees_from ts (n ∷ ns) = trees_from (ts ++ node_tree ts n.head n.parts ∷ [])
 -- what the numbers of a table stand for, from 0 on
 abbrev pub trees : List Node → List PlainTree
 trees nodes = trees_from [] nodes
-
--- each part has a number below this
-abbrev pub IsBelow : ℕ → List ℕ → Type 0
-IsBelow n parts = AllByRecursion (λ p. p < n) parts
 
 -- that by which a node is found
 abbrev pub node_key : Head → List ℕ → Key
@@ -57,17 +45,24 @@ pub record IsMeasured (size depth : ℕ) (t : PlainTree) : Type 0 where
 abbrev pub AreMeasured : List Node → Type 0
 AreMeasured nodes = (i : ℕ) (n : Node) → slice_get nodes i ≡ Some n → IsMeasured n.size n.depth (tree_at (trees nodes) i)
 
--- Each node is found by its key, its parts stand in front of it, and its size and its depth beside it.
+-- A number is that of the bare tree of what another one stands for. It is no larger.
+pub record IsBare (ts : List PlainTree) (i b : ℕ) : Type 0 where
+  pub within : b ≤ i
+  pub bare_is : tree_at ts b ≡ bare_tree (tree_at ts i)
+
+-- the same of a tree that is about to be put behind the others
+pub record IsBareOf (ts : List PlainTree) (t : PlainTree) (b : ℕ) : Type 0 where
+  pub within : b ≤ length ts
+  pub bare_is : tree_at (ts ++ t ∷ []) b ≡ bare_tree t
+
+-- beside each node stands the number of its bare tree
+abbrev pub AreBare : List Node → Type 0
+AreBare nodes = (i : ℕ) (n : Node) → slice_get nodes i ≡ Some n → IsBare (trees nodes) i n.bare
+
+-- Each node is found by its key, its parts stand in front of it, and its size, its depth and its bare number beside it.
 pub record IsTable (nodes : List Node) (numbers : BTreeMap Key ℕ) : Type 0 where
   pub found : (k : Key) (i : ℕ) → get key_cmp numbers k ≡ Some i → IsFound nodes k i
   pub all : (i : ℕ) (n : Node) → slice_get nodes i ≡ Some n → get key_cmp numbers (node_key n.head n.parts) ≡ Some i
   pub below : (i : ℕ) (n : Node) → slice_get nodes i ≡ Some n → IsBelow i n.parts
   pub measured : AreMeasured nodes
-
--- what the numbers given so far stand for is kept
-abbrev pub Extends : List Node → List Node → Type 0
-Extends old new = (more : List PlainTree) × (trees new ≡ trees old ++ more)
-
--- a number stands for a tree
-abbrev pub Stands : List Node → ℕ → PlainTree → Type 0
-Stands nodes n t = slice_get (trees nodes) n ≡ Some t
+  pub bare : AreBare nodes

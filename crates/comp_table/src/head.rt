@@ -1,8 +1,13 @@
 //! What stands at the root of a type or an entity.
 
+ghost use Rattle.std.specs.Prelude.{◌≡◌, IfOk};
+ghost use Rattle.comp_entity.specs.Names.{without_places};
+ghost use Rattle.comp_table.specs.Changes.{head_by};
+
 use comp_entity::{ResourceNo, TypeNo};
 use comp_format::{CoreVal, Limits, Primitive};
-use warg_values::Text;
+use std::alloc::Global;
+use warg_values::{Memory, Text};
 
 /// What stands at the root of a type or an entity, whose parts stand below it (`Binary.md`, `deftype` and
 /// `externdesc`).
@@ -61,4 +66,57 @@ pub enum Head {
     CoreGlobal(CoreVal, bool),
     /// A type of core values, without parts.
     CoreValue(CoreVal),
+}
+
+impl Head {
+    /// A copy.
+    pub fn try_clone(&self, alloc: Global) -> Result<Head, Memory>
+        ensures { IfOk result (λ copy. copy ≡ self.now) }
+    {
+        match self {
+            Head::RecordOf(place) => Ok(Head::RecordOf(*place)),
+            Head::VariantOf(place) => Ok(Head::VariantOf(*place)),
+            Head::FlagsOf(place) => Ok(Head::FlagsOf(*place)),
+            Head::EnumOf(place) => Ok(Head::EnumOf(*place)),
+            Head::Label(label) => Ok(Head::Label(label.try_clone(alloc)?)),
+            Head::Entry(mark, name) => Ok(Head::Entry(*mark, name.try_clone(alloc)?)),
+            Head::Primitive(primitive) => Ok(Head::Primitive(*primitive)),
+            Head::ListOf => Ok(Head::ListOf),
+            Head::TupleOf => Ok(Head::TupleOf),
+            Head::OptionOf => Ok(Head::OptionOf),
+            Head::ResultOf => Ok(Head::ResultOf),
+            Head::Own(resource) => Ok(Head::Own(*resource)),
+            Head::Borrow(resource) => Ok(Head::Borrow(*resource)),
+            Head::Absent => Ok(Head::Absent),
+            Head::FuncType => Ok(Head::FuncType),
+            Head::Resource(resource) => Ok(Head::Resource(*resource)),
+            Head::InstanceType => Ok(Head::InstanceType),
+            Head::ComponentType => Ok(Head::ComponentType),
+            Head::Entries => Ok(Head::Entries),
+            Head::Func => Ok(Head::Func),
+            Head::Instance => Ok(Head::Instance),
+            Head::Component => Ok(Head::Component),
+            Head::Module => Ok(Head::Module),
+            Head::OwnModule => Ok(Head::OwnModule),
+            Head::CoreFunc => Ok(Head::CoreFunc),
+            Head::CoreTable(element, limits) => Ok(Head::CoreTable(*element, *limits)),
+            Head::CoreMemory(limits) => Ok(Head::CoreMemory(*limits)),
+            Head::CoreGlobal(value, mutable) => Ok(Head::CoreGlobal(*value, *mutable)),
+            Head::CoreValue(value) => Ok(Head::CoreValue(*value)),
+        }
+    }
+}
+
+/// The same head, without the place that named a type and with the naming bit.
+pub fn bare_head(alloc: Global, head: &Head) -> Result<Head, Memory>
+    ensures { IfOk result (λ bare. bare ≡ head_by without_places 0 head.now) }
+{
+    match head {
+        Head::RecordOf(_) => Ok(Head::RecordOf(None)),
+        Head::VariantOf(_) => Ok(Head::VariantOf(None)),
+        Head::FlagsOf(_) => Ok(Head::FlagsOf(None)),
+        Head::EnumOf(_) => Ok(Head::EnumOf(None)),
+        Head::Entry(_, name) => Ok(Head::Entry(true, name.try_clone(alloc)?)),
+        other => other.try_clone(alloc),
+    }
 }

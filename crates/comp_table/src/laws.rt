@@ -3,11 +3,12 @@
 ghost use Rattle.std.specs.Prelude.{◌≡◌, ◌↔◌, ℕ, true};
 ghost use Rattle.comp_entity.specs.Bounds.{entity_nodes, value_depth};
 ghost use Rattle.comp_entity.specs.Entity.{EntityTree, ValueTree};
-ghost use Rattle.comp_entity.specs.Fits.{same_name, values_equal};
-ghost use Rattle.comp_entity.specs.Names.{Change, entity_by, value_by, without_places};
+ghost use Rattle.comp_entity.specs.Fits.{equal, same_name, values_equal};
+ghost use Rattle.comp_entity.specs.Names.{Change, bare, entity_by, value_by, without_places};
 ghost use Rattle.comp_table.specs.Changes.{tree_by};
 ghost use Rattle.comp_table.specs.Facts.{tree_depth, tree_size};
 ghost use Rattle.comp_table.specs.Plain.{plain_entity, plain_value};
+ghost use Rattle.comp_table.specs.Shown.{IsShown};
 
 use comp_entity::laws::a_change_keeps_equality;
 
@@ -30,6 +31,12 @@ pub fn trees_are_as_deep()
 pub fn changed_entities_have_changed_trees()
     ensures { (c : Change) (depth : ℕ) (e : EntityTree)
         → plain_entity (entity_by c depth e) ≡ tree_by c depth (plain_entity e) }
+{}
+
+/// Entities are equal exactly where they have one tree of heads without the places that named types and without naming
+/// bits, and so one number, where no core module of a component's own stands in the second.
+pub fn equal_entities_have_one_bare_tree()
+    ensures { (a b : EntityTree) → IsShown b → (equal a b ≡ true) ↔ (plain_entity (bare a) ≡ plain_entity (bare b)) }
 {}
 
 /// Value types are equal exactly where they have one tree of heads without the places that named types, and so one

@@ -5,6 +5,8 @@
 #![tactic(auto)]
 
 mod head;
+mod intern;
+mod intern_entity;
 mod key;
 pub mod laws;
 mod numbers;
@@ -12,4 +14,4 @@ mod table;
 
 pub use head::Head;
 pub use numbers::Numbers;
-pub use table::TypeTable;
+pub use table::{TypeNumber, TypeTable};

@@ -103,7 +103,7 @@ fn of_resource(number: usize, is_handle: bool) -> Entity {
 }
 
 /// The entity of a word in a row.
-fn entity(alloc: Global, word: &str) -> Result<Entity, Memory> {
+pub fn entity(alloc: Global, word: &str) -> Result<Entity, Memory> {
     match word {
         "list" => Ok(value(ValueShape::ListOf(Box::new(
             alloc,

@@ -1,19 +1,33 @@
-//! Types stand once in a table, with their sizes beside them. The rows were counted by hand.
+//! Types and entities stand once in a table, with their sizes beside them. The rows were counted and written by hand.
 
 ghost use Rattle.std.specs.Prelude.{◌<◌, ◌≤◌, length, IfOk};
-ghost use Rattle.comp_table.specs.Table.{trees};
+ghost use Rattle.comp_entity.specs.Names.{deeper};
 
-use comp_entity::Primitive;
+use crate::entity::entity;
+use comp_entity::{Primitive, ResourceNo, TypeNo};
+use comp_rename::{Renaming, renamed};
 use comp_table::{Head, Numbers, TypeTable};
 use std::alloc::Global;
 use std::test::Fail;
 use warg_values::Memory;
 
+/// Two entities, whether they have one number, and whether they are equal by their numbers.
+const ROWS: [&str; 8] = [
+    "bool bool one equal",
+    "named named one equal",
+    "named renamed two equal",
+    "named list two differs",
+    "file-first file-first one equal",
+    "file-first file-second two differs",
+    "module module one equal",
+    "first second two differs",
+];
+
 /// The number of a tuple of two parts, each of the type of this number.
 fn pair_of(alloc: Global, table: &mut TypeTable, part: usize) -> Result<usize, Memory>
-    requires { part < length (trees table.old) }
-    ensures there { IfOk result (λ n. n < length (trees table.new)) }
-    ensures kept { length (trees table.old) ≤ length (trees table.new) }
+    requires { part < length table.old }
+    ensures there { IfOk result (λ n. n < length table.new) }
+    ensures kept { length table.old ≤ length table.new }
 {
     let mut parts = Vec::new(alloc);
     parts.push(part)?;
@@ -36,5 +50,81 @@ fn a_type_stands_once_with_its_size(rt: HostRuntime) -> Result<(), Fail> {
     assert_eq!(rt; table.depth(four), 3);
     assert_eq!(rt; table.parts(four).len(), 2);
     assert_eq!(rt; matches!(table.head(four), Head::TupleOf), true);
+    Ok(())
+}
+
+/// What is found of the two entities of a row by their numbers, in its words.
+fn outcome(alloc: Global, first: &str, second: &str) -> Result<String, Fail> {
+    let mut table = TypeTable::new(alloc);
+    let first_entity = entity(alloc, first)?;
+    let second_entity = entity(alloc, second)?;
+    let first_number = table.intern(alloc, &first_entity)?;
+    let second_number = table.intern(alloc, &second_entity)?;
+    let numbers = if first_number == second_number {
+        "one"
+    } else {
+        "two"
+    };
+    let equality = if table.equal(first_number, second_number) {
+        "equal"
+    } else {
+        "differs"
+    };
+    Ok(format!(in alloc; "{first} {second} {numbers} {equality}")?)
+}
+
+#[test]
+fn entities_have_one_number_and_are_equal_by_it(rt: HostRuntime) -> Result<(), Fail> {
+    for row in ROWS {
+        let mut words = row.split_whitespace();
+        let first = words.next().unwrap_or("");
+        let second = words.next().unwrap_or("");
+        assert_eq!(rt; outcome(rt.alloc(), first, second)?.as_str(), row);
+    }
+    Ok(())
+}
+
+/// Names as they are called three scopes further in.
+#[derive(Clone, Copy, Debug)]
+struct Deeper;
+
+impl Renaming for Deeper {
+    ghost resources = { λ d. deeper 3 };
+
+    ghost places = { λ d. deeper 3 };
+
+    fn resource(&self, resource: ResourceNo) -> Option<ResourceNo> {
+        let out = resource.out().checked_add(3)?;
+        ResourceNo::new(out, resource.number())
+    }
+
+    fn place(&self, place: TypeNo) -> Option<TypeNo> {
+        let out = place.out().checked_add(3)?;
+        TypeNo::new(out, place.number())
+    }
+}
+
+/// The number of a pair of handles of a resource that is so many scopes further out.
+fn handles(alloc: Global, table: &mut TypeTable, out: usize) -> Result<usize, Memory>
+    ensures { IfOk result (λ n. n < length table.new) }
+{
+    let none = Numbers::from_vec(Vec::new(alloc));
+    let head = match ResourceNo::new(out, 5) {
+        Some(resource) => Head::Own(resource),
+        None => Head::OwnModule,
+    };
+    let handle = table.number_of(alloc, head, none)?;
+    pair_of(alloc, table, handle)
+}
+
+#[test]
+fn a_type_in_other_names_is_the_type_of_the_other_names(rt: HostRuntime) -> Result<(), Fail> {
+    let alloc = rt.alloc();
+    let mut table = TypeTable::new(alloc);
+    let near = handles(alloc, &mut table, 1)?;
+    let moved = renamed(&mut table, alloc, &Deeper, near)?;
+    let far = handles(alloc, &mut table, 4)?;
+    assert_eq!(rt; moved, far);
+    assert_eq!(rt; moved == near, false);
     Ok(())
 }

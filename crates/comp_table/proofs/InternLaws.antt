@@ -1,0 +1,62 @@
+-- Laws of what stands in memory, as trees of heads: each kind by its rows.
+use Rattle.std.specs.Prelude.{◌≡◌, ℕ, List, [], ◌∷◌, map, Option, Some, None, option_map, Box, Vec, refl}
+use Rattle.std.specs.Global.{Global}
+use Rattle.std.proofs.Common.{sym, ◌∙◌, ap}
+use Rattle.comp_entity.specs.declared.entity.ValueShape.{ValueShape, fold-roll-ValueShape}
+use Rattle.comp_entity.specs.declared.entity.ValueShape.TheOpen as layer
+use Rattle.comp_entity.specs.declared.entity.ValueShape.TheVariants as value
+use Rattle.comp_entity.specs.declared.entity.FuncShape.{FuncShape}
+use Rattle.comp_entity.specs.Entity.{Name, ValueTree, RecordOf, VariantOf, TupleOf, ResultOf}
+use Rattle.comp_entity.specs.Views.{value_tree, func_tree, value_step, values_of, fields_of, cases_of, payload_of, boxed}
+use Rattle.comp_table.specs.declared.head.Head.TheVariants as head
+use Rattle.comp_table.specs.Trees.{PlainTree, PlainTrees, tree, more, trees_of}
+use Rattle.comp_table.specs.Plain.{around, around_two, under_label, plain_value, plain_values, plain_cases, plain_payload, plain_result, plain_param, plain_func}
+use Rattle.comp_table.specs.Rows.{value_plain, boxed_plain, held_plain, field_plain, case_plain}
+
+parts_plain : (ts : List ValueShape) → plain_values (values_of (map value_tree ts)) ≡ trees_of (map value_plain ts)
+parts_plain [] = refl
+parts_plain (t ∷ ts) = ap (more (value_plain t)) (parts_plain ts)
+
+fields_plain : (fs : List (List ℕ × ValueShape)) → plain_cases (fields_of (map (λ x. (x.0, value_tree x.1)) fs)) ≡ trees_of (map field_plain fs)
+fields_plain [] = refl
+fields_plain (f ∷ fs) = ap (more (field_plain f)) (fields_plain fs)
+
+cases_plain : (cs : List (List ℕ × Option ValueShape)) → plain_cases (cases_of (map (λ x. (x.0, option_map value_tree x.1)) cs)) ≡ trees_of (map case_plain cs)
+cases_plain [] = refl
+cases_plain (c ∷ cs) = ap (more (case_plain c)) (cases_plain cs)
+
+pub record_is : (p : Option Name) (fs : Vec (List ℕ × ValueShape) Global) → value_plain (value.RecordOf p fs) ≡ tree (head.RecordOf p) (trees_of (map field_plain fs.items))
+record_is p fs = ap value_plain (sym (value.rolls-RecordOf p fs)) ∙ ap plain_value (fold-roll-ValueShape ValueTree value_step (layer.RecordOf p fs)) ∙ ap (tree (head.RecordOf p)) (fields_plain fs.items)
+
+case_mapped : (f : List ℕ × Option ValueShape → List ℕ × Option ValueTree) → ((l : List ℕ) → f (l, None) ≡ (l, None)) → ((l : List ℕ) (v : ValueShape) → f (l, Some v) ≡ (l, Some (value_tree v))) → (l : List ℕ) (o : Option ValueShape) → f (l, o) ≡ (l, option_map value_tree o)
+case_mapped f n s l None = n l
+case_mapped f n s l (Some v) = s l v
+
+cases_mapped : (f : List ℕ × Option ValueShape → List ℕ × Option ValueTree) → ((l : List ℕ) → f (l, None) ≡ (l, None)) → ((l : List ℕ) (v : ValueShape) → f (l, Some v) ≡ (l, Some (value_tree v))) → (p : Option Name) (xs : List (List ℕ × Option ValueShape)) (t : ValueTree) → t ≡ VariantOf p (cases_of (map f xs)) → t ≡ VariantOf p (cases_of (map (λ x. (x.0, option_map value_tree x.1)) xs))
+cases_mapped f n s p xs t e = e ∙ ap (λ (g : List ℕ × Option ValueShape → List ℕ × Option ValueTree). VariantOf p (cases_of (map g xs))) (λ i x. case_mapped f n s x.0 x.1 i)
+
+variant_tree : (p : Option Name) (fs : Vec (List ℕ × Option ValueShape) Global) → value_tree (value.VariantOf p fs) ≡ VariantOf p (cases_of (map (λ x. (x.0, option_map value_tree x.1)) fs.items))
+variant_tree p fs = cases_mapped _ (λ l. refl) (λ l v. refl) p fs.items (value_tree (value.VariantOf p fs)) (ap value_tree (sym (value.rolls-VariantOf p fs)) ∙ fold-roll-ValueShape ValueTree value_step (layer.VariantOf p fs))
+
+pub variant_is : (p : Option Name) (fs : Vec (List ℕ × Option ValueShape) Global) → value_plain (value.VariantOf p fs) ≡ tree (head.VariantOf p) (trees_of (map case_plain fs.items))
+variant_is p fs = ap plain_value (variant_tree p fs) ∙ ap (tree (head.VariantOf p)) (cases_plain fs.items)
+
+pub tuple_is : (ts : Vec ValueShape Global) → value_plain (value.TupleOf ts) ≡ tree head.TupleOf (trees_of (map value_plain ts.items))
+tuple_is ts = ap value_plain (sym (value.rolls-TupleOf ts)) ∙ ap plain_value (fold-roll-ValueShape ValueTree value_step (layer.TupleOf ts)) ∙ ap (tree head.TupleOf) (parts_plain ts.items)
+
+pub result_is : (ok err : Option (Box ValueShape Global)) → value_plain (value.ResultOf ok err) ≡ around_two head.ResultOf (boxed_plain ok) (boxed_plain err)
+result_is None None = ap value_plain (sym (value.rolls-ResultOf None None)) ∙ ap plain_value (fold-roll-ValueShape ValueTree value_step (layer.ResultOf None None))
+result_is None (Some e) = ap value_plain (sym (value.rolls-ResultOf None (Some e))) ∙ ap plain_value (fold-roll-ValueShape ValueTree value_step (layer.ResultOf None (Some e)))
+result_is (Some t) None = ap value_plain (sym (value.rolls-ResultOf (Some t) None)) ∙ ap plain_value (fold-roll-ValueShape ValueTree value_step (layer.ResultOf (Some t) None))
+result_is (Some t) (Some e) = ap value_plain (sym (value.rolls-ResultOf (Some t) (Some e))) ∙ ap plain_value (fold-roll-ValueShape ValueTree value_step (layer.ResultOf (Some t) (Some e)))
+
+result_plain : (r : Option ValueShape) → plain_result (option_map value_tree r) ≡ held_plain r
+result_plain None = refl
+result_plain (Some t) = refl
+
+params_plain : (ps : List (List ℕ × ValueShape)) → map plain_param (map (λ p. (p.0, value_tree p.1)) ps) ≡ map field_plain ps
+params_plain [] = refl
+params_plain (p ∷ ps) = ap (λ xs. field_plain p ∷ xs) (params_plain ps)
+
+pub func_is : (f : FuncShape) → plain_func (func_tree f) ≡ tree head.FuncType (trees_of (held_plain f.result ∷ map field_plain f.params.items))
+func_is f = λ i. tree head.FuncType (more (result_plain f.result i) (trees_of (params_plain f.params.items i)))
