@@ -1,0 +1,4 @@
+pub mod Wiring
+pub mod Spots
+pub mod Origins
+pub mod Wired
