@@ -1,2 +1,11 @@
 pub mod ViewLaws
 pub mod MapLaws
+pub mod PlaceLaws
+pub mod OriginLaws
+pub mod NumberLaws
+pub mod FollowLaws
+pub mod NotedLaws
+pub mod RenameLaws
+pub mod CopyLaws
+pub mod PlacedLaws
+pub mod OnceLaws

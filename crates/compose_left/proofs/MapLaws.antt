@@ -32,7 +32,7 @@ module _ {X Y K : Type 0} (cmp : K → K → Ordering) (f : X → Y) (p : X → 
       ∙ or_one f (find p rest) (p x) x (get cmp old q)
       ∙ ap (λ (o : Option X). option_or (option_map f o) (get cmp old q)) (sym (find-append p rest (x ∷ [])) ∙ ap (λ (xs : List X). find p xs) (sym is))
 
-truth_ties : (a b : Bool) → same_truth a b ≡ is_eq (bool_cmp a b)
+pub truth_ties : (a b : Bool) → same_truth a b ≡ is_eq (bool_cmp a b)
 truth_ties true true = refl
 truth_ties true false = refl
 truth_ties false true = refl

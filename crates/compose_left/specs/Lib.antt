@@ -2,3 +2,5 @@ pub mod Wiring
 pub mod Spots
 pub mod Origins
 pub mod Wired
+pub mod Numbers
+pub mod Renaming

@@ -1,7 +1,6 @@
 -- Origin: where a resource or a named type of an instance comes from. At a path of an import that is wired, it is what
 -- the source of the wire exports there; of an import that is left open, it is the import's.
 use Rattle.std.specs.Prelude.{ℕ, zero, suc, ◌+◌, ◌*◌, Bool, true, false, ◌&&◌, ◌||◌, List, [], ◌∷◌, ◌++◌, length, map, find, fold, Option, Some, None, option_map, slice_get, ◌==◌, if◌then◌else◌, bytes_eq}
-use Rattle.std.specs.Option.{option_map_or}
 use Rattle.std.specs.List.{list_any}
 use Rattle.std.specs.Cmp.Lexicographic.{pointwise}
 use Rattle.comp_entity.specs.Entity.{Name, made, EntityTree, ShapeTree}
@@ -33,9 +32,16 @@ abbrev pub brought_at : ShapeTree → Thing → Option Spot
 brought_at s t = if t.out == 1 then find (names t) (spots s.imports) else None
 
 -- a path of what a wire takes, as one of its source's exports: it takes a whole instance, or one export
+abbrev pub export_name : ShapeTree → Option ℕ → Option (List ℕ)
+export_name s None = None
+export_name s (Some e) = option_map (λ (x : List ℕ × EntityTree). x.0) (slice_get s.exports e)
+
+abbrev pub behind : Option (List ℕ) → Path → Path
+behind None path = path
+behind (Some name) path = name ∷ path
+
 abbrev pub given_path : ShapeTree → Option ℕ → Path → Path
-given_path s None path = path
-given_path s (Some e) path = option_map_or (λ (x : List ℕ × EntityTree). x.0 ∷ path) (slice_get s.exports e) path
+given_path s export path = behind (export_name s export) path
 
 abbrev pub is_exported_at : Bool → Path → Spot → Bool
 is_exported_at is_type path s = same_truth s.what.is_type is_type && same_path (s.name ∷ s.path) path
@@ -89,20 +95,26 @@ is_made (origins.Made i n) = true
 is_made _ = false
 
 abbrev pub with_origin : List Origin → Origin → List Origin
-with_origin os o = if is_made o || list_any (same_origin o) os then os else os ++ o ∷ []
+with_origin os o = if is_made o || list_any (λ p. same_origin p o) os then os else os ++ o ∷ []
 
 -- what the imports of instances bring, in the order of instances and of imports
+abbrev pub held_at : ℕ → Spot → Held
+held_at i s = record { instance = i; thing = s.what }
+
 abbrev pub brought_from : ℕ → List ShapeTree → List Held
 brought_from i [] = []
-brought_from i (s ∷ ss) = map (λ (x : Spot). record { instance = i; thing = x.what }) (spots s.imports) ++ brought_from (suc i) ss
+brought_from i (s ∷ ss) = map (held_at i) (spots s.imports) ++ brought_from (suc i) ss
 
 -- each origin once that something brought has, and that no instance makes
+abbrev pub table_of : Wiring → List Held → List Origin
+table_of w hs = fold (λ os h. with_origin os (origin w h)) [] hs
+
 abbrev pub table : Wiring → List Origin
-table w = fold (λ os h. with_origin os (origin w h)) [] (brought_from 0 w.shapes)
+table w = table_of w (brought_from 0 w.shapes)
 
 abbrev pub place_in : List Origin → Origin → ℕ
 place_in [] o = 0
-place_in (first ∷ rest) o = if same_origin o first then 0 else suc (place_in rest o)
+place_in (first ∷ rest) o = if same_origin first o then 0 else suc (place_in rest o)
 
 -- The number of an origin: no two have one. What instances make counts in turn with what is in the table.
 abbrev pub number_in : ℕ → List Origin → Origin → ℕ

@@ -1,5 +1,6 @@
 -- What maps find, as lists find it.
-use Rattle.std.specs.Prelude.{◌≡◌, ℕ, Bool, true, false, List, [], ◌∷◌, find, option_map}
+use Rattle.std.specs.Borrow.{Bor}
+use Rattle.std.specs.Prelude.{MatchOption, Option, ◌≡◌, ℕ, Bool, true, false, List, [], ◌∷◌, find, option_map}
 use Rattle.std.specs.BTreeMap.{BTreeMap, get}
 use Rattle.std.specs.Cmp.Lexicographic.{slice_cmp}
 use Rattle.std.specs.Ordering.{nat_cmp, bool_cmp, ordering_then}
@@ -13,7 +14,7 @@ use Rattle.compose_left.specs.declared.wiring.Input.{Input}
 use Rattle.compose_left.specs.declared.wiring.Wire.{Wire}
 use Rattle.compose_left.specs.declared.wiring.Wired.{Wired}
 use Rattle.compose_left.specs.Spots.{spots}
-use Rattle.compose_left.specs.Wiring.{Wiring, wire_into, shapes_of}
+use Rattle.compose_left.specs.Wiring.{Wiring, wire_into, shapes_of, no_shape}
 use Rattle.compose_left.specs.Origins.{names, is_exported_at}
 
 abbrev pub thing_cmp : Thing → Thing → Ordering
@@ -38,13 +39,19 @@ ArePlaces (p ∷ ps) (s ∷ ss) = IsPlaces p s × ArePlaces ps ss
 ArePlaces [] (s ∷ ss) = ⊥
 ArePlaces (p ∷ ps) [] = ⊥
 
+-- what was found of an instance, which is not there where nothing was
+abbrev pub IsFound : Option (Bor Places) → ShapeTree → Type 0
+IsFound found s = MatchOption found (s ≡ no_shape) (λ (p : Bor Places). IsPlaces p.now s)
+
 abbrev pub input_cmp : Input → Input → Ordering
 input_cmp a b = ordering_then (nat_cmp a.target b.target) (nat_cmp a.import b.import)
 
 abbrev pub FindsWires : BTreeMap Input Wire → List Wire → Type 0
 FindsWires found wires = (i : Input) → get input_cmp found i ≡ wire_into wires i.target i.import
 
-pub record IsWired (found : Wired) (w : Wiring) : Type 0 where
-  pub shapes : shapes_of found.shapes.now ≡ w.shapes
-  pub places : ArePlaces found.places.items w.shapes
-  pub wires : FindsWires found.wires w.wires
+abbrev pub wiring_of : Wired → Wiring
+wiring_of found = record { shapes = shapes_of found.shapes.now; wires = found.list.now }
+
+pub record IsWired (found : Wired) : Type 0 where
+  pub places : ArePlaces found.places.items (shapes_of found.shapes.now)
+  pub wires : FindsWires found.wires found.list.now
