@@ -9,3 +9,6 @@ pub mod RenameLaws
 pub mod CopyLaws
 pub mod PlacedLaws
 pub mod OnceLaws
+pub mod MergeLaws
+pub mod OrderLaws
+pub mod Rows

@@ -54,12 +54,12 @@ key_is a b e =
     let path = slice_cmp-IsAntisymmetric (slice_cmp-IsAntisymmetric nat_cmp-IsAntisymmetric) a.path b.path g.1 in
     λ i. record { is_given = is_given i; instance = instance i; path = path i }
 
-key_or : (b : Bool) (o p : Option ℕ) → cond b (Some 0) (option_map suc (option_or o p)) ≡ option_or (cond b (Some 0) (option_map suc o)) (option_map suc p)
+pub key_or : (b : Bool) (o p : Option ℕ) → cond b (Some 0) (option_map suc (option_or o p)) ≡ option_or (cond b (Some 0) (option_map suc o)) (option_map suc p)
 key_or true o p = refl
 key_or false None p = refl
 key_or false (Some n) p = refl
 
-map_cond : (b : Bool) (n : ℕ) → option_map suc (cond b (Some n) None) ≡ cond b (Some (suc n)) None
+pub map_cond : (b : Bool) (n : ℕ) → option_map suc (cond b (Some n) None) ≡ cond b (Some (suc n)) None
 map_cond true n = refl
 map_cond false n = refl
 
@@ -70,7 +70,7 @@ key_push k (p ∷ os) o =
     ∙ key_or (same_key (origin_key p) k) (key_place k os) (cond (same_key (origin_key o) k) (Some (length os)) None)
     ∙ ap (λ (r : Option ℕ). option_or (cond (same_key (origin_key p) k) (Some 0) (option_map suc (key_place k os))) r) (map_cond (same_key (origin_key o) k) (length os))
 
-or_none : (o : Option ℕ) → option_or o None ≡ o
+pub or_none : (o : Option ℕ) → option_or o None ≡ o
 or_none None = refl
 or_none (Some n) = refl
 

@@ -4,3 +4,5 @@ pub mod Origins
 pub mod Wired
 pub mod Numbers
 pub mod Renaming
+pub mod Merging
+pub mod Merged

@@ -4,9 +4,11 @@
 #![tactic(auto)]
 
 mod copies;
+mod error;
 mod finding;
 mod known;
 pub mod laws;
+mod merge;
 mod numbering;
 mod origin;
 mod path;
@@ -16,8 +18,10 @@ mod renaming;
 mod spots;
 mod wiring;
 
+pub use error::MergeError;
 pub use finding::origins;
 pub use known::Origins;
+pub use merge::MergedImport;
 pub use origin::Origin;
 pub use path::Path;
-pub use wiring::Wire;
+pub use wiring::{Wire, follows_order};

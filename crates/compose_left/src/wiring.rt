@@ -1,10 +1,10 @@
 //! Wires between instances, and one step along them.
 
-ghost use Rattle.std.specs.Prelude.{◌≡◌, IfOk};
+ghost use Rattle.std.specs.Prelude.{◌≡◌, IfOk, IsTrue};
 ghost use Rattle.std.specs.Option.{option_copied};
 ghost use Rattle.compose_left.specs.Origins.{along, brought_at, export_name, given_at, given_path, step_from};
 ghost use Rattle.compose_left.specs.Wired.{FindsWires, IsFound, IsWired, ArePlaces, wiring_of};
-ghost use Rattle.compose_left.specs.Wiring.{shape_at, shapes_of};
+ghost use Rattle.compose_left.specs.Wiring.{HasNoCircle, shape_at, shapes_of};
 
 use crate::origin::{Held, Origin, Step};
 use crate::path::Path;
@@ -50,6 +50,19 @@ pub struct Wired<'a> {
     pub places: Vec<Places>,
     /// The wire into each import.
     pub wires: BTreeMap<Input, Wire>,
+}
+
+/// Whether each wire comes from an instance that is made before the one that it goes to, which is there: then the wires
+/// have no circle.
+pub fn follows_order(shapes: &[Shape], wires: &[Wire]) -> bool
+    ensures { IsTrue result → HasNoCircle (record { shapes = shapes_of shapes.now; wires = wires.now }) }
+{
+    for wire in wires {
+        if wire.source >= wire.target || wire.target >= shapes.len() {
+            return false;
+        }
+    }
+    true
 }
 
 /// The first wire into each import.
