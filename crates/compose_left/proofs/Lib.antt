@@ -1,0 +1,14 @@
+pub mod ViewLaws
+pub mod MapLaws
+pub mod PlaceLaws
+pub mod OriginLaws
+pub mod NumberLaws
+pub mod FollowLaws
+pub mod NotedLaws
+pub mod RenameLaws
+pub mod CopyLaws
+pub mod PlacedLaws
+pub mod OnceLaws
+pub mod MergeLaws
+pub mod OrderLaws
+pub mod Rows

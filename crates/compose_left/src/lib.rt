@@ -1,0 +1,27 @@
+//! Where the resources and the named types of wired instances come from, and how imports that are left open merge.
+//!
+//! The terms are those of the Component Model's `Explainer.md`.
+#![tactic(auto)]
+
+mod copies;
+mod error;
+mod finding;
+mod known;
+pub mod laws;
+mod merge;
+mod numbering;
+mod origin;
+mod path;
+mod places;
+mod placing;
+mod renaming;
+mod spots;
+mod wiring;
+
+pub use error::MergeError;
+pub use finding::origins;
+pub use known::Origins;
+pub use merge::MergedImport;
+pub use origin::Origin;
+pub use path::Path;
+pub use wiring::{Wire, follows_order};

@@ -1,0 +1,27 @@
+//! Entities with the numbers of origins in place.
+
+ghost use Rattle.std.specs.Prelude.{◌≡◌, IfOk};
+ghost use Rattle.comp_entity.specs.Views.{entity_tree};
+ghost use Rattle.compose_left.specs.Numbers.{AreOrigins};
+ghost use Rattle.compose_left.specs.Origins.{placed};
+ghost use Rattle.compose_left.specs.Wiring.{HasNoCircle, Wiring};
+
+use crate::copies::entity_in;
+use crate::known::Origins;
+use crate::renaming::Renaming;
+use comp_entity::Entity;
+use std::alloc::Global;
+use warg_values::Memory;
+
+impl Origins {
+    /// An entity of an instance, in which each resource and each place that named a type is the number of its origin:
+    /// of what stands in the imports or exports of the instance's shape, at any depth, two are equal exactly where their
+    /// origins are. `Memory` also where a number has no room in a name.
+    pub fn place(&self, alloc: Global, at: usize, entity: &Entity) -> Result<Entity, Memory>
+        ensures { (w : Wiring) → AreOrigins self.now w → HasNoCircle w
+            → IfOk result (λ copy. entity_tree copy ≡ placed w at (entity_tree entity.now)) }
+    {
+        let renaming = Renaming::Placed { origins: self, at };
+        entity_in(alloc, &renaming, 0, entity)
+    }
+}

@@ -1,0 +1,7 @@
+//! Tests of `compose_left`.
+#![tactic(auto)]
+
+#[cfg(test)]
+mod merge;
+#[cfg(test)]
+mod origins;
