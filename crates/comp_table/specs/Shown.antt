@@ -1,5 +1,6 @@
 -- Entities in which no core module of a component's own stands. The type of such a module is not known, so that nothing
 -- equals it, and it is in no shape.
+use Rattle.comp_entity.specs.Views.{Sides}
 use Rattle.comp_entity.specs.Entity.{TypeShapeTree, Value, Resource, Func, Instance, Component, EntityTree, IsType, IsFunc, IsInstance, IsComponent, IsModule, IsOwnModule, Entries, no_entry, entry}
 
 abbrev mutual
@@ -21,3 +22,6 @@ abbrev mutual
   pub AreShown : Entries → Type 0
   AreShown no_entry = Unit {0}
   AreShown (entry name e mark es) = IsShown e × AreShown es
+
+abbrev pub SidesAreShown : Sides → Type 0
+SidesAreShown s = AreShown s.imports × AreShown s.exports

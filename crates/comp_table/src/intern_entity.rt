@@ -1,10 +1,11 @@
 //! Types and entities put into a table.
 
-ghost use Rattle.std.specs.Prelude.{map, IfOk};
-ghost use Rattle.comp_entity.specs.Views.{component_sides, instance_entries};
+ghost use Rattle.std.specs.Prelude.{map, IfOk, OnOk};
+ghost use Rattle.comp_entity.specs.Views.{component_sides, entity_tree, entries_of, instance_entries, named_entities, type_tree};
 ghost use Rattle.comp_table.specs.declared.head.Head.TheVariants as Head;
 ghost use Rattle.comp_table.specs.Plain.{around, around_two, plain_entries};
 ghost use Rattle.comp_table.specs.Rows.{entity_plain, entries_plain, entry_plain, type_plain};
+ghost use Rattle.comp_table.specs.Shown.{AreShown, IsShown, IsShownType, SidesAreShown};
 ghost use Rattle.comp_table.specs.Trees.{AllStand, Extends, Stands, tree};
 
 use crate::head::Head;
@@ -26,6 +27,7 @@ pub fn intern_type(
 ) -> Result<usize, Memory>
     ensures extends { Extends table.old table.new }
     ensures number { IfOk result (λ n. Stands table.new n (type_plain ty.now)) }
+    ensures shown { OnOk result (IsShownType (type_tree ty.now)) }
 {
     match ty {
         TypeShape::Resource(resource) => leaf(table, alloc, Head::Resource(*resource)),
@@ -50,6 +52,7 @@ pub fn intern_entity(
 ) -> Result<usize, Memory>
     ensures extends { Extends table.old table.new }
     ensures number { IfOk result (λ n. Stands table.new n (entity_plain entity.now)) }
+    ensures shown { OnOk result (IsShown (entity_tree entity.now)) }
 {
     match entity {
         Entity::Func(func) => {
@@ -79,6 +82,7 @@ fn intern_instance(
     ensures extends { Extends table.old table.new }
     ensures number { IfOk result (λ n. Stands table.new n
         (tree head (plain_entries (instance_entries instance.now)))) }
+    ensures shown { OnOk result (AreShown (instance_entries instance.now)) }
 {
     let levels = inner(levels)?;
     let parts = intern_entries(table, alloc, levels, &instance.exports)?;
@@ -98,6 +102,7 @@ fn intern_component(
     ensures number { IfOk result (λ n. Stands table.new n
         (around_two head (tree Head.Entries (plain_entries (component_sides component.now).imports))
         (tree Head.Entries (plain_entries (component_sides component.now).exports)))) }
+    ensures shown { OnOk result (SidesAreShown (component_sides component.now)) }
 {
     let levels = inner(levels)?;
     let first = intern_side(table, alloc, levels, &component.imports)?;
@@ -115,6 +120,7 @@ fn intern_side(
 ) -> Result<usize, Memory>
     ensures extends { Extends table.old table.new }
     ensures number { IfOk result (λ n. Stands table.new n (entries_plain entries.now)) }
+    ensures shown { OnOk result (AreShown (entries_of (named_entities entries.now))) }
 {
     let parts = intern_entries(table, alloc, levels, entries)?;
     node(table, alloc, Head::Entries, parts)
@@ -130,6 +136,7 @@ fn intern_entries(
 ) -> Result<Vec<usize>, Memory>
     ensures extends { Extends table.old table.new }
     ensures numbers { IfOk result (λ ns. AllStand table.new ns.items (map entry_plain entries.now)) }
+    ensures shown { OnOk result (AreShown (entries_of (named_entities entries.now))) }
 {
     let mut numbers = Vec::new(alloc);
     for entry in entries {

@@ -1,11 +1,12 @@
 //! Types and entities by number: each stands once.
 
-ghost use Rattle.std.specs.Prelude.{◌≡◌, ◌<◌, ◌↔◌, ◌+◌, ◌++◌, ◌∷◌, [], List, length, map, IfOk, IsTrue, None, max};
+ghost use Rattle.std.specs.Prelude.{◌≡◌, ◌<◌, ◌↔◌, ◌+◌, ◌++◌, ◌∷◌, [], List, length, map, IfOk, IsTrue, None, OnOk, max};
 ghost use Rattle.std.specs.BTreeMap.{get};
 ghost use Rattle.comp_table.specs.declared.table.Node.{Node};
 ghost use Rattle.comp_table.specs.Facts.{capped, head_depth, head_size, tree_depth, tree_size};
 ghost use Rattle.comp_entity.specs.Entity.{EntityTree};
 ghost use Rattle.comp_entity.specs.Fits.{equal};
+ghost use Rattle.comp_entity.specs.Views.{entity_tree};
 ghost use Rattle.comp_table.specs.Changes.{bare_tree};
 ghost use Rattle.comp_table.specs.Plain.{plain_entity, plain_module};
 ghost use Rattle.comp_table.specs.Rows.{entity_plain, type_plain, value_plain};
@@ -322,6 +323,7 @@ impl TypeTable {
     pub fn intern(&mut self, alloc: Global, entity: &Entity) -> Result<TypeNumber, Memory>
         ensures kept { Extends self.old self.new }
         ensures number { IfOk result (λ n. Stands self.new n.0 (entity_plain entity.now)) }
+        ensures shown { OnOk result (IsShown (entity_tree entity.now)) }
     {
         let number = intern_entity(self, alloc, LEVELS, entity)?;
         Ok(TypeNumber(number))

@@ -3,7 +3,6 @@
 ghost use Rattle.std.specs.Prelude.{◌≡◌, ◌<◌, length, IfOk};
 ghost use Rattle.comp_entity.specs.Fits.{equal};
 ghost use Rattle.comp_entity.specs.Views.{entity_tree};
-ghost use Rattle.comp_table.specs.Shown.{IsShown};
 ghost use Rattle.comp_table.specs.Trees.{Extends, Stands, more, none, tree, tree_at};
 
 use comp_entity::Entity;
@@ -29,8 +28,7 @@ pub fn are_equal(
     first: &Entity,
     second: &Entity,
 ) -> Result<bool, Memory>
-    ensures { IfOk result (λ answer. IsShown (entity_tree second.now)
-        → answer ≡ equal (entity_tree first.now) (entity_tree second.now)) }
+    ensures { IfOk result (λ answer. answer ≡ equal (entity_tree first.now) (entity_tree second.now)) }
 {
     let first = table.intern(alloc, first)?;
     let second = table.intern(alloc, second)?;

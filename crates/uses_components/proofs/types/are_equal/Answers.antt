@@ -9,4 +9,4 @@ equal-requires-clause-left c =
 pub returns : goal.returns
 returns c =
     let first = stands_kept _ _ c.in_ok-second.ensures.kept _ _ c.in_ok-first.ensures.number in
-    λ shown. c.equal.ensures.equal (entity_tree c.args.first.now) (entity_tree c.args.second.now) first c.in_ok-second.ensures.number shown
+    c.equal.ensures.equal (entity_tree c.args.first.now) (entity_tree c.args.second.now) first c.in_ok-second.ensures.number c.in_ok-second.ensures.shown
