@@ -6,6 +6,7 @@ use Rattle.std.specs.BTreeMap.{BTreeMap, get}
 use Rattle.std.specs.Cmp.{nat_eq_equiv}
 use Rattle.std.proofs.lemmas.List.Folds.{list_any-append}
 use Rattle.comp_entity.specs.Fits.{same_truth}
+use Rattle.compose_left.proofs.ListLaws.{all_push, or_left, or_right}
 use Rattle.compose_left.specs.declared.spots.Thing.{Thing}
 use Rattle.compose_left.specs.declared.origin.Origin.{Origin}
 use Rattle.compose_left.specs.declared.origin.Held.{Held}
@@ -34,17 +35,6 @@ truth_itself false = refl
 
 pub held_itself : (h : Held) → same_held h h ≡ true
 held_itself h = λ i. nat_eq_equiv.refl h.instance i && (truth_itself h.thing.is_type i && (nat_eq_equiv.refl h.thing.out i && nat_eq_equiv.refl h.thing.number i))
-
-all_push : {X : Type 0} (P : X → Type 0) (xs : List X) (x : X) → AllByRecursion P xs → P x → AllByRecursion P (xs ++ x ∷ [])
-all_push P [] x a h = (h, tt)
-all_push P (y ∷ xs) x a h = (a.0, all_push P xs x a.1 h)
-
-or_left : (a b : Bool) → a ≡ true → (a || b) ≡ true
-or_left a b e = λ i. e i || b
-
-or_right : (a b : Bool) → b ≡ true → (a || b) ≡ true
-or_right true b e = refl
-or_right false b e = e
 
 module _ (w : Wiring) (from held : Held) (trail : List Held) (passed : ℕ) (f : Following w from held trail passed) where
   pushed_alike : AllByRecursion (λ h. origin w h ≡ origin w from) (trail ++ held ∷ [])

@@ -1,3 +1,4 @@
+pub mod ListLaws
 pub mod ViewLaws
 pub mod MapLaws
 pub mod PlaceLaws

@@ -38,9 +38,11 @@ under_place name (y ∷ xs) k x e is = one (bytes_eq name y.0) e (under_place na
     here : (k : ℕ) → 0 ≡ k → x ≡ slice_index_or (y ∷ xs) k x → y ≡ x
     here zero z is = sym is
     here (suc k) z is = absurd (omega (arith, z))
+
     there : (j k : ℕ) → suc j ≡ k → x ≡ slice_index_or (y ∷ xs) k x → x ≡ slice_index_or xs j x
     there j zero z is = absurd (omega (arith, z))
     there j (suc k) z is = let same : k ≡ j = omega (arith, z) in is ∙ ap (λ (i : ℕ). slice_index_or xs i x) same
+
     one : (b : Bool) → cond b (Some 0) (option_map suc (name_place name (named_entities xs))) ≡ Some k
         → ((j : ℕ) (z : List ℕ × Entity) → name_place name (named_entities xs) ≡ Some j → z ≡ slice_index_or xs j z → under name (entries_of (named_entities xs)) ≡ Some (entity_tree z.1, true))
         → cond b (Some (entity_tree y.1, true)) (under name (entries_of (named_entities xs))) ≡ Some (entity_tree x.1, true)

@@ -7,6 +7,7 @@ use Rattle.std.specs.Ordering.{nat_cmp, bool_cmp, ordering_then, is_eq}
 use Rattle.std.proofs.lemmas.Option.{same_Some}
 use Rattle.std.proofs.lemmas.List.{take_more, map-append}
 use Rattle.std.proofs.lemmas.List.Folds.{list_any-append}
+use Rattle.compose_left.proofs.ListLaws.{all_push, or_right}
 use Rattle.compose_left.specs.declared.origin.Origin.{Origin}
 use Rattle.compose_left.specs.declared.origin.Origin.TheVariants as origins
 use Rattle.compose_left.specs.declared.origin.Held.{Held}
@@ -22,10 +23,6 @@ with_cond false os o e = absurd cc
 
 pub with_there : (os : List Origin) (o : Origin) → IsThere os o → with_origin os o ≡ os
 with_there os o t = with_cond (is_made o || list_any (λ p. same_origin p o) os) os o t
-
-or_right : (a b : Bool) → b ≡ true → (a || b) ≡ true
-or_right true b e = refl
-or_right false b e = e
 
 or_longer : (a b c : Bool) → (a || b) ≡ true → (a || (b || c)) ≡ true
 or_longer true b c e = refl
@@ -130,10 +127,6 @@ number_ended w instances os new p o k same is added number = record {
   number = number ∙ (λ i. number_in (same i) new (is i));
   there = subst (λ (ps : List Origin). IsThere ps o) (sym (added ∙ ap (with_origin os) is)) (there_with os o);
 }
-
-all_push : {X : Type 0} (P : X → Type 0) (xs : List X) (x : X) → AllByRecursion P xs → P x → AllByRecursion P (xs ++ x ∷ [])
-all_push P [] x a h = (h, tt)
-all_push P (y ∷ xs) x a h = (a.0, all_push P xs x a.1 h)
 
 all_weaker : {X : Type 0} (P Q : X → Type 0) (xs : List X) → ((x : X) → P x → Q x) → AllByRecursion P xs → AllByRecursion Q xs
 all_weaker P Q [] f a = tt

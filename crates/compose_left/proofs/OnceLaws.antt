@@ -54,6 +54,7 @@ place_is (o ∷ os) a b p q f g e = one (same_origin o a) (same_origin o b) refl
         one_of (origins.Made i n) (origins.Left m y) h r = absurd cc
         one_of (origins.Made i n) (origins.Given m y) h r = absurd cc
         one_of (origins.Made i n) (origins.Made m y) h r = absurd cc
+
     one : (s t : Bool) → same_origin o a ≡ s → same_origin o b ≡ t → (s || list_any (λ p. same_origin p a) os) ≡ true → (t || list_any (λ p. same_origin p b) os) ≡ true
         → cond s 0 (suc (place_in os a)) ≡ cond t 0 (suc (place_in os b))
         → (list_any (λ p. same_origin p a) os ≡ true → list_any (λ p. same_origin p b) os ≡ true → place_in os a ≡ place_in os b → a ≡ b) → a ≡ b

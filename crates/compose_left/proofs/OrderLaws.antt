@@ -6,16 +6,13 @@ use Rattle.std.specs.List.{AllByRecursion}
 use Rattle.std.proofs.lemmas.List.{take_more}
 use Rattle.std.proofs.lemmas.Option.{same_Some}
 use Rattle.comp_entity.specs.Entity.{ShapeTree}
+use Rattle.compose_left.proofs.ListLaws.{all_push}
 use Rattle.compose_left.specs.declared.wiring.Wire.{Wire}
 use Rattle.compose_left.specs.Wiring.{Wiring, HasNoCircle, is_into, wire_into}
 
 pub record IsForward (n : ℕ) (w : Wire) : Type 0 where
   pub later : w.source < w.target
   pub there : w.target < n
-
-all_push : {X : Type 0} (P : X → Type 0) (xs : List X) (x : X) → AllByRecursion P xs → P x → AllByRecursion P (xs ++ x ∷ [])
-all_push P [] x a h = (h, tt)
-all_push P (y ∷ xs) x a h = (a.0, all_push P xs x a.1 h)
 
 pub forward_step : (n : ℕ) (ws : List Wire) (i : ℕ) (d : Wire) → i < length ws → AllByRecursion (IsForward n) (take i ws) → (slice_index_or ws i d).source < (slice_index_or ws i d).target → (slice_index_or ws i d).target < n
     → AllByRecursion (IsForward n) (take (i + 1) ws)

@@ -6,7 +6,9 @@ ghost use Rattle.comp_entity.specs.Views.{component_sides, entity_tree, named_en
 ghost use Rattle.compose_left.specs.Renaming.{change_of, entry_by, sides_by};
 
 use crate::renaming::{Renaming, func_in, resource_in, value_in};
-use comp_entity::{ComponentShape, CoreShape, CoreVal, Entity, InstanceShape, ModuleShape, TypeShape};
+use comp_entity::{
+    ComponentShape, CoreShape, CoreVal, Entity, InstanceShape, ModuleShape, TypeShape,
+};
 use std::alloc::Global;
 use warg_values::{Memory, Sequence, Text};
 

@@ -7,7 +7,7 @@ use warg_values::{Memory, Text};
 #[derive(Debug, Drop, Error)]
 pub enum MergeError {
     /// Two instances need different things under this name.
-    #[error("the import `{0}` is needed as two things that are not equal: connect one of them, or take releases that agree")]
+    #[error("the import `{0}` is needed as two unequal things: connect one of them, or take releases that agree")]
     Disagree(Text),
     /// No memory was left.
     #[error("out of memory: free some, or give the program more, and try again")]

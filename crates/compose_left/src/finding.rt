@@ -10,8 +10,8 @@ ghost use Rattle.compose_left.specs.Spots.{spots};
 ghost use Rattle.compose_left.specs.Wired.{IsWired, wiring_of};
 ghost use Rattle.compose_left.specs.Wiring.{HasNoCircle, Wiring, shapes_of};
 
-use crate::numbering::{OriginKey, Reached, follow, note_all, number_of};
 use crate::known::Origins;
+use crate::numbering::{OriginKey, Reached, follow, note_all, number_of};
 use crate::origin::{Held, Origin};
 use crate::spots::{Spot, spots};
 use crate::wiring::{Wire, Wired, wired_of};

@@ -14,8 +14,8 @@ use std::alloc::Global;
 use warg_values::Memory;
 
 impl Origins {
-    /// An entity of an instance, in which each resource and each place that named a type is the number of its origin:
-    /// of what stands in the imports or exports of the instance's shape, at any depth, two are equal exactly where their
+    /// An entity of an instance, in which each resource and each place that named a type is the number of its origin. Of
+    /// what stands in the imports or exports of the instance's shape, at any depth, two are equal exactly where their
     /// origins are. `Memory` also where a number has no room in a name.
     pub fn place(&self, alloc: Global, at: usize, entity: &Entity) -> Result<Entity, Memory>
         ensures { (w : Wiring) → AreOrigins self.now w → HasNoCircle w

@@ -9,7 +9,7 @@ use crate::known::Origins;
 use crate::numbering::in_turn;
 use crate::origin::Held;
 use crate::spots::Thing;
-use comp_entity::{ResourceNo, TypeNo, ValueShape, FuncShape};
+use comp_entity::{FuncShape, ResourceNo, TypeNo, ValueShape};
 use std::alloc::Global;
 use warg_values::{Memory, Sequence, Text};
 
@@ -19,10 +19,7 @@ pub enum Renaming<'a> {
     /// They stay.
     Same,
     /// A thing of an instance becomes the number of its origin.
-    Placed {
-        origins: &'a Origins,
-        at: usize,
-    },
+    Placed { origins: &'a Origins, at: usize },
 }
 
 /// The number of the origin of a thing of an instance.
@@ -37,7 +34,11 @@ fn number_held(origins: &Origins, held: Held) -> Result<usize, Memory>
 
 /// A resource that is mentioned so many scopes deep, by its changed name. `Memory` also where there is no room for the
 /// name.
-pub fn resource_in(renaming: &Renaming<'_>, depth: usize, name: ResourceNo) -> Result<ResourceNo, Memory>
+pub fn resource_in(
+    renaming: &Renaming<'_>,
+    depth: usize,
+    name: ResourceNo,
+) -> Result<ResourceNo, Memory>
     ensures { IfOk result (λ changed. changed ≡ (change_of renaming.now).resource depth name) }
 {
     match renaming {

@@ -157,7 +157,14 @@ pub fn spots(alloc: Global, entries: &[(Text, Entity)]) -> Result<Vec<Spot>, Mem
 {
     let mut found = Vec::new(alloc);
     for (number, entry) in entries.iter().enumerate() {
-        push_spots(alloc, number, &entry.0, &Path::new(alloc), &entry.1, &mut found)?;
+        push_spots(
+            alloc,
+            number,
+            &entry.0,
+            &Path::new(alloc),
+            &entry.1,
+            &mut found,
+        )?;
     }
     Ok(found)
 }

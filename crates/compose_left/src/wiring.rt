@@ -99,7 +99,8 @@ pub fn wired_of<'a>(
     wires: &'a [Wire],
 ) -> Result<Wired<'a>, Memory>
     ensures found { IfOk result (λ found. IsWired found) }
-    ensures wiring { IfOk result (λ found. wiring_of found ≡ record { shapes = shapes_of shapes.now; wires = wires.now }) }
+    ensures wiring { IfOk result (λ found.
+        wiring_of found ≡ record { shapes = shapes_of shapes.now; wires = wires.now }) }
 {
     let places = all_places(alloc, shapes)?;
     let wires_found = wires_by_import(alloc, wires)?;
