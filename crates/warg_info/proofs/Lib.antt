@@ -1,0 +1,4 @@
+pub mod KeptLaws
+pub mod SoundLaws
+pub mod FaultLaws
+pub mod GrowsLaws
