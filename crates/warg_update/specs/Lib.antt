@@ -1,0 +1,5 @@
+pub mod Logs
+pub mod Proved
+pub mod Signature
+pub mod Succession
+pub mod Views
