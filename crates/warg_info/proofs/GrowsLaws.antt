@@ -53,3 +53,32 @@ pub grows-whole : (kind : Kind) (old : List Kept) (ps : List PublishedRecord) (n
 grows-whole kind old ps new empty above grows =
     let from_none : Grows kind [] ps new = subst (λ (l : List Kept). Grows kind l ps new) empty grows in
     subst (AreKeptAs kind ps) (sym from_none.2) (subst (λ (l : List PublishedRecord). AreKeptAs kind l from_none.0) (all-new None ps above) from_none.1)
+
+-- by the first record, and then by the others
+first_by : (kind : Kind) (old new : List Kept) (p : PublishedRecord) (ps : List PublishedRecord) (b : Bool) (more : List Kept) → is_above p.registry_index (last_index old) ≡ b
+    → AreKeptAs kind (cond b (p ∷ new_after (Some p.registry_index) ps) (new_after (last_index old) ps)) more → new ≡ old ++ more
+    → (mid : List Kept) × Grows kind old (p ∷ []) mid × Grows kind mid ps new
+first_by kind old new p ps true [] above are is = absurd are
+first_by kind old new p ps true (k ∷ more) above are is =
+    let last : last_index (old ++ k ∷ []) ≡ Some p.registry_index = ap index_of (last-push old k) ∙ ap (λ i. Some i) are.0.registry_index in
+    (old ++ k ∷ [], grows-one kind old p k above are.0, (more, subst (λ (i : Option ℕ). AreKeptAs kind (new_after i ps) more) (sym last) are.1, is ∙ sym (append_assoc old (k ∷ []) more)))
+first_by kind old new p ps false more below are is = (old, grows-over kind old p below, (more, are, is))
+
+grows-first : (kind : Kind) (old new : List Kept) (p : PublishedRecord) (ps : List PublishedRecord) → Grows kind old (p ∷ ps) new → (mid : List Kept) × Grows kind old (p ∷ []) mid × Grows kind mid ps new
+unfolding new_after
+grows-first kind old new p ps grows = first_by kind old new p ps (is_above p.registry_index (last_index old)) grows.0 refl grows.1 grows.2
+
+no_more : (kind : Kind) (old mid : List Kept) (more : List Kept) → AreKeptAs kind [] more → mid ≡ old ++ more → mid ≡ old
+no_more kind old mid [] are is = is ∙ append-nil old
+no_more kind old mid (k ∷ more) are is = absurd are
+
+grows-nothing : (kind : Kind) (old mid : List Kept) → Grows kind old [] mid → mid ≡ old
+unfolding new_after
+grows-nothing kind old mid grows = no_more kind old mid grows.0 grows.1 grows.2
+
+-- by some records, and then by others
+pub grows-append : (kind : Kind) (old mid new : List Kept) (ps qs : List PublishedRecord) → Grows kind old ps mid → Grows kind mid qs new → Grows kind old (ps ++ qs) new
+grows-append kind old mid new [] qs first rest = subst (λ (l : List Kept). Grows kind l qs new) (grows-nothing kind old mid first) rest
+grows-append kind old mid new (p ∷ ps) qs first rest =
+    let parts = grows-first kind old mid p ps first in
+    grows-more kind old parts.0 new p (ps ++ qs) parts.1 (grows-append kind parts.0 mid new ps qs parts.2 rest)

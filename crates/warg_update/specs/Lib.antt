@@ -3,3 +3,5 @@ pub mod Proved
 pub mod Signature
 pub mod Succession
 pub mod Views
+pub mod Steps
+pub mod PageFaults
