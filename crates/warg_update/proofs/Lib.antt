@@ -1,2 +1,6 @@
 pub mod PagesLaws
 pub mod HeadLaws
+pub mod ListedLaws
+pub mod InfosLaws
+pub mod PlaceLaws
+pub mod PageLaws

@@ -2,9 +2,11 @@
 #![tactic(auto)]
 
 mod heads;
+mod page;
 mod signature;
 mod succession;
 
 pub use heads::{LogHeads, heads_of};
+pub use page::PageError;
 pub use signature::{SignatureError, check_signature};
 pub use succession::{Succession, compare};
