@@ -1,6 +1,6 @@
 -- Where a list has an element that passes a test.
-use Rattle.std.proofs.Common.{◌≡◌, ◌≢◌, ◌<◌, ◌∷◌, [], List, ℕ, zero, suc, Bool, true, false, Option, Some, None, refl, sym, ◌∙◌, ap, subst, length, get_or}
-use Rattle.std.specs.Prelude.{slice_get, IfSome, IfNone, is_some, ◌||◌, position}
+use Rattle.std.proofs.Common.{◌≡◌, ◌≢◌, ◌<◌, ◌++◌, ◌∷◌, [], List, ℕ, zero, suc, Bool, true, false, Option, Some, None, refl, sym, ◌∙◌, ap, subst, length, get_or, take, arith}
+use Rattle.std.specs.Prelude.{slice_get, IfSome, IfNone, is_some, cond, ◌||◌, position}
 use Rattle.std.specs.List.{list_any}
 use Rattle.std.proofs.lemmas.Bool.{false≢true}
 use Rattle.std.proofs.lemmas.Option.{slice_get-get_or}
@@ -31,3 +31,25 @@ absent-from t keys id passes none i there = false≢true (sym (none_passes t key
 pub absent-all : (t : List ℕ → Bool) (keys : List (List ℕ)) (id : List ℕ) (r : Option ℕ) → is_some r ≡ list_any t keys → t id ≡ true → IfNone r ((i : ℕ) → slice_get keys i ≢ Some id)
 absent-all t keys id None none passes = absent-from t keys id passes (sym none)
 absent-all t keys id (Some at) none passes = tt
+
+new_key : (t : List ℕ → Bool) (keys : List (List ℕ)) (k : List ℕ) → ((x : List ℕ) → t x ≡ true → k ≡ x) → ((i : ℕ) → slice_get keys i ≢ Some k) → list_any t keys ≡ false
+new_key t [] k sound absent = refl
+new_key t (x ∷ xs) k sound absent = by_test (t x) refl (new_key t xs k sound (λ i. absent (suc i)))
+  where
+    by_test : (b : Bool) → t x ≡ b → list_any t xs ≡ false → (b || list_any t xs) ≡ false
+    by_test true is rest = absurd (absent 0 (ap (λ (y : List ℕ). Some y) (sym (sound x is))))
+    by_test false is rest = rest
+
+-- a new key goes last
+pub goes-last : (t : List ℕ → Bool) (keys news : List (List ℕ)) (k : List ℕ) → ((x : List ℕ) → t x ≡ true → k ≡ x) → ((i : ℕ) → slice_get keys i ≢ Some k) → news ≡ cond (list_any t keys) keys (keys ++ k ∷ []) → news ≡ keys ++ k ∷ []
+goes-last t keys news k sound absent is = is ∙ rw (new_key t keys k sound absent) refl
+
+in-front : (xs : List (List ℕ)) (n i : ℕ) (x : List ℕ) → slice_get (take n xs) i ≡ Some x → (i < n) × (slice_get xs i ≡ Some x)
+in-front xs zero i x there = absurd cc
+in-front [] (suc n) i x there = absurd cc
+in-front (y ∷ xs) (suc n) zero x there = (omega arith, there)
+in-front (y ∷ xs) (suc n) (suc i) x there = let rest = in-front xs n i x there in (omega (arith, rest.0), rest.1)
+
+-- the key at a place does not stand before it, where no two are the same
+pub not-before : (xs : List (List ℕ)) (n : ℕ) (x : List ℕ) → ((i j : ℕ) (id : List ℕ) → slice_get xs i ≡ Some id → slice_get xs j ≡ Some id → i ≡ j) → slice_get xs n ≡ Some x → (i : ℕ) → slice_get (take n xs) i ≢ Some x
+not-before xs n x distinct there i before = let front = in-front xs n i x before in absurd (omega (arith, front.0, distinct i n x front.1 there))

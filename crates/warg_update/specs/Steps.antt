@@ -11,10 +11,14 @@ use Rattle.warg_info.specs.Info.{package_log, IsSoundPackage, operator_log, IsSo
 abbrev pub id_of : PackageInfo → List ℕ
 id_of info = package_log_id info.name
 
+-- no two are the same
+abbrev pub AreDistinct : List (List ℕ) → Type 0
+AreDistinct ids = (i j : ℕ) (id : List ℕ) → slice_get ids i ≡ Some id → slice_get ids j ≡ Some id → i ≡ j
+
 -- these are the ids of the packages' logs, in order, and no two are the same
 pub record HaveIds (ids : List (List ℕ)) (infos : List PackageInfo) : Type 0 where
   pub in_order : ids ≡ map id_of infos
-  pub distinct : (i j : ℕ) (id : List ℕ) → slice_get ids i ≡ Some id → slice_get ids j ≡ Some id → i ≡ j
+  pub distinct : AreDistinct ids
 
 -- an info is sound, and its log lawful by these signatures
 pub record IsGood (accepts : Accepts) (info : PackageInfo) : Type 0 where

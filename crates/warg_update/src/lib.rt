@@ -2,11 +2,16 @@
 #![tactic(auto)]
 
 mod heads;
+mod ids;
+mod inclusion;
+pub mod laws;
 mod page;
 mod signature;
 mod succession;
 
 pub use heads::{LogHeads, heads_of};
-pub use page::PageError;
+pub use ids::log_ids;
+pub use inclusion::verify_heads;
+pub use page::{PageError, take_page};
 pub use signature::{SignatureError, check_signature};
 pub use succession::{Succession, compare};
