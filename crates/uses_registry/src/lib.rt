@@ -14,5 +14,6 @@ pub mod prover;
 pub mod record;
 pub mod registry_url;
 pub mod request;
+pub mod update;
 pub mod values;
 pub mod verify;

@@ -1,5 +1,5 @@
 -- The last of a log that is kept, and places that ascend.
-use Rattle.std.proofs.Common.{◌≡◌, ◌+◌, ◌-◌, ◌++◌, ◌∷◌, [], List, ℕ, zero, suc, true, Option, Some, None, refl, sym, ◌∙◌, ap, arith, length, map}
+use Rattle.std.proofs.Common.{◌≡◌, ◌-◌, ◌++◌, ◌∷◌, [], List, true, Option, Some, None, refl, ◌∙◌, ap, arith, length, map}
 use Rattle.std.specs.Prelude.{slice_get}
 use Rattle.warg_log.specs.History.{last_or}
 use Rattle.warg_info.specs.Kept.{Kept, last_kept, index_of, is_above, AreAbove}

@@ -2,3 +2,4 @@ pub mod KeptLaws
 pub mod SoundLaws
 pub mod FaultLaws
 pub mod GrowsLaws
+pub mod Rows

@@ -1,10 +1,9 @@
 -- A sound log with one record more.
 use Rattle.std.proofs.Common.{◌≡◌, ◌++◌, ◌∷◌, [], List, true, sym, ◌∙◌, ap, subst}
-use Rattle.std.specs.List.{AllByRecursion}
 use Rattle.std.proofs.lemmas.List.{map_push}
 use Rattle.warg_record.specs.Record.{Kind, PlainEntry}
 use Rattle.warg_record.specs.Envelope.{Signed}
-use Rattle.warg_log.specs.Follows.{Follows, IsReplayOf}
+use Rattle.warg_log.specs.Follows.{Follows}
 use Rattle.warg_log.specs.Lawful.{IsLawful, IsRead, AreRead}
 use Rattle.warg_log.specs.Rules.{any_signature}
 use Rattle.warg_info.specs.declared.log.LogInfo.{LogInfo}

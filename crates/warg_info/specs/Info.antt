@@ -1,9 +1,7 @@
 -- What clauses see of a log that is kept, and when it is sound.
-use Rattle.std.specs.Prelude.{◌≡◌, List, map}
+use Rattle.std.specs.Prelude.{List, map}
 use Rattle.warg_record.specs.Record.{Kind, PlainEntry, Operator, Package}
 use Rattle.warg_record.specs.View.{envelope_view, operator_entry_view, package_entry_view}
-use Rattle.warg_record.specs.declared.operator.OperatorEntry.{OperatorEntry}
-use Rattle.warg_record.specs.declared.package.PackageEntry.{PackageEntry}
 use Rattle.warg_log.specs.Follows.{IsReplayOf}
 use Rattle.warg_log.specs.Lawful.{IsLawful, AreRead}
 use Rattle.warg_log.specs.Rules.{Accepts}

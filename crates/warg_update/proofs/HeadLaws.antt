@@ -5,7 +5,6 @@ use Rattle.std.specs.List.{filter_map}
 use Rattle.std.proofs.lemmas.List.{map_push, map-append}
 use Rattle.std.proofs.lemmas.List.Elements.{filter_map-append}
 use Rattle.warg_hash.specs.Hash.{operator_log_id, package_log_id}
-use Rattle.warg_proof.specs.declared.leaf.LogLeaf.{LogLeaf}
 use Rattle.warg_log.specs.declared.head.Head.{Head}
 use Rattle.warg_log.specs.Rules.{head_of, head_from}
 use Rattle.warg_log.specs.History.{last_or}

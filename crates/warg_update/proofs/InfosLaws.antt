@@ -1,5 +1,5 @@
 -- Infos of packages, found by the ids of their logs.
-use Rattle.std.proofs.Common.{◌≡◌, ◌≢◌, ◌<◌, ◌∷◌, [], List, ℕ, zero, suc, Some, refl, sym, ◌∙◌, ap, subst, map, length, get_or}
+use Rattle.std.proofs.Common.{◌≡◌, ◌≢◌, ◌∷◌, [], List, ℕ, zero, suc, Some, sym, ◌∙◌, ap, subst, map, get_or}
 use Rattle.std.specs.Prelude.{slice_get, slice_set, option_map, Contains}
 use Rattle.std.proofs.lemmas.List.{map-set}
 use Rattle.std.proofs.Math.Seq.{map-set_same}
@@ -33,8 +33,8 @@ listed-one keys xs id ps at p q ids found there same_name grows =
     let key_there : slice_get keys at ≡ Some (package_log_id p.name) = ap (λ (l : List (List ℕ)). slice_get l at) ids.in_order ∙ id-at xs at (package_view p) view_there in
     let named : id ≡ package_log_id p.name = cc in
     subst (EachGrows ((id, ps) ∷ []) logs) (sym (map-set package_view xs at q))
-      (each-one id ps logs at (package_view p) (package_view q) view_there named same_name grows
-        (λ i r at_i e. ids.distinct i at id (ap (λ (l : List (List ℕ)). slice_get l i) ids.in_order ∙ id-at xs i r at_i ∙ ap (λ (k : List ℕ). Some k) (sym e)) found))
+    (each-one id ps logs at (package_view p) (package_view q) view_there named same_name grows
+    (λ i r at_i e. ids.distinct i at id (ap (λ (l : List (List ℕ)). slice_get l i) ids.in_order ∙ id-at xs i r at_i ∙ ap (λ (k : List ℕ). Some k) (sym e)) found))
 
 pub no-id : (keys : List (List ℕ)) (xs : List PackageInfo) (id : List ℕ) → HaveIds keys xs → ((i : ℕ) → slice_get keys i ≢ Some id) → (i : ℕ) (r : List ℕ × List Kept) → slice_get (map package_view xs) i ≡ Some r → id ≢ package_log_id r.0
 no-id keys xs id ids absent i r there e = absent i (ap (λ (l : List (List ℕ)). slice_get l i) ids.in_order ∙ id-at xs i r there ∙ ap (λ (k : List ℕ). Some k) (sym e))
@@ -46,9 +46,9 @@ listed-none keys xs id ps ids absent = each-other id ps (map package_view xs) (n
 -- an info in the place of another of its name
 pub ids-set : (keys : List (List ℕ)) (xs : List PackageInfo) (at : ℕ) (p q : PackageInfo) → HaveIds keys xs → p ≡ get_or xs at p → q.name ≡ p.name → HaveIds keys (slice_set xs at q)
 ids-set keys xs at p q ids is same_name = record {
-    in_order = ids.in_order ∙ sym (map-set_same id_of xs at q p (ap package_log_id same_name ∙ ap id_of is));
-    distinct = ids.distinct;
-  }
+  in_order = ids.in_order ∙ sym (map-set_same id_of xs at q p (ap package_log_id same_name ∙ ap id_of is));
+  distinct = ids.distinct;
+}
 
 -- the fault of a package's records is one of what is listed for its id
 pub listed-fault : (e : PageError) (accepts : Accepts) (keys : List (List ℕ)) (xs : List PackageInfo) (id : List ℕ) (ps : List PublishedRecord) (at : ℕ) (p : PackageInfo) → HaveIds keys xs → slice_get keys at ≡ Some id → slice_get xs at ≡ Some p

@@ -4,3 +4,5 @@ pub mod ListedLaws
 pub mod InfosLaws
 pub mod PlaceLaws
 pub mod PageLaws
+pub mod PresenceLaws
+pub mod Rows

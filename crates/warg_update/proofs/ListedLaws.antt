@@ -1,10 +1,8 @@
 -- What a page lists for one log, and for several in turn.
-use Rattle.std.proofs.Common.{◌≡◌, ◌≢◌, ◌<◌, ◌+◌, ◌++◌, ◌∷◌, [], List, ℕ, zero, suc, Bool, true, false, Option, Some, None, refl, sym, ◌∙◌, ap, subst, map, length, append_assoc, append-nil, arith, Decides}
+use Rattle.std.proofs.Common.{◌≡◌, ◌≢◌, ◌++◌, ◌∷◌, [], List, ℕ, zero, suc, Bool, true, false, Some, refl, sym, ◌∙◌, ap, subst, append-nil, arith}
 use Rattle.std.specs.Prelude.{slice_get, slice_set, cond, bytes_eq}
-use Rattle.std.specs.List.{flat_map}
 use Rattle.std.proofs.lemmas.Grind.{flat_map-append}
 use Rattle.std.proofs.lemmas.Slice.Eq.{bytes_eq-Decides}
-use Rattle.std.proofs.lemmas.Bool.{false≢true}
 use Rattle.warg_hash.specs.Hash.{package_log_id}
 use Rattle.warg_record.specs.Record.{Kind, Package}
 use Rattle.warg_exchange.specs.declared.logs.PublishedRecord.{PublishedRecord}
@@ -46,15 +44,17 @@ pub each-one : (id : List ℕ) (ps : List PublishedRecord) (logs : List (List �
     → EachGrows ((id, ps) ∷ []) logs (slice_set logs at q)
 each-one id ps [] at p q there is named grows only = absurd cc
 each-one id ps (r ∷ logs) zero p q there is named grows only =
-    let same : r ≡ p = cc in
-    (named ∙ ap (λ (x : List ℕ × List Kept). x.0) (sym same),
-     subst (λ (l : List PublishedRecord). Grows Package r.1 l q.1) (sym (brought_here id (package_log_id r.0) ps (is ∙ ap (λ (x : List ℕ × List Kept). package_log_id x.0) (sym same))))
-       (subst (λ (x : List ℕ × List Kept). Grows Package x.1 ps q.1) (sym same) grows),
-     each-other id ps logs (λ i s at_i e. absurd (omega (arith, only (suc i) s at_i e))))
-each-one id ps (r ∷ logs) (suc at) p q there is named grows only =
-    (refl,
-     subst (λ (l : List PublishedRecord). Grows Package r.1 l r.1) (sym (brought_not id (package_log_id r.0) ps (λ e. absurd (omega (arith, only 0 r refl e))))) (grows-none r.1),
-     each-one id ps logs at p q there is named grows (λ i s at_i e. omega (arith, only (suc i) s at_i e)))
+    let same : r ≡ p = cc in (
+      named ∙ ap (λ (x : List ℕ × List Kept). x.0) (sym same),
+      subst (λ (l : List PublishedRecord). Grows Package r.1 l q.1) (sym (brought_here id (package_log_id r.0) ps (is ∙ ap (λ (x : List ℕ × List Kept). package_log_id x.0) (sym same))))
+          (subst (λ (x : List ℕ × List Kept). Grows Package x.1 ps q.1) (sym same) grows),
+      each-other id ps logs (λ i s at_i e. absurd (omega (arith, only (suc i) s at_i e))),
+    )
+each-one id ps (r ∷ logs) (suc at) p q there is named grows only = (
+  refl,
+  subst (λ (l : List PublishedRecord). Grows Package r.1 l r.1) (sym (brought_not id (package_log_id r.0) ps (λ e. absurd (omega (arith, only 0 r refl e))))) (grows-none r.1),
+  each-one id ps logs at p q there is named grows (λ i s at_i e. omega (arith, only (suc i) s at_i e)),
+)
 
 -- ---- several logs in turn
 
@@ -72,8 +72,9 @@ each-more goes_on l rest (p ∷ olds) [] news first others = absurd first
 each-more goes_on l rest (p ∷ olds) (q ∷ mids) [] first others = absurd others
 each-more goes_on l rest (p ∷ olds) (q ∷ mids) (r ∷ news) first others =
     let id = package_log_id p.0 in
-    let tail : Grows Package q.1 (brought id rest) r.1 = subst (λ (name : List ℕ). Grows Package q.1 (brought (package_log_id name) rest) r.1) first.0 others.1 in
-    (others.0 ∙ first.0,
-     subst (λ (ps : List PublishedRecord). Grows Package p.1 ps r.1) (sym (flat_map-append (λ (m : List ℕ × List PublishedRecord). cond (bytes_eq m.0 id) m.1 []) (l ∷ []) rest))
-       (goes_on Package p.1 q.1 r.1 (brought id (l ∷ [])) (brought id rest) first.1 tail),
-     each-more goes_on l rest olds mids news first.2 others.2)
+    let tail : Grows Package q.1 (brought id rest) r.1 = subst (λ (name : List ℕ). Grows Package q.1 (brought (package_log_id name) rest) r.1) first.0 others.1 in (
+      others.0 ∙ first.0,
+      subst (λ (ps : List PublishedRecord). Grows Package p.1 ps r.1) (sym (flat_map-append (λ (m : List ℕ × List PublishedRecord). cond (bytes_eq m.0 id) m.1 []) (l ∷ []) rest))
+          (goes_on Package p.1 q.1 r.1 (brought id (l ∷ [])) (brought id rest) first.1 tail),
+      each-more goes_on l rest olds mids news first.2 others.2,
+    )

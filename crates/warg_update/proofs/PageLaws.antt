@@ -1,5 +1,5 @@
 -- The fault of a page, by that of its packages' lists.
-use Rattle.std.proofs.Common.{◌≡◌, ◌∷◌, [], ◌⊎◌, inl, inr, List, ℕ}
+use Rattle.std.proofs.Common.{◌∷◌, [], inl, inr, List, ℕ}
 use Rattle.warg_record.specs.Record.{Operator}
 use Rattle.warg_log.specs.Rules.{Accepts}
 use Rattle.warg_exchange.specs.declared.logs.PublishedRecord.{PublishedRecord}

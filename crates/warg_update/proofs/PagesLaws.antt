@@ -1,5 +1,5 @@
 -- Pages in turn, and what an update proves in the end.
-use Rattle.std.proofs.Common.{◌≡◌, ◌++◌, ◌∷◌, [], ◌⊎◌, inl, inr, List, ℕ, Bool, true, false, Option, Some, None, refl, sym, ◌∙◌, ap, subst, append_assoc}
+use Rattle.std.proofs.Common.{◌≡◌, ◌++◌, ◌∷◌, [], inl, inr, List, ℕ, Bool, true, false, Option, refl, sym, ◌∙◌, ap, subst, append_assoc}
 use Rattle.warg_log.specs.Rules.{Accepts}
 use Rattle.warg_exchange.specs.declared.exchange.Exchange.{Exchange}
 use Rattle.warg_exchange.specs.declared.checkpoint.SignedCheckpoint.{SignedCheckpoint}
@@ -23,30 +23,30 @@ opens-first a start x c asks = record { first = x; pages = []; in_turn = refl; a
 pub opens-push : (a : Asker) (start : Start) (xs : List Exchange) (c : SignedCheckpoint) (mid after : Logs) (x : Exchange) (more : Bool) → Opens a start xs c mid true → Turns a c.contents.log_length mid x after more
     → Opens a start (xs ++ x ∷ []) c after more
 opens-push a start xs c mid after x more opens turn = record {
-    first = opens.first;
-    pages = opens.pages ++ x ∷ [];
-    in_turn = ap (λ (l : List Exchange). l ++ x ∷ []) opens.in_turn;
-    asks_checkpoint = opens.asks_checkpoint;
-    asks_pages = pages-push a c.contents.log_length start.logs mid after opens.pages x more opens.asks_pages turn;
-  }
+  first = opens.first;
+  pages = opens.pages ++ x ∷ [];
+  in_turn = ap (λ (l : List Exchange). l ++ x ∷ []) opens.in_turn;
+  asks_checkpoint = opens.asks_checkpoint;
+  asks_pages = pages-push a c.contents.log_length start.logs mid after opens.pages x more opens.asks_pages turn;
+}
 
 -- the checkpoint came, all pages, the inclusion, and what the stored checkpoint asks for
 pub proves-all : (accepts : Accepts) (a : Asker) (start : Start) (xs : List Exchange) (c : SignedCheckpoint) (logs : Logs) (x : Exchange) (rest : List Exchange)
     → Opens a start xs c logs false → AreLawful accepts logs → IsSigned accepts logs.operator c → AsksInclusion a c.contents logs x → Succeeds a start.stored c.contents rest
     → Proves accepts a start (xs ++ x ∷ rest) logs c
 proves-all accepts a start xs c logs x rest opens lawful signed included succeeds = record {
-    first = opens.first;
-    pages = opens.pages;
-    inclusion = x;
-    rest = rest;
-    in_turn = ap (λ (l : List Exchange). l ++ x ∷ rest) opens.in_turn;
-    asks_checkpoint = opens.asks_checkpoint;
-    asks_pages = opens.asks_pages;
-    lawful = lawful;
-    signed = signed;
-    asks_inclusion = included;
-    succeeds = succeeds;
-  }
+  first = opens.first;
+  pages = opens.pages;
+  inclusion = x;
+  rest = rest;
+  in_turn = ap (λ (l : List Exchange). l ++ x ∷ rest) opens.in_turn;
+  asks_checkpoint = opens.asks_checkpoint;
+  asks_pages = opens.asks_pages;
+  lawful = lawful;
+  signed = signed;
+  asks_inclusion = included;
+  succeeds = succeeds;
+}
 
 -- the inclusion was shown, and then the consistency with a shorter checkpoint
 pub proves-continued : (accepts : Accepts) (a : Asker) (start : Start) (xs : List Exchange) (old c : SignedCheckpoint) (logs : Logs) (x : Exchange)

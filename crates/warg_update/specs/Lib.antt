@@ -5,3 +5,4 @@ pub mod Succession
 pub mod Views
 pub mod Steps
 pub mod PageFaults
+pub mod Presence

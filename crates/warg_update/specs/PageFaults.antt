@@ -5,7 +5,6 @@ use Rattle.warg_record.specs.Record.{Package, Operator}
 use Rattle.warg_log.specs.Rules.{Accepts}
 use Rattle.warg_exchange.specs.declared.logs.PublishedRecord.{PublishedRecord}
 use Rattle.warg_exchange.specs.Views.{Page}
-use Rattle.warg_info.specs.declared.error.TakeError.{TakeError}
 use Rattle.warg_info.specs.declared.error.TakeError.TheVariants as take
 use Rattle.warg_info.specs.Kept.{Kept, Grows}
 use Rattle.warg_info.specs.Faults.{FirstFault}

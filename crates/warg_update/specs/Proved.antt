@@ -148,11 +148,11 @@ pub record Shows (a : Asker) (start : Start) (xs : List Exchange) (old c : Signe
 pub data Asks (a : Asker) (start : Start) (xs : List Exchange) (r : Request) : Type 0 where
   for_checkpoint : xs ≡ [] → r ≡ checkpoint_request a → Asks a start xs r
   for_page : (c : SignedCheckpoint) (logs : Logs) → Opens a start xs c logs true
-    → r ≡ page_request a c.contents.log_length logs → Asks a start xs r
+      → r ≡ page_request a c.contents.log_length logs → Asks a start xs r
   for_inclusion : (c : SignedCheckpoint) (logs : Logs) → Opens a start xs c logs false
-    → r ≡ inclusion_request a c.contents.log_length (indices_of logs) → Asks a start xs r
+      → r ≡ inclusion_request a c.contents.log_length (indices_of logs) → Asks a start xs r
   for_consistency : (old c : SignedCheckpoint) (logs : Logs) → Shows a start xs old c logs
-    → r ≡ consistency_request a old.contents.log_length c.contents.log_length → Asks a start xs r
+      → r ≡ consistency_request a old.contents.log_length c.contents.log_length → Asks a start xs r
 
 -- the exchanges are those of an update, over or not: each request is the next after those before it
 abbrev pub AreAsked : Asker → Start → List Exchange → Type 0

@@ -6,6 +6,7 @@ mod ids;
 mod inclusion;
 pub mod laws;
 mod page;
+mod presence;
 mod signature;
 mod succession;
 
@@ -13,5 +14,6 @@ pub use heads::{LogHeads, heads_of};
 pub use ids::log_ids;
 pub use inclusion::verify_heads;
 pub use page::{PageError, take_page};
+pub use presence::{PresenceError, check_presence};
 pub use signature::{SignatureError, check_signature};
 pub use succession::{Succession, compare};

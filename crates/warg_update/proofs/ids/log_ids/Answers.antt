@@ -1,6 +1,6 @@
 use Rattle.std.proofs.Common.{◌≡◌, ◌≢◌, ◌++◌, ◌∷◌, [], ◌+◌, List, ℕ, Some, take, map, length, refl, rules, sym, ◌∙◌, ap, subst}
 use Rattle.std.specs.Prelude.{slice_get, option_map}
-use Rattle.std.proofs.lemmas.List.{take_more, take_all, take-map, map_push}
+use Rattle.std.proofs.lemmas.List.{take_more, take-map, map_push}
 use Rattle.std.proofs.lemmas.Option.{slice_get-map, slice_get_read}
 use Rattle.warg_update.specs.Steps.{id_of}
 use Rattle.warg_update.proofs.PlaceLaws.{goes-last, not-before}

@@ -1,4 +1,4 @@
-use Rattle.std.proofs.Common.{◌≡◌, List, ℕ, ◌∙◌, subst}
+use Rattle.std.proofs.Common.{List, ℕ, ◌∙◌, subst}
 use Rattle.std.proofs.lemmas.Result.{on_ok_weaker, IfErr-weaker}
 use Rattle.warg_proof.specs.declared.leaf.LogLeaf.{LogLeaf}
 use Rattle.warg_verify.specs.Shown.{Includes}
@@ -16,9 +16,9 @@ returns-clause-ok c =
     let is = c.as_slice-indices.result.now in
     let ls = c.as_slice-leafs.result.now in
     on_ok_weaker {P = Includes k is ls b} {Q = infos → Includes k (indices_of logs) (leafs_of logs) b} c.verify_inclusion.result
-      (λ includes s. subst (λ (l : List LogLeaf). Includes k (indices_of logs) l b) (c.as_slice-leafs.ensures.value ∙ c.in-Ok.ensures.leafs s)
-        (subst (λ (l : List ℕ). Includes k l ls b) (c.as_slice-indices.ensures.value ∙ c.in-Ok.ensures.indices s) includes))
-      c.verify_inclusion.ensures.ok
+    (λ includes s. subst (λ (l : List LogLeaf). Includes k (indices_of logs) l b) (c.as_slice-leafs.ensures.value ∙ c.in-Ok.ensures.leafs s)
+    (subst (λ (l : List ℕ). Includes k l ls b) (c.as_slice-indices.ensures.value ∙ c.in-Ok.ensures.indices s) includes))
+    c.verify_inclusion.ensures.ok
 
 pub returns-clause-err : goal.returns-clause-err
 returns-clause-err c =
@@ -29,6 +29,6 @@ returns-clause-err c =
     let is = c.as_slice-indices.result.now in
     let ls = c.as_slice-leafs.result.now in
     IfErr-weaker c.verify_inclusion.result (λ fault. IsInclusionFault k is ls b fault) (λ fault. infos → IsInclusionFault k (indices_of logs) (leafs_of logs) b fault)
-      (λ fault refused s. subst (λ (l : List LogLeaf). IsInclusionFault k (indices_of logs) l b fault) (c.as_slice-leafs.ensures.value ∙ c.in-Ok.ensures.leafs s)
-        (subst (λ (l : List ℕ). IsInclusionFault k l ls b fault) (c.as_slice-indices.ensures.value ∙ c.in-Ok.ensures.indices s) refused))
-      c.verify_inclusion.ensures.err
+    (λ fault refused s. subst (λ (l : List LogLeaf). IsInclusionFault k (indices_of logs) l b fault) (c.as_slice-leafs.ensures.value ∙ c.in-Ok.ensures.leafs s)
+    (subst (λ (l : List ℕ). IsInclusionFault k l ls b fault) (c.as_slice-indices.ensures.value ∙ c.in-Ok.ensures.indices s) refused))
+    c.verify_inclusion.ensures.err

@@ -1,8 +1,7 @@
-use Rattle.std.proofs.Common.{◌≡◌, ◌∷◌, [], inr, List, ℕ, map, sym, ◌∙◌, ap, subst}
+use Rattle.std.proofs.Common.{◌≡◌, ◌∷◌, [], inr, List, ℕ, map, sym, subst}
 use Rattle.std.specs.Map.Iter.{deref_pair}
 use Rattle.std.proofs.lemmas.Map.Iter.{rest_more, rest_all}
 use Rattle.warg_exchange.specs.declared.logs.PublishedRecord.{PublishedRecord}
-use Rattle.warg_info.specs.Kept.{Kept}
 use Rattle.warg_update.specs.Logs.{EachGrows}
 use Rattle.warg_update.specs.PageFaults.{FirstListedFault}
 use Rattle.warg_update.specs.Steps.{HaveIds, AreGood}
@@ -22,14 +21,14 @@ loop-id-preserved g c =
     let after = map package_view c.take_listed.new.packages.items in
     let left : c.loop-id.id-iterator ≡ (id, records) ∷ rest = rest_more deref_pair c.loop-id.id-iterator rest c.next.result (c.in-Some.id, c.in-Some.records) c.in-Some.is c.next.ensures.steps in
     let taken : HaveIds keys c.args.packages.now.items → AreGood accepts c.args.packages.now.items → EachGrows ((id, records) ∷ []) before after =
-      λ ids good. subst (λ (ps : List PublishedRecord). EachGrows ((id, ps) ∷ []) before after) c.as_slice.ensures (c.in_ok-take_listed.ensures.grows (was.ids ids) (was.good good)) in
+    λ ids good. subst (λ (ps : List PublishedRecord). EachGrows ((id, ps) ∷ []) before after) c.as_slice.ensures (c.in_ok-take_listed.ensures.grows (was.ids ids) (was.good good)) in
     record {
       ids = λ ids. c.take_listed.ensures.ids (was.ids ids);
       good = λ good. c.take_listed.ensures.good (was.good good);
       grows = λ ids good news more. was.grows ids good news
-        (subst (λ (l : List (List ℕ × List PublishedRecord)). EachGrows l before news) (sym left) (each-more c.growth_goes_on.ensures.more (id, records) rest before after news (taken ids good) more));
+          (subst (λ (l : List (List ℕ × List PublishedRecord)). EachGrows l before news) (sym left) (each-more c.growth_goes_on.ensures.more (id, records) rest before after news (taken ids good) more));
       fault = λ ids good e fault. was.fault ids good e
-        (subst (λ (l : List (List ℕ × List PublishedRecord)). FirstListedFault e accepts before l) (sym left) (inr (after, taken ids good, fault)));
+          (subst (λ (l : List (List ℕ × List PublishedRecord)). FirstListedFault e accepts before l) (sym left) (inr (after, taken ids good, fault)));
     }
 
 pub returns-in_err-take_listed-clause-good : goal.returns-in_err-take_listed-clause-good

@@ -1,4 +1,4 @@
-use Rattle.std.proofs.Common.{◌≡◌, List, ℕ, map}
+use Rattle.std.proofs.Common.{List, ℕ, map}
 use Rattle.warg_info.specs.Kept.{Kept}
 use Rattle.warg_update.specs.Logs.{EachGrows}
 use Rattle.warg_update.specs.PageFaults.{FirstListedFault}

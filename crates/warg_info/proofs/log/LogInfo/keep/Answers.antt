@@ -1,11 +1,10 @@
-use Rattle.std.proofs.Common.{◌≡◌, ◌++◌, ◌∷◌, [], List, sym, ◌∙◌, ap, subst, map}
+use Rattle.std.proofs.Common.{◌≡◌, ◌++◌, ◌∷◌, [], sym, ◌∙◌, ap, subst, map}
 use Rattle.std.proofs.lemmas.List.{map_push}
 use Rattle.std.proofs.lemmas.Result.{err_from_is_err_and}
 use Rattle.warg_record.specs.View.{envelope_view}
-use Rattle.warg_record.specs.Envelope.{Signed}
 use Rattle.warg_log.specs.Lawful.{IsLawful}
 use Rattle.warg_log.specs.Rules.{any_signature}
-use Rattle.warg_info.specs.Kept.{Kept, signed_log}
+use Rattle.warg_info.specs.Kept.{signed_log}
 use Rattle.warg_info.specs.Info.{kept_view, kept_of}
 use Rattle.warg_info.proofs.SoundLaws.{sound-push, sound-same, signed-push}
 use Rattle.warg_info.proofs.FaultLaws.{keep_fault}

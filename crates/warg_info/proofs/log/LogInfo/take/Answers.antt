@@ -2,7 +2,7 @@ use Rattle.std.proofs.Common.{◌≡◌, ◌∷◌, ◌++◌, [], ◌+◌, List,
 use Rattle.std.proofs.lemmas.List.{take_more, take_all, drop_more, take-append-drop}
 use Rattle.std.proofs.lemmas.Result.{err_from_is_err_and}
 use Rattle.warg_exchange.specs.declared.logs.PublishedRecord.{PublishedRecord}
-use Rattle.warg_info.specs.Kept.{Kept, Grows}
+use Rattle.warg_info.specs.Kept.{Grows}
 use Rattle.warg_info.specs.Info.{kept_of}
 use Rattle.warg_info.specs.Faults.{FirstFault}
 use Rattle.warg_info.proofs.GrowsLaws.{grows-none, grows-more}

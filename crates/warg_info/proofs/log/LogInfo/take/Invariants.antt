@@ -1,4 +1,4 @@
-use Rattle.std.proofs.Common.{◌≡◌, ◌++◌, List, take}
+use Rattle.std.proofs.Common.{◌++◌, List, take}
 use Rattle.warg_exchange.specs.declared.logs.PublishedRecord.{PublishedRecord}
 use Rattle.warg_info.specs.Kept.{Kept, Grows}
 use Rattle.warg_info.specs.Info.{kept_of, IsSound, IsLawfulLog}

@@ -1,4 +1,4 @@
-use Rattle.std.proofs.Common.{◌≡◌, ◌++◌, sym, ◌∙◌, ap, List}
+use Rattle.std.proofs.Common.{◌++◌, sym, ◌∙◌, ap, List}
 use Rattle.std.specs.Prelude.{option_copied}
 use Rattle.warg_proof.specs.declared.leaf.LogLeaf.{LogLeaf}
 use Rattle.warg_info.specs.Kept.{signed_log}
