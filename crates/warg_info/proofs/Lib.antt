@@ -1,0 +1,5 @@
+pub mod KeptLaws
+pub mod SoundLaws
+pub mod FaultLaws
+pub mod GrowsLaws
+pub mod Rows
