@@ -4,6 +4,8 @@
 #[cfg(test)]
 mod contents;
 #[cfg(test)]
+mod proofs;
+#[cfg(test)]
 mod recorded;
 #[cfg(test)]
 mod registry;

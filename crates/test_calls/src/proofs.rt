@@ -1,0 +1,99 @@
+//! Proofs that a registry's log and map hold a record.
+
+use crate::replies::{client, link};
+use std::alloc::Global;
+use std::test::Fail;
+use warg_api::{Client, ClientError, RecordedLink};
+use warg_exchange::{Checkpoint, InclusionRequest};
+use warg_hash::{AnyHash, LogId, RecordId};
+use warg_proof::LogLeaf;
+use warg_values::Sequence;
+
+/// The roots of a log and a map that hold one record of the operator's log, whose contents are `abc`.
+const LOG_ROOT: &str = "sha256:621877f9cba0e264eede5f15cfccfbca05df06a568c7c25ee970a13adde31d80";
+
+const MAP_ROOT: &str = "sha256:42a647beff44aeb4440278e0cc4ceefc34dbe4a04057ce5cbebb660bbdc2e83b";
+
+/// Bundles, with what is answered: one proof each; none over the log; and none over the map.
+const BUNDLES: [(&str, &str); 3] = [
+    (
+        "eyJsb2ciOiJBQUFBQUFBQUFBQUFBQUFBQVFBQUFBQUFBQUFCQUFBQUFBQUFBQUE9IiwibWFwIjoiQUFBQUFBRUFBQUFBQUFBQUFBQUFBQUFBQUFBQUFBQUFBQUFBQUFBQUFBQUFBQUFBQUE9PSJ9",
+        "shown",
+    ),
+    (
+        "eyJsb2ciOiJBQUFBQUFBQUFBQUFBQUFBQUE9PSIsIm1hcCI6IkFBQUFBQUVBQUFBQUFBQUFBQUFBQUFBQUFBQUFBQUFBQUFBQUFBQUFBQUFBQUFBQUFBPT0ifQ==",
+        "the bundle does not hold the proofs that were asked for",
+    ),
+    (
+        "eyJsb2ciOiJBQUFBQUFBQUFBQUFBQUFBQVFBQUFBQUFBQUFCQUFBQUFBQUFBQUE9IiwibWFwIjoiQUFBQUFBQT0ifQ==",
+        "the bundle does not hold the proofs that were asked for",
+    ),
+];
+
+/// The call that proves the record.
+fn prove(
+    alloc: Global,
+    client: &Client,
+    link: &mut RecordedLink,
+    request: &InclusionRequest,
+    checkpoint: &Checkpoint,
+    leafs: &[LogLeaf],
+) -> Result<(), ClientError> {
+    client.prove_inclusion(alloc, link, None, request, checkpoint, leafs)
+}
+
+/// What it answers under a log root and a map root.
+fn judged(
+    alloc: Global,
+    client: &Client,
+    link: &mut RecordedLink,
+    log_root: &str,
+) -> Result<String, Fail> {
+    let mut leafs = Sequence::new(alloc);
+    leafs.push(0)?;
+    let request = InclusionRequest {
+        log_length: 1,
+        leafs,
+    };
+    let checkpoint = Checkpoint {
+        log_length: 1,
+        log_root: AnyHash::from_text(alloc, log_root)?,
+        map_root: AnyHash::from_text(alloc, MAP_ROOT)?,
+        timestamp: 0,
+    };
+    let leaf = LogLeaf {
+        log_id: LogId::operator_log(),
+        record_id: RecordId::of(b"abc"),
+    };
+    match prove(alloc, client, link, &request, &checkpoint, &[leaf]) {
+        Ok(()) => Ok(String::from_str(alloc, "shown")?),
+        Err(error) => Ok(format!(in alloc; "{error}")?),
+    }
+}
+
+/// What it answers over bundles.
+fn proved(alloc: Global, bundles: &str, log_root: &str) -> Result<String, Fail> {
+    let replies = format!(in alloc;
+        r#"[{{"status":200,"headers":[["content-type","application/json"]],"body":"{bundles}"}}]"#
+    )?;
+    let client = client(alloc)?;
+    let mut link = link(alloc, &replies)?;
+    judged(alloc, &client, &mut link, log_root)
+}
+
+#[test]
+fn a_record_is_shown_by_one_proof_each_and_no_fewer(rt: HostRuntime) -> Result<(), Fail> {
+    for (bundles, expected) in BUNDLES.as_slice() {
+        let found = proved(rt.alloc(), bundles, LOG_ROOT)?;
+        assert_eq!(rt; found.as_str(), *expected);
+    }
+    Ok(())
+}
+
+#[test]
+fn a_proof_under_another_root_is_told(rt: HostRuntime) -> Result<(), Fail> {
+    let found = proved(rt.alloc(), BUNDLES[0].0, MAP_ROOT)?;
+    assert!(rt; found.starts_with("a proof gives the root sha256:6218"));
+    assert!(rt; found.contains("in place of sha256:42a6"));
+    Ok(())
+}
