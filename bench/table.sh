@@ -18,7 +18,7 @@ build_over number_types 'comp_table comp_entity warg_values anyhow' <<'RT'
 //! types as often. Prints how long each took, in nanoseconds.
 #![tactic(auto)]
 
-ghost use Rattle.std.specs.Prelude.{◌<◌, length, IfOk};
+ghost use Rattle.std.specs.Prelude.{◌<◌, ◌≤◌, length, IfOk};
 
 use anyhow::Result;
 use comp_entity::TypeNo;
@@ -51,7 +51,8 @@ fn pair_of(
     part: usize,
 ) -> std::result::Result<usize, Memory>
     requires { part < length table.old }
-    ensures { IfOk result (λ n. n < length table.new) }
+    ensures there { IfOk result (λ n. n < length table.new) }
+    ensures kept { length table.old ≤ length table.new }
 {
     let parts = vec![in alloc; part, part]?;
     table.number_of(alloc, Head::TupleOf, Numbers::from_vec(parts))
@@ -64,7 +65,8 @@ fn six_levels(
     part: usize,
 ) -> std::result::Result<usize, Memory>
     requires { part < length table.old }
-    ensures { IfOk result (λ n. n < length table.new) }
+    ensures there { IfOk result (λ n. n < length table.new) }
+    ensures kept { length table.old ≤ length table.new }
 {
     let one = pair_of(alloc, table, part)?;
     let two = pair_of(alloc, table, one)?;
@@ -80,7 +82,8 @@ fn doubled(
     table: &mut TypeTable,
     place: usize,
 ) -> std::result::Result<TypeNumber, Memory>
-    ensures { IfOk result (λ n. n.0 < length table.new) }
+    ensures there { IfOk result (λ n. n.0 < length table.new) }
+    ensures kept { length table.old ≤ length table.new }
 {
     let head = Head::RecordOf(TypeNo::new(0, place));
     let none = Numbers::from_vec(Vec::new(alloc));
