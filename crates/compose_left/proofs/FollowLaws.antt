@@ -1,5 +1,5 @@
 -- Following wires.
-use Rattle.std.proofs.Common.{◌≡◌, ℕ, suc, ◌+◌, ◌<◌, ◌≤◌, Bool, true, false, List, [], ◌∷◌, ◌++◌, length, Option, Some, None, refl, sym, ap, subst, ◌∙◌, arith, inl, inr}
+use Rattle.std.proofs.Common.{◌≡◌, ℕ, ◌+◌, ◌≤◌, Bool, true, false, List, [], ◌∷◌, ◌++◌, length, Option, Some, refl, sym, ap, subst, ◌∙◌, arith, inl, inr}
 use Rattle.std.specs.Prelude.{◌⊎◌, ◌||◌, ◌&&◌, is_some}
 use Rattle.std.specs.List.{list_any, AllByRecursion}
 use Rattle.std.specs.BTreeMap.{BTreeMap, get}
@@ -7,15 +7,13 @@ use Rattle.std.specs.Cmp.{nat_eq_equiv}
 use Rattle.std.proofs.lemmas.List.Folds.{list_any-append}
 use Rattle.comp_entity.specs.Fits.{same_truth}
 use Rattle.compose_left.proofs.ListLaws.{all_push, or_left, or_right}
-use Rattle.compose_left.specs.declared.spots.Thing.{Thing}
 use Rattle.compose_left.specs.declared.origin.Origin.{Origin}
 use Rattle.compose_left.specs.declared.origin.Held.{Held}
-use Rattle.compose_left.specs.declared.origin.Step.{Step}
 use Rattle.compose_left.specs.declared.origin.Step.TheVariants as step
 use Rattle.compose_left.specs.declared.numbering.Followed.{Followed}
 use Rattle.compose_left.specs.declared.numbering.Reached.TheVariants as reached
 use Rattle.compose_left.specs.Wiring.{Wiring, HasNoCircle}
-use Rattle.compose_left.specs.Origins.{origin, step_from, follow, same_thing}
+use Rattle.compose_left.specs.Origins.{origin, step_from, follow}
 use Rattle.compose_left.specs.Numbers.{same_held, held_cmp, IsFollowed, IsReached}
 use Rattle.compose_left.proofs.OriginLaws.{origin_step, goes_down}
 

@@ -1,10 +1,10 @@
 -- Maps that are filled from the last item of a list to the first find the first one.
-use Rattle.std.proofs.Common.{◌≡◌, ℕ, Bool, true, false, cond, List, [], ◌∷◌, ◌++◌, Option, Some, None, refl, sym, ap, ◌∙◌}
-use Rattle.std.specs.Prelude.{find, option_map, ◌&&◌, bytes_eq}
+use Rattle.std.proofs.Common.{◌≡◌, Bool, true, false, cond, List, [], ◌∷◌, ◌++◌, Option, Some, None, refl, sym, ap, ◌∙◌}
+use Rattle.std.specs.Prelude.{find, option_map}
 use Rattle.std.specs.Option.{option_or}
-use Rattle.std.specs.BTreeMap.{BTreeMap, get, Updates}
+use Rattle.std.specs.BTreeMap.{BTreeMap, get}
 use Rattle.std.specs.Cmp.{both_tied, unsigned_ties}
-use Rattle.std.specs.Cmp.Lexicographic.{pointwise, slice_cmp, lists_ties, texts_ties}
+use Rattle.std.specs.Cmp.Lexicographic.{slice_cmp, lists_ties, texts_ties}
 use Rattle.std.specs.Ordering.{nat_cmp, bool_cmp, ordering_then, is_eq}
 use Rattle.std.specs.declared.cmp.Ordering.{Ordering}
 use Rattle.std.proofs.lemmas.List.Folds.{find-append}
@@ -12,7 +12,7 @@ use Rattle.comp_entity.specs.Fits.{same_truth}
 use Rattle.compose_left.specs.declared.spots.Thing.{Thing}
 use Rattle.compose_left.specs.declared.spots.Spot.{Spot}
 use Rattle.compose_left.specs.declared.places.Place.{Place}
-use Rattle.compose_left.specs.Origins.{same_thing, same_path, is_exported_at}
+use Rattle.compose_left.specs.Origins.{same_thing, is_exported_at}
 use Rattle.compose_left.specs.declared.wiring.Input.{Input}
 use Rattle.compose_left.specs.declared.wiring.Wire.{Wire}
 use Rattle.compose_left.specs.Wiring.{is_into}

@@ -1,15 +1,15 @@
 -- Exports found by their names, and what is added to them.
-use Rattle.std.proofs.Common.{◌≡◌, ℕ, zero, suc, ◌+◌, ◌<◌, ◌≤◌, Bool, true, false, cond, List, [], ◌∷◌, ◌++◌, length, map, take, Option, Some, None, refl, sym, ap, subst, ◌∙◌, arith, slice_index_or, append_assoc, append-nil}
+use Rattle.std.proofs.Common.{◌≡◌, ℕ, zero, suc, ◌+◌, ◌<◌, ◌≤◌, Bool, true, false, cond, List, [], ◌∷◌, ◌++◌, length, take, Option, Some, None, refl, sym, ap, ◌∙◌, arith, slice_index_or, append_assoc}
 use Rattle.std.specs.Prelude.{option_map, is_some, is_none, not, filter, bytes_eq}
 use Rattle.std.specs.Option.{option_or}
 use Rattle.std.specs.BTreeMap.{BTreeMap, get, Updates}
-use Rattle.std.specs.Cmp.Lexicographic.{slice_cmp, texts_ties, nat_list_eq_equiv, same_text}
-use Rattle.std.specs.Ordering.{nat_cmp, is_eq}
+use Rattle.std.specs.Cmp.Lexicographic.{texts_ties, nat_list_eq_equiv, same_text}
+use Rattle.std.specs.Ordering.{is_eq}
 use Rattle.std.proofs.lemmas.List.{take_more, map-append}
 use Rattle.std.proofs.lemmas.Option.{same_Some}
 use Rattle.warg_values.specs.declared.text.Text.{Text}
 use Rattle.comp_entity.specs.declared.entity.Entity.{Entity}
-use Rattle.comp_entity.specs.Entity.{EntityTree, IsInstance, Entries, entry}
+use Rattle.comp_entity.specs.Entity.{EntityTree, IsInstance, entry}
 use Rattle.comp_entity.specs.Fits.{under}
 use Rattle.comp_entity.specs.Names.{entity_by}
 use Rattle.comp_entity.specs.NameLaws.{entity_kept}

@@ -1,11 +1,10 @@
 -- Numbers that are noted stay those of their origins.
-use Rattle.std.proofs.Common.{◌≡◌, ℕ, zero, suc, ◌+◌, ◌*◌, Bool, true, false, cond, List, [], ◌∷◌, ◌++◌, length, map, take, drop, Option, Some, None, refl, sym, ap, subst, ◌∙◌, slice_index_or, ◌<◌, arith, append_assoc}
+use Rattle.std.proofs.Common.{◌≡◌, ℕ, suc, ◌+◌, ◌*◌, Bool, true, false, cond, List, [], ◌∷◌, ◌++◌, length, take, Option, Some, refl, sym, ap, subst, ◌∙◌, slice_index_or, ◌<◌}
 use Rattle.std.specs.Prelude.{◌||◌, is_some, fold, Result, Ok, Err, IfOk}
 use Rattle.std.specs.List.{list_any, AllByRecursion}
 use Rattle.std.specs.BTreeMap.{BTreeMap, get}
-use Rattle.std.specs.Ordering.{nat_cmp, bool_cmp, ordering_then, is_eq}
 use Rattle.std.proofs.lemmas.Option.{same_Some}
-use Rattle.std.proofs.lemmas.List.{take_more, map-append}
+use Rattle.std.proofs.lemmas.List.{take_more}
 use Rattle.std.proofs.lemmas.List.Folds.{list_any-append}
 use Rattle.compose_left.proofs.ListLaws.{all_push, or_right}
 use Rattle.compose_left.specs.declared.origin.Origin.{Origin}
@@ -15,7 +14,7 @@ use Rattle.compose_left.specs.declared.numbering.Reached.TheVariants as reached
 use Rattle.compose_left.specs.Wiring.{Wiring}
 use Rattle.compose_left.specs.Origins.{origin, is_made, same_origin, with_origin, place_in, number_in, table_of}
 use Rattle.compose_left.specs.Numbers.{held_cmp, same_held, IsThere, IsNoted, AreNumbers, IsReached, IsNumbered}
-use Rattle.compose_left.proofs.NumberLaws.{itself, held_ties, held_is}
+use Rattle.compose_left.proofs.NumberLaws.{itself, held_is}
 
 with_cond : (b : Bool) (os : List Origin) (o : Origin) → b ≡ true → cond b os (os ++ o ∷ []) ≡ os
 with_cond true os o e = refl

@@ -1,16 +1,15 @@
 -- Numbers for origins: the table, and the things whose numbers are noted.
-use Rattle.std.proofs.Common.{◌≡◌, ℕ, zero, suc, ◌+◌, ◌<◌, ◌≤◌, Bool, true, false, cond, List, [], ◌∷◌, ◌++◌, length, take, Option, Some, None, refl, sym, ap, subst, ◌∙◌, arith, slice_index_or, inl, inr}
-use Rattle.std.specs.Prelude.{option_map, ◌&&◌, ◌||◌, ◌⊎◌, is_some, bytes_eq}
+use Rattle.std.proofs.Common.{◌≡◌, ℕ, suc, ◌+◌, ◌<◌, Bool, true, false, cond, List, [], ◌∷◌, ◌++◌, length, take, Option, Some, None, refl, sym, ap, ◌∙◌, slice_index_or}
+use Rattle.std.specs.Prelude.{option_map, ◌&&◌, ◌||◌}
 use Rattle.std.specs.Option.{option_or}
-use Rattle.std.specs.List.{list_any, AllByRecursion}
+use Rattle.std.specs.List.{list_any}
 use Rattle.std.specs.BTreeMap.{BTreeMap, get, Updates}
 use Rattle.std.specs.Cmp.{both_tied, unsigned_ties, nat_eq_equiv}
-use Rattle.std.specs.Cmp.Lexicographic.{pointwise, slice_cmp, lists_ties, texts_ties, lists_equiv, nat_list_eq_equiv}
+use Rattle.std.specs.Cmp.Lexicographic.{slice_cmp, lists_ties, texts_ties, lists_equiv, nat_list_eq_equiv}
 use Rattle.std.specs.FinMap.{slice_cmp-IsAntisymmetric, nat_cmp-IsAntisymmetric}
 use Rattle.std.specs.Ordering.{bool_cmp, nat_cmp, ordering_then, is_eq}
 use Rattle.std.specs.declared.cmp.Ordering.{Ordering}
 use Rattle.std.specs.declared.cmp.Ordering.TheVariants.{Less, Equal, Greater}
-use Rattle.std.proofs.lemmas.Bool.{cases_Bool}
 use Rattle.std.proofs.lemmas.List.{take_more}
 use Rattle.std.proofs.lemmas.List.Folds.{list_any-append}
 use Rattle.std.proofs.lemmas.Option.{same_Some}
@@ -19,8 +18,8 @@ use Rattle.compose_left.specs.declared.origin.Origin.{Origin}
 use Rattle.compose_left.specs.declared.origin.Origin.TheVariants as origins
 use Rattle.compose_left.specs.declared.origin.Held.{Held}
 use Rattle.compose_left.specs.declared.numbering.OriginKey.{OriginKey}
-use Rattle.compose_left.specs.Origins.{same_thing, same_path, same_origin, is_made, with_origin, place_in, number_in}
-use Rattle.compose_left.specs.Numbers.{origin_key, same_key, key_cmp, key_place, FindsOrigins, same_held, held_cmp, IsThere}
+use Rattle.compose_left.specs.Origins.{same_origin, is_made, with_origin, place_in}
+use Rattle.compose_left.specs.Numbers.{origin_key, same_key, key_cmp, key_place, FindsOrigins, same_held, held_cmp}
 use Rattle.compose_left.specs.Wired.{thing_cmp}
 use Rattle.compose_left.proofs.MapLaws.{thing_ties, truth_ties}
 

@@ -1,17 +1,13 @@
 -- No two origins have one number.
-use Rattle.std.proofs.Common.{◌≡◌, ℕ, zero, suc, ◌+◌, ◌*◌, ◌<◌, ◌≤◌, Bool, true, false, cond, List, [], ◌∷◌, refl, sym, ap, ◌∙◌, arith}
-use Rattle.std.specs.Prelude.{◌||◌, ◌&&◌}
+use Rattle.std.proofs.Common.{◌≡◌, ℕ, zero, suc, ◌+◌, ◌*◌, ◌<◌, Bool, true, false, cond, List, [], ◌∷◌, refl, sym, ap, ◌∙◌, arith}
+use Rattle.std.specs.Prelude.{◌||◌}
 use Rattle.std.specs.List.{list_any}
-use Rattle.std.specs.Cmp.Lexicographic.{pointwise, same_text}
-use Rattle.std.specs.FinMap.{slice_cmp-IsAntisymmetric, nat_cmp-IsAntisymmetric}
-use Rattle.std.specs.Cmp.Lexicographic.{slice_cmp, lists_ties, texts_ties}
-use Rattle.std.specs.Ordering.{nat_cmp, is_eq}
 use Rattle.comp_entity.specs.Places.{Path}
 use Rattle.compose_left.specs.declared.origin.Origin.{Origin}
 use Rattle.compose_left.specs.declared.origin.Origin.TheVariants as origins
 use Rattle.compose_left.specs.declared.numbering.OriginKey.{OriginKey}
-use Rattle.compose_left.specs.Origins.{is_made, same_origin, same_path, place_in, number_in}
-use Rattle.compose_left.specs.Numbers.{origin_key, same_key, HasNumber}
+use Rattle.compose_left.specs.Origins.{is_made, same_origin, place_in, number_in}
+use Rattle.compose_left.specs.Numbers.{origin_key, HasNumber}
 use Rattle.compose_left.proofs.NumberLaws.{key_alike, key_is}
 
 -- what counts in turn tells place and turn

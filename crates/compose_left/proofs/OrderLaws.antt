@@ -1,5 +1,5 @@
 -- Wires that go to instances made later have no circle.
-use Rattle.std.proofs.Common.{◌≡◌, ℕ, zero, suc, ◌+◌, ◌<◌, ◌≤◌, Bool, true, false, cond, List, [], ◌∷◌, ◌++◌, length, take, Option, Some, None, min, refl, sym, ap, subst, ◌∙◌, arith, slice_index_or}
+use Rattle.std.proofs.Common.{◌≡◌, ℕ, ◌+◌, ◌<◌, Bool, true, false, cond, List, [], ◌∷◌, length, take, Some, min, refl, sym, subst, arith, slice_index_or}
 use Rattle.std.specs.Prelude.{◌&&◌, ◌==◌}
 use Rattle.std.proofs.lemmas.Bool.{eqb-true}
 use Rattle.std.specs.List.{AllByRecursion}
@@ -8,7 +8,7 @@ use Rattle.std.proofs.lemmas.Option.{same_Some}
 use Rattle.comp_entity.specs.Entity.{ShapeTree}
 use Rattle.compose_left.proofs.ListLaws.{all_push}
 use Rattle.compose_left.specs.declared.wiring.Wire.{Wire}
-use Rattle.compose_left.specs.Wiring.{Wiring, HasNoCircle, is_into, wire_into}
+use Rattle.compose_left.specs.Wiring.{HasNoCircle, is_into, wire_into}
 
 pub record IsForward (n : ℕ) (w : Wire) : Type 0 where
   pub later : w.source < w.target

@@ -1,7 +1,5 @@
 -- How many wires are followed: as many as there are instances are enough, where wires have no circle.
-use Rattle.std.proofs.Common.{◌≡◌, ℕ, zero, suc, ◌+◌, ◌<◌, ◌≤◌, List, length, Option, Some, None, refl, sym, ap, ◌∙◌, arith}
-use Rattle.std.specs.Prelude.{find}
-use Rattle.std.proofs.lemmas.Option.{same_Some}
+use Rattle.std.proofs.Common.{◌≡◌, ℕ, zero, suc, ◌<◌, length, Option, Some, None, refl, ap, arith}
 use Rattle.comp_entity.specs.Places.{Path}
 use Rattle.compose_left.specs.declared.wiring.Wire.{Wire}
 use Rattle.compose_left.specs.declared.spots.Thing.{Thing}

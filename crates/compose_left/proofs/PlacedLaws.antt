@@ -3,9 +3,8 @@ use Rattle.std.proofs.Common.{◌≡◌, ℕ, zero, suc, ◌+◌, ◌*◌, Bool,
 use Rattle.std.specs.Prelude.{find, is_some, unwrap_or, ◌==◌}
 use Rattle.std.specs.List.{AllByRecursion}
 use Rattle.std.specs.BTreeMap.{get}
-use Rattle.std.specs.Ordering.{is_eq}
-use Rattle.comp_entity.specs.Entity.{Name, made, ShapeTree}
-use Rattle.comp_entity.specs.Names.{Change, changing}
+use Rattle.comp_entity.specs.Entity.{made, ShapeTree}
+use Rattle.comp_entity.specs.Names.{changing}
 use Rattle.compose_left.specs.declared.spots.Thing.{Thing}
 use Rattle.compose_left.specs.declared.spots.Spot.{Spot}
 use Rattle.compose_left.specs.declared.origin.Origin.{Origin}
@@ -14,11 +13,10 @@ use Rattle.compose_left.specs.declared.origin.Held.{Held}
 use Rattle.compose_left.specs.declared.known.Origins.{Origins}
 use Rattle.compose_left.specs.Spots.{spots, resource, named_type}
 use Rattle.compose_left.specs.Wiring.{Wiring, HasNoCircle, shape_at, no_shape}
-use Rattle.compose_left.specs.Origins.{names, same_thing, brought_at, brought_from, held_at, step_from, of_brought, follow, origin, number_in, number_of, table, of_resource, of_type}
+use Rattle.compose_left.specs.Origins.{names, same_thing, brought_at, brought_from, held_at, of_brought, follow, origin, number_in, number_of, table, of_resource, of_type}
 use Rattle.compose_left.specs.Numbers.{held_cmp, AreOrigins}
 use Rattle.compose_left.specs.Renaming.{number_held, number_at}
 use Rattle.compose_left.proofs.NumberLaws.{held_is}
-use Rattle.compose_left.proofs.FollowLaws.{held_itself}
 use Rattle.compose_left.proofs.OriginLaws.{origin_step}
 
 all_front : {X : Type 0} (P : X → Type 0) (xs ys : List X) → AllByRecursion P (xs ++ ys) → AllByRecursion P xs × AllByRecursion P ys

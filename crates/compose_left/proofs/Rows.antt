@@ -1,7 +1,6 @@
 -- Worked rows of origins.
-use Rattle.std.proofs.Common.{◌≡◌, ℕ, List, [], ◌∷◌, Option, Some, None, refl, true}
-use Rattle.comp_entity.specs.Entity.{made, brought, ValueTree, EnumOf, FuncTree, Value, Resource, EntityTree, IsType, IsFunc, IsInstance, Entries, no_entry, entry, ShapeTree}
-use Rattle.compose_left.specs.declared.wiring.Wire.{Wire}
+use Rattle.std.proofs.Common.{◌≡◌, [], ◌∷◌, None, refl, true}
+use Rattle.comp_entity.specs.Entity.{made, brought, Resource, EntityTree, IsType, IsFunc, IsInstance, no_entry, entry, ShapeTree}
 use Rattle.compose_left.specs.declared.origin.Origin.TheVariants as origins
 use Rattle.compose_left.specs.Spots.{resource}
 use Rattle.compose_left.specs.Wiring.{Wiring}

@@ -1,6 +1,5 @@
 -- Imports agree, first part: what several instances ask under one name of a left import is merged.
-use Rattle.std.specs.Prelude.{ℕ, suc, Bool, true, false, ◌&&◌, not, List, Option, Some, None, is_some, option_map, if◌then◌else◌}
-use Rattle.std.specs.Str.{bytes_eq}
+use Rattle.std.specs.Prelude.{ℕ, Bool, true, ◌&&◌, not, List, Option, Some, None, is_some, if◌then◌else◌}
 use Rattle.comp_entity.specs.Entity.{EntityTree, IsInstance, Entries, no_entry, entry}
 use Rattle.comp_entity.specs.Fits.{equal, under}
 

@@ -1,5 +1,5 @@
 -- What copies of types and entities with changed names are.
-use Rattle.std.specs.Prelude.{ℕ, suc, ◌+◌, ◌*◌, Box, Bool, List, Option, Some, option_map, unwrap_or}
+use Rattle.std.specs.Prelude.{ℕ, suc, ◌+◌, ◌*◌, Box, List, Option, Some, option_map, unwrap_or}
 use Rattle.std.specs.BTreeMap.{get}
 use Rattle.std.specs.Global.{Global}
 use Rattle.comp_entity.specs.declared.entity.ValueShape.{ValueShape}

@@ -1,6 +1,6 @@
 -- Where imports and exports name resources and types: the leaves of Places in comp_entity, each with what it names.
-use Rattle.std.specs.Prelude.{ℕ, suc, Bool, true, false, ◌&&◌, List, [], ◌∷◌, ◌++◌, map, flat_map, Option, Some, None, option_map, option_to_list, option_and_then, ◌==◌}
-use Rattle.comp_entity.specs.Entity.{Name, ValueTree, Value, Resource, EntityTree, IsType, IsInstance, Entries, no_entry, entry}
+use Rattle.std.specs.Prelude.{ℕ, suc, true, false, List, [], ◌∷◌, ◌++◌, map, flat_map, Option, Some, None, option_map, option_to_list}
+use Rattle.comp_entity.specs.Entity.{Name, ValueTree, Value, Resource, EntityTree, IsType, Entries}
 use Rattle.comp_entity.specs.Fits.{place_of}
 use Rattle.comp_entity.specs.Places.{Path, leaves_of, leaves_in}
 use Rattle.compose_left.specs.declared.spots.Thing.{Thing}

@@ -1,6 +1,6 @@
 -- What maps find, as lists find it.
 use Rattle.std.specs.Borrow.{Bor}
-use Rattle.std.specs.Prelude.{MatchOption, Option, ◌≡◌, ℕ, Bool, true, false, List, [], ◌∷◌, find, option_map}
+use Rattle.std.specs.Prelude.{MatchOption, Option, ◌≡◌, List, [], ◌∷◌, find, option_map}
 use Rattle.std.specs.BTreeMap.{BTreeMap, get}
 use Rattle.std.specs.Cmp.Lexicographic.{slice_cmp}
 use Rattle.std.specs.Ordering.{nat_cmp, bool_cmp, ordering_then}

@@ -1,4 +1,4 @@
-use Rattle.std.proofs.Common.{◌≡◌, ◌∙◌, subst, List}
+use Rattle.std.proofs.Common.{◌∙◌, subst, List}
 use Rattle.std.specs.Result.{IfOk}
 use Rattle.compose_left.specs.declared.known.Origins.{Origins}
 use Rattle.compose_left.specs.declared.origin.Held.{Held}

@@ -1,4 +1,4 @@
-use Rattle.std.proofs.Common.{rules, sym, subst, ap, arith, take}
+use Rattle.std.proofs.Common.{sym, subst, ap, arith, take}
 use Rattle.comp_entity.specs.Views.{entity_tree, named_entities}
 use Rattle.compose_left.specs.Merged.{FindsNames}
 use Rattle.compose_left.proofs.MergeLaws.{named_more, named_count}

@@ -1,8 +1,6 @@
 use Rattle.std.proofs.Common.{rules, ◌≡◌, None, ap, sym, ◌∙◌, [], ◌∷◌, ◌++◌}
 use Rattle.std.specs.BTreeMap.{get}
-use Rattle.std.proofs.lemmas.List.{map-append}
 use Rattle.comp_entity.specs.Views.{entity_tree, named_entities}
-use Rattle.comp_entity.specs.declared.entity.Entity.{Entity}
 use Rattle.compose_left.specs.Merged.{name_cmp, if_absent}
 use Rattle.compose_left.proofs.MergeLaws.{copied, named_push}
 use Rattle.compose_left.proofs.merge.push_if_new.Goals as goal

@@ -1,7 +1,7 @@
 use Rattle.std.proofs.Common.{◌≡◌, ◌∙◌, ap, sym, rules, Some, None, [], ◌∷◌, ◌++◌, length}
 use Rattle.compose_left.specs.Origins.{place_in}
 use Rattle.std.specs.BTreeMap.{get}
-use Rattle.compose_left.specs.Numbers.{key_cmp, key_place, origin_key}
+use Rattle.compose_left.specs.Numbers.{key_cmp, key_place}
 use Rattle.compose_left.proofs.NumberLaws.{found, missing, finds_added}
 use Rattle.compose_left.proofs.numbering.place_of.Goals as goal
 

@@ -1,4 +1,4 @@
-use Rattle.std.proofs.Common.{◌≡◌, ◌∙◌}
+use Rattle.std.proofs.Common.{◌∙◌}
 use Rattle.compose_left.specs.declared.spots.Spot.{Spot}
 use Rattle.compose_left.specs.Origins.{is_exported_at}
 use Rattle.compose_left.specs.Wired.{place_cmp}

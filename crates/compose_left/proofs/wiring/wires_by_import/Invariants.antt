@@ -1,5 +1,5 @@
 use Rattle.std.proofs.Common.{◌≡◌}
-use Rattle.std.specs.Prelude.{find, vec_len}
+use Rattle.std.specs.Prelude.{vec_len}
 use Rattle.std.specs.Option.{option_or}
 use Rattle.std.specs.BTreeMap.{get}
 use Rattle.compose_left.specs.declared.wiring.Input.{Input}
