@@ -34,9 +34,7 @@ fn func(alloc: Global, gives: bool) -> Entity {
 /// The entity of a word.
 fn entity(alloc: Global, word: &str) -> Result<Entity, Fail> {
     if word == "-" {
-        return Ok(Entity::Ty(TypeShape::Value(ValueShape::Primitive(
-            Primitive::Bool,
-        ))));
+        return Ok(Entity::Ty(TypeShape::Value(ValueShape::Primitive(Primitive::Bool))));
     }
     let mut exports = Vec::new(alloc);
     for letter in word.split("") {
@@ -90,7 +88,11 @@ fn needs_merge_where_they_agree(rt: HostRuntime) -> Result<(), Fail> {
         let first = words.next().unwrap_or("");
         let second = words.next().unwrap_or("");
         let expected = words.next().unwrap_or("");
-        assert_eq!(rt; outcome(rt.alloc(), first, second)?.as_str(), expected, "of {row}");
+        assert_eq!(rt;
+            outcome(rt.alloc(), first, second)?.as_str(),
+            expected,
+            "of {row}"
+        );
     }
     Ok(())
 }

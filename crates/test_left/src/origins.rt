@@ -87,8 +87,16 @@ fn resources_come_along_wires(rt: HostRuntime) -> Result<(), Fail> {
     for (sources, first, second) in ROWS {
         let shared = number(rt.alloc(), sources, 2, 1)?;
         assert!(rt; shared.is_some());
-        assert_eq!(rt; shared == number(rt.alloc(), sources, 0, 0)?, first, "from {sources}");
-        assert_eq!(rt; shared == number(rt.alloc(), sources, 1, 0)?, second, "from {sources}");
+        assert_eq!(rt;
+            shared == number(rt.alloc(), sources, 0, 0)?,
+            first,
+            "from {sources}"
+        );
+        assert_eq!(rt;
+            shared == number(rt.alloc(), sources, 1, 0)?,
+            second,
+            "from {sources}"
+        );
     }
     Ok(())
 }
