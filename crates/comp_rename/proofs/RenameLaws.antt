@@ -1,5 +1,5 @@
 -- Laws of numbers that were renamed.
-use Rattle.std.specs.Prelude.{◌≡◌, ℕ, zero, suc, ◌<◌, ◌+◌, List, [], ◌∷◌, map, length, slice_index_or, Option, Some, None, cond, refl, ◌⊎◌}
+use Rattle.std.specs.Prelude.{◌≡◌, ℕ, zero, suc, ◌<◌, List, [], ◌∷◌, map, length, slice_index_or, Option, Some, cond, refl, ◌⊎◌}
 use Rattle.std.specs.BTreeMap.{BTreeMap, get, Updates, is_at}
 use Rattle.std.specs.Map.{lookup}
 use Rattle.std.specs.FinMap.{nat_cmp-IsAntisymmetric}
@@ -14,7 +14,7 @@ use Rattle.comp_rename.specs.declared.rename.Mentioned.{Mentioned}
 use Rattle.comp_rename.specs.Known.{mentioned_cmp, IsRenamed, IsKnown}
 use Rattle.comp_table.specs.Changes.{head_by, scopes_in, tree_by, trees_by}
 use Rattle.comp_table.specs.StandLaws.{stands_kept}
-use Rattle.comp_table.specs.Trees.{PlainTree, tree, PlainTrees, none, more, trees_of, root, below_root, tree_at, node_tree, Stands, AllStand, Extends, IsBelow}
+use Rattle.comp_table.specs.Trees.{PlainTree, tree, none, more, trees_of, root, below_root, tree_at, node_tree, Stands, AllStand, Extends, IsBelow}
 use Rattle.comp_table.specs.declared.head.Head.{Head}
 use Rattle.comp_table.specs.declared.head.Head.TheVariants as head
 

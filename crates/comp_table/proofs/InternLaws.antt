@@ -6,11 +6,11 @@ use Rattle.comp_entity.specs.declared.entity.ValueShape.{ValueShape, fold-roll-V
 use Rattle.comp_entity.specs.declared.entity.ValueShape.TheOpen as layer
 use Rattle.comp_entity.specs.declared.entity.ValueShape.TheVariants as value
 use Rattle.comp_entity.specs.declared.entity.FuncShape.{FuncShape}
-use Rattle.comp_entity.specs.Entity.{Name, ValueTree, RecordOf, VariantOf, TupleOf, ResultOf}
-use Rattle.comp_entity.specs.Views.{value_tree, func_tree, value_step, values_of, fields_of, cases_of, payload_of, boxed}
+use Rattle.comp_entity.specs.Entity.{Name, ValueTree, VariantOf}
+use Rattle.comp_entity.specs.Views.{value_tree, func_tree, value_step, values_of, fields_of, cases_of}
 use Rattle.comp_table.specs.declared.head.Head.TheVariants as head
-use Rattle.comp_table.specs.Trees.{PlainTree, PlainTrees, tree, more, trees_of}
-use Rattle.comp_table.specs.Plain.{around, around_two, under_label, plain_value, plain_values, plain_cases, plain_payload, plain_result, plain_param, plain_func}
+use Rattle.comp_table.specs.Trees.{tree, more, trees_of}
+use Rattle.comp_table.specs.Plain.{around_two, plain_value, plain_values, plain_cases, plain_result, plain_param, plain_func}
 use Rattle.comp_table.specs.Rows.{value_plain, boxed_plain, held_plain, field_plain, case_plain}
 
 parts_plain : (ts : List ValueShape) → plain_values (values_of (map value_tree ts)) ≡ trees_of (map value_plain ts)

@@ -4,12 +4,11 @@ use Rattle.std.specs.Global.{Global}
 use Rattle.comp_format.specs.declared.core_types.CoreVal.{CoreVal}
 use Rattle.comp_entity.specs.declared.entity.ValueShape.{ValueShape}
 use Rattle.comp_entity.specs.declared.entity.TypeShape.{TypeShape}
-use Rattle.comp_entity.specs.declared.entity.ComponentShape.{ComponentShape}
 use Rattle.comp_entity.specs.declared.entity.Entity.{Entity}
-use Rattle.comp_entity.specs.Views.{value_tree, payload_of, type_tree, entity_tree, component_sides}
+use Rattle.comp_entity.specs.Views.{value_tree, payload_of, type_tree, entity_tree}
 use Rattle.comp_table.specs.declared.head.Head.TheVariants as head
 use Rattle.comp_table.specs.Trees.{PlainTree, tree, trees_of}
-use Rattle.comp_table.specs.Plain.{leaf, around, under_label, plain_value, plain_payload, plain_type, plain_entity, plain_entries}
+use Rattle.comp_table.specs.Plain.{leaf, around, under_label, plain_value, plain_payload, plain_type, plain_entity}
 
 abbrev pub value_plain : ValueShape → PlainTree
 value_plain v = plain_value (value_tree v)

@@ -1,11 +1,10 @@
 -- Laws of numbers that stand for trees, also in a table that has grown.
-use Rattle.std.specs.Prelude.{◌≡◌, ℕ, zero, suc, ◌+◌, ◌<◌, List, [], ◌∷◌, ◌++◌, map, length, refl, take, slice_index_or, Result, IfOk}
-use Rattle.std.specs.List.{AllByRecursion}
+use Rattle.std.specs.Prelude.{◌≡◌, ℕ, ◌+◌, ◌<◌, List, [], ◌∷◌, ◌++◌, map, length, refl, take, slice_index_or, Result, IfOk}
 use Rattle.std.proofs.Common.{sym, ◌∙◌, ap, subst, append_assoc, append-nil, arith, length-append}
 use Rattle.std.proofs.lemmas.List.{get_or_append_left, map-append, take_more, take_all}
 use Rattle.comp_table.specs.declared.head.Head.{Head}
 use Rattle.comp_table.specs.declared.head.Head.TheVariants as head
-use Rattle.comp_table.specs.Trees.{PlainTree, tree, none, more, trees_of, tree_at, node_tree, IsBelow, Extends, Stands, AllStand}
+use Rattle.comp_table.specs.Trees.{PlainTree, tree, none, trees_of, tree_at, node_tree, IsBelow, Extends, Stands, AllStand}
 
 pub grows_not : (ts : List PlainTree) → Extends ts ts
 grows_not ts = record { added = []; new_is = sym (append-nil ts) }

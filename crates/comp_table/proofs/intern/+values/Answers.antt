@@ -1,9 +1,9 @@
-use Rattle.std.proofs.Common.{rules, ap, sym, ◌∙◌, map, length}
+use Rattle.std.proofs.Common.{rules, ap, sym, ◌∙◌, map}
 use Rattle.comp_table.specs.declared.head.Head.TheVariants as head
 use Rattle.comp_table.specs.Plain.{around_two, under_label}
 use Rattle.comp_table.specs.Trees.{tree, trees_of, Extends, Stands}
 use Rattle.comp_table.specs.Rows.{value_plain, field_plain, case_plain}
-use Rattle.comp_table.specs.StandLaws.{grows_not, grows_on, stands_kept, all_none, all_step, all_end, number_of_same, same_stands, node_is}
+use Rattle.comp_table.specs.StandLaws.{grows_not, grows_on, stands_kept, all_none, all_step, number_of_same, same_stands, node_is}
 use Rattle.comp_table.proofs.InternLaws.{record_is, variant_is, tuple_is, result_is}
 use Rattle.comp_table.proofs.intern.+values.Goals as goal
 use Rattle.comp_table.proofs.intern.+values.Goals.{intern_cases-in-Some+in_ok-number-in-Some as some, intern_cases-in-None+in_ok-number-in-None as none}

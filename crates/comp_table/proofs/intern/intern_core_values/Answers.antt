@@ -1,8 +1,7 @@
-use Rattle.std.proofs.Common.{rules, ap, sym, ◌∙◌}
+use Rattle.std.proofs.Common.{rules}
 use Rattle.comp_table.specs.declared.head.Head.TheVariants as head
-use Rattle.comp_table.specs.Plain.{under_label}
 use Rattle.comp_table.specs.Rows.{core_value_plain}
-use Rattle.comp_table.specs.StandLaws.{grows_not, grows_on, all_none, all_step, all_end, number_of_same, same_stands, node_is}
+use Rattle.comp_table.specs.StandLaws.{grows_not, grows_on, all_none, all_step, all_end, number_of_same, node_is}
 use Rattle.comp_table.proofs.intern.intern_core_values.Goals as goal
 
 pub loop-value-init : goal.loop-value-init

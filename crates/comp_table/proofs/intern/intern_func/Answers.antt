@@ -1,4 +1,4 @@
-use Rattle.std.proofs.Common.{rules, ap, sym, subst, ◌∙◌, ◌∷◌, map, length, List, ℕ}
+use Rattle.std.proofs.Common.{ap, sym, subst, ◌∙◌, ◌∷◌, map, length}
 use Rattle.comp_table.specs.declared.head.Head.TheVariants as head
 use Rattle.comp_table.specs.Rows.{held_plain, field_plain}
 use Rattle.comp_table.specs.Trees.{IsBelow, node_tree, tree, trees_of}

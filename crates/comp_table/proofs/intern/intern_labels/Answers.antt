@@ -1,6 +1,6 @@
 use Rattle.std.proofs.Common.{rules, ap, ◌∙◌}
 use Rattle.comp_table.specs.Rows.{label_plain}
-use Rattle.comp_table.specs.StandLaws.{grows_not, grows_on, all_none, all_step, all_end, same_stands}
+use Rattle.comp_table.specs.StandLaws.{grows_not, grows_on, all_none, all_step, same_stands}
 use Rattle.comp_table.proofs.intern.intern_labels.Goals as goal
 
 pub loop-label-init : goal.loop-label-init

@@ -6,7 +6,7 @@ use Rattle.comp_table.specs.declared.head.Head.TheVariants as head
 use Rattle.comp_table.specs.Plain.{around, around_two}
 use Rattle.comp_table.specs.Trees.{tree, trees_of}
 use Rattle.comp_table.specs.Rows.{entity_plain, type_plain, entry_plain, entries_plain}
-use Rattle.comp_table.specs.StandLaws.{grows_not, grows_on, stands_kept, all_none, all_step, all_end, number_of_same, same_stands, node_is}
+use Rattle.comp_table.specs.StandLaws.{grows_not, grows_on, stands_kept, all_none, all_step, number_of_same, same_stands, node_is}
 use Rattle.comp_table.proofs.EntityLaws.{instance_rows, import_rows, export_rows, entity_instance, entity_component, type_instance, type_component, component_is, instance_is, tree_of_instance, tree_of_component, tree_of_type, type_tree_of_instance, type_tree_of_component, shown_step, shown_end, on_ok_always}
 use Rattle.comp_table.proofs.intern_entity.+entities.Goals as goal
 

@@ -1,4 +1,4 @@
-use Rattle.std.proofs.Common.{rules, ap, sym, ◌∙◌, ◌≡◌, subst, map, Some, List}
+use Rattle.std.proofs.Common.{rules, ap, sym, ◌∙◌, ◌≡◌, subst, map, Some}
 use Rattle.std.specs.BTreeMap.{get}
 use Rattle.comp_table.specs.declared.key.Key.{Key}
 use Rattle.comp_table.specs.Changes.{bare_tree}

@@ -1,4 +1,4 @@
-use Rattle.std.proofs.Common.{rules, ◌<◌, ◌∙◌, ap, sym, subst, List, length}
+use Rattle.std.proofs.Common.{rules, ◌<◌, sym, subst, List, length}
 use Rattle.comp_table.specs.declared.table.Node.{Node}
 use Rattle.comp_table.specs.Changes.{bare_tree}
 use Rattle.comp_table.specs.Table.{trees}

@@ -1,5 +1,5 @@
-use Rattle.std.proofs.Common.{rules, ◌≡◌, ap, subst, List, length, arith, ◌<◌, sym}
-use Rattle.comp_table.specs.Trees.{PlainTree, IsOnce, tree_at}
+use Rattle.std.proofs.Common.{rules, ◌≡◌, ap, subst, arith}
+use Rattle.comp_table.specs.Trees.{IsOnce, tree_at}
 use Rattle.comp_table.proofs.TableLaws.{once}
 use Rattle.comp_table.proofs.table.TypeTable.is_same.Goals as goal
 
