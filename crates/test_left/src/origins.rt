@@ -67,6 +67,14 @@ fn wires(alloc: Global, sources: &str) -> Result<Vec<Wire>, Memory> {
     Ok(wires)
 }
 
+/// The number of a resource.
+fn resource_number(entity: &Entity) -> Option<usize> {
+    match entity {
+        Entity::Ty(TypeShape::Resource(name)) => Some(name.number()),
+        _ => None,
+    }
+}
+
 /// The number of a resource of an instance.
 fn number(alloc: Global, sources: &str, at: usize, out: usize) -> Result<Option<usize>, Memory> {
     let shapes = shapes(alloc)?;
@@ -76,10 +84,7 @@ fn number(alloc: Global, sources: &str, at: usize, out: usize) -> Result<Option<
     }
     let origins = origins(alloc, &shapes, &wires)?;
     let placed = origins.place(alloc, at, &resource(out)?)?;
-    match placed {
-        Entity::Ty(TypeShape::Resource(name)) => Ok(Some(name.number())),
-        _ => Ok(None),
-    }
+    Ok(resource_number(&placed))
 }
 
 #[test]
