@@ -131,8 +131,9 @@ impl MapHashes {
         AnyHash::from_digest(self.root)
     }
 
-    /// The path of a log, where the map has a value for it.
-    fn path(&self, alloc: Global, log_id: &LogId) -> Result<Option<SiblingPath>, Memory>
+    /// The path of a log, where the map has a value for it: the siblings beside the way from the root to its key, but for
+    /// the empty ones.
+    pub fn path(&self, alloc: Global, log_id: &LogId) -> Result<Option<SiblingPath>, Memory>
         ensures { IfOk result (λ found. MatchOption found (value_at (map_of self.now) (log_key log_id.now) ≡ None)
             (λ path. IsSome (value_at (map_of self.now) (log_key log_id.now))
             × IsMapPath (path_of path.given path.siblings.items)
