@@ -8,11 +8,7 @@ use Rattle.std.proofs.lemmas.Option.{same_Some}
 use Rattle.comp_entity.specs.Entity.{ShapeTree}
 use Rattle.compose_left.proofs.ListLaws.{all_push}
 use Rattle.compose_left.specs.declared.wiring.Wire.{Wire}
-use Rattle.compose_left.specs.Wiring.{HasNoCircle, is_into, wire_into}
-
-pub record IsForward (n : ℕ) (w : Wire) : Type 0 where
-  pub later : w.source < w.target
-  pub there : w.target < n
+use Rattle.compose_left.specs.Wiring.{HasNoCircle, IsForward, is_into, wire_into}
 
 pub forward_step : (n : ℕ) (ws : List Wire) (i : ℕ) (d : Wire) → i < length ws → AllByRecursion (IsForward n) (take i ws) → (slice_index_or ws i d).source < (slice_index_or ws i d).target → (slice_index_or ws i d).target < n
     → AllByRecursion (IsForward n) (take (i + 1) ws)

@@ -31,3 +31,8 @@ pub record HasNoCircle (w : Wiring) : Type 0 where
   pub place : ℕ → ℕ
   pub behind : (target import : ℕ) (wire : Wire) → wire_into w.wires target import ≡ Some wire → place wire.source < place target
   pub within : (i : ℕ) → place i ≤ length w.shapes
+
+-- A wire comes from an instance that is made before the one that it goes to, which is there.
+pub record IsForward (instances : ℕ) (w : Wire) : Type 0 where
+  pub later : w.source < w.target
+  pub there : w.target < instances

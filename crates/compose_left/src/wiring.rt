@@ -1,10 +1,11 @@
 //! Wires between instances, and one step along them.
 
-ghost use Rattle.std.specs.Prelude.{◌≡◌, IfOk, IsTrue};
+ghost use Rattle.std.specs.Prelude.{◌≡◌, false, length, IfOk, IsTrue};
+ghost use Rattle.std.specs.List.{AllByRecursion};
 ghost use Rattle.std.specs.Option.{option_copied};
 ghost use Rattle.compose_left.specs.Origins.{along, brought_at, export_name, given_at, given_path, step_from};
 ghost use Rattle.compose_left.specs.Wired.{FindsWires, IsFound, IsWired, ArePlaces, wiring_of};
-ghost use Rattle.compose_left.specs.Wiring.{HasNoCircle, shape_at, shapes_of};
+ghost use Rattle.compose_left.specs.Wiring.{HasNoCircle, IsForward, shape_at, shapes_of};
 
 use crate::origin::{Held, Origin, Step};
 use crate::path::Path;
@@ -55,7 +56,8 @@ pub struct Wired<'a> {
 /// Whether each wire comes from an instance that is made before the one that it goes to, which is there: then the wires
 /// have no circle.
 pub fn follows_order(shapes: &[Shape], wires: &[Wire]) -> bool
-    ensures { IsTrue result → HasNoCircle (record { shapes = shapes_of shapes.now; wires = wires.now }) }
+    ensures no_circle { IsTrue result → HasNoCircle (record { shapes = shapes_of shapes.now; wires = wires.now }) }
+    ensures backward { (result ≡ false) → AllByRecursion (IsForward (length shapes.now)) wires.now → ⊥ }
 {
     for wire in wires {
         if wire.source >= wire.target || wire.target >= shapes.len() {

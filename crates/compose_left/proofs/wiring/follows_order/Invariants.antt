@@ -1,6 +1,6 @@
 use Rattle.std.proofs.Common.{take, length}
 use Rattle.std.specs.List.{AllByRecursion}
-use Rattle.compose_left.proofs.OrderLaws.{IsForward}
+use Rattle.compose_left.specs.Wiring.{IsForward}
 use Rattle.compose_left.proofs.wiring.follows_order.Given as goal
 
 abbrev pub invariant-loop-wire : goal.invariant-loop-wire
