@@ -1,0 +1,8 @@
+use Rattle.compose_agree.proofs.OrderLaws.{one_order, not_stuck}
+use Rattle.compose_agree.proofs.laws.one_order.Goals as goal
+
+pub returns-clause-one : goal.returns-clause-one
+returns-clause-one c = one_order
+
+pub returns-clause-none : goal.returns-clause-none
+returns-clause-none c = not_stuck

@@ -1,0 +1,18 @@
+//! Laws over definitions alone.
+
+ghost use Rattle.std.specs.Prelude.{◌≡◌, Bool, List, ℕ};
+ghost use Rattle.compose_agree.specs.Order.{HasPlaces, IsOrder, IsStuck, all_of, is_ready};
+
+/// Things have at most one order, and none where some of them wait for each other.
+pub fn one_order()
+    ensures one { (ready : List ℕ → ℕ → Bool) (all xs ys : List ℕ) → IsOrder ready all xs → IsOrder ready all ys
+        → xs ≡ ys }
+    ensures none { (ready : List ℕ → ℕ → Bool) (all xs : List ℕ) (n : ℕ) → IsOrder ready all xs → IsStuck ready all n
+        → ⊥ }
+{}
+
+/// Where things need each other in no circle, none waits without end.
+pub fn only_circles_have_no_order()
+    ensures { (needs : List (List ℕ)) (place : ℕ → ℕ) (n : ℕ) → HasPlaces needs place
+        → IsStuck (is_ready needs) (all_of needs) n → ⊥ }
+{}
