@@ -1,2 +1,3 @@
 mod TurnLaws
 mod OrderLaws
+mod CaseLaws

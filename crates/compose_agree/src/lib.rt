@@ -4,6 +4,8 @@
 #![tactic(auto)]
 
 pub mod laws;
+mod letter_case;
 mod order;
 
+pub use letter_case::{CaseClash, Named, case_clash};
 pub use order::{Order, order_of};
