@@ -5,11 +5,10 @@ use Rattle.std.specs.Str.{str_to_ascii_lowercase}
 use Rattle.std.specs.BTreeMap.{BTreeMap, get, Updates}
 use Rattle.std.specs.Cmp.Lexicographic.{slice_cmp, texts_ties, nat_list_eq_equiv, same_text}
 use Rattle.std.specs.Ordering.{nat_cmp, is_eq}
-use Rattle.std.proofs.lemmas.Bool.{cases_Bool, cases_lt}
+use Rattle.std.proofs.lemmas.Bool.{cases_lt}
 use Rattle.std.proofs.lemmas.Option.{same_Some, slice_get-map, slice_get_read}
 use Rattle.std.proofs.lemmas.List.{length-map}
 use Rattle.warg_values.specs.declared.text.Text.{Text}
-use Rattle.compose_agree.specs.declared.letter_case.CaseClash.{CaseClash}
 use Rattle.compose_agree.specs.LetterCase.{ApartBelow, NoneLike, IsFirstClash}
 use Rattle.compose_agree.specs.Lowered.{FindsLowered, IsLowered, NoneLowered}
 
@@ -55,6 +54,7 @@ noted old new names end name finds at none updates q =
   where
     lower : List ℕ
     lower = str_to_ascii_lowercase name
+
     by : (b : Bool) → bytes_eq q lower ≡ b → MatchOption (cond b (Some end) (get (slice_cmp nat_cmp) old q)) (NoneLowered q names (end + 1)) (IsLowered q names (end + 1))
     by true e =
         record {

@@ -1,10 +1,12 @@
 -- What is taken in turn is one list, and without a circle it is all of them.
-use Rattle.std.proofs.Common.{◌≡◌, ℕ, zero, suc, ◌+◌, ◌<◌, Bool, true, false, List, [], ◌∷◌, ◌++◌, refl, sym, ap, subst, ◌∙◌, arith}
-use Rattle.std.specs.Prelude.{◌||◌, ◌&&◌, ◌==◌}
-use Rattle.std.specs.List.{AllByRecursion, list_all, list_any}
-use Rattle.std.proofs.lemmas.Bool.{or_left, or_right, eq-eqb, eqb-true}
+use Rattle.std.proofs.Common.{◌≡◌, ℕ, zero, suc, ◌+◌, ◌<◌, Bool, true, false, cond, List, [], ◌∷◌, ◌++◌, length, refl, sym, ap, subst, ◌∙◌, arith}
+use Rattle.std.specs.Prelude.{◌||◌, ◌&&◌, ◌==◌, if◌then◌else◌}
+use Rattle.std.specs.List.{AllByRecursion, list_all, range_with_len}
+use Rattle.std.proofs.lemmas.Bool.{or_left, or_right, and_parts, eq-eqb, eqb-true}
 use Rattle.std.proofs.lemmas.List.{append-nil, append_assoc}
-use Rattle.compose_agree.specs.Order.{Takes, IsOrder, IsStuck, HasPlaces, is_ready, needs_at, all_of, has}
+use Rattle.compose_agree.specs.declared.order.Order.{Order}
+use Rattle.compose_agree.specs.declared.order.Order.TheVariants.{Circle}
+use Rattle.compose_agree.specs.Order.{Takes, IsOrder, IsStuck, Ordered, HasPlaces, is_ready, needs_at, all_of, has}
 
 no_truth : {A : Type 0} → true ≡ false → A
 no_truth h = absurd cc
@@ -119,3 +121,116 @@ no_first needs place taken rest places takes none (suc k) y below there =
 pub never_stuck : (needs : List (List ℕ)) (place : ℕ → ℕ) (n : ℕ) → HasPlaces needs place → IsStuck (is_ready needs) (all_of needs) n → ⊥
 never_stuck needs place n places stuck =
     no_first needs place stuck.taken (n ∷ stuck.rest) places stuck.takes stuck.none (suc (place n)) n (omega arith) (or_left (n == n) (has stuck.rest n) (eq-eqb n n refl))
+
+-- ---- an order gives each thing a place
+
+-- the place of the first of a number
+abbrev pub place_in : List ℕ → ℕ → ℕ
+place_in [] n = 0
+place_in (m ∷ ms) n = if m == n then 0 else suc (place_in ms n)
+
+-- where a number is taken first
+record IsTakenFirst (ready : List ℕ → ℕ → Bool) (done taken : List ℕ) (n : ℕ) : Type 0 where
+  before : List ℕ
+  after : List ℕ
+  cut : taken ≡ before ++ n ∷ after
+  not_before : has before n ≡ false
+  is_ready : ready (done ++ before) n ≡ true
+
+taken_first : (ready : List ℕ → ℕ → Bool) (done left taken rest : List ℕ) (n : ℕ) → Takes ready done left taken rest → has taken n ≡ true → IsTakenFirst ready done taken n
+taken_first ready done left [] rest n takes there = no_truth (sym there)
+taken_first ready done left (x ∷ taken) rest n takes there = by (x == n) refl (λ later. taken_first ready (done ++ x ∷ []) (takes.0 ++ takes.1) taken rest n takes.5 later)
+  where
+    by : (b : Bool) → (x == n) ≡ b → (has taken n ≡ true → IsTakenFirst ready (done ++ x ∷ []) taken n) → IsTakenFirst ready done (x ∷ taken) n
+    by true is further =
+        record {
+          before = [];
+          after = taken;
+          cut = ap (λ m. m ∷ taken) (eqb-true x n is);
+          not_before = refl;
+          is_ready = subst (λ d. ready d n ≡ true) (sym (append-nil done)) (subst (λ m. ready done m ≡ true) (eqb-true x n is) takes.4);
+        }
+    by false is further =
+        let later = further (sym (ap (λ b. b || has taken n) is) ∙ there) in
+        record {
+          before = x ∷ later.before;
+          after = later.after;
+          cut = ap (λ ms. x ∷ ms) later.cut;
+          not_before = ap (λ b. b || has later.before n) is ∙ later.not_before;
+          is_ready = subst (λ d. ready d n ≡ true) (append_assoc done (x ∷ []) later.before) later.is_ready;
+        }
+
+place_behind : (before after : List ℕ) (n : ℕ) → has before n ≡ false → place_in (before ++ n ∷ after) n ≡ length before
+place_behind [] after n none = ap (λ b. cond b 0 (suc (place_in after n))) (eq-eqb n n refl)
+place_behind (x ∷ before) after n none =
+    let apart = neither (x == n) (has before n) none in
+    ap (λ b. cond b 0 (suc (place_in (before ++ n ∷ after) n))) apart.0 ∙ ap suc (place_behind before after n apart.1)
+
+place_within : (before rest : List ℕ) (m : ℕ) → has before m ≡ true → place_in (before ++ rest) m < length before
+place_within [] rest m there = no_truth (sym there)
+place_within (x ∷ before) rest m there = by (x == m) refl (λ within. place_within before rest m within)
+  where
+    by : (b : Bool) → (x == m) ≡ b → (has before m ≡ true → place_in (before ++ rest) m < length before) → cond (x == m) 0 (suc (place_in (before ++ rest) m)) < suc (length before)
+    by true is further = subst (λ b. cond b 0 (suc (place_in (before ++ rest) m)) < suc (length before)) (sym is) (omega arith)
+    by false is further =
+        let less = further (sym (ap (λ b. b || has before m) is) ∙ there) in
+        subst (λ b. cond b 0 (suc (place_in (before ++ rest) m)) < suc (length before)) (sym is) (omega (arith, less))
+
+all_met : (taken ns : List ℕ) (m : ℕ) → list_all (has taken) ns ≡ true → has ns m ≡ true → has taken m ≡ true
+all_met taken [] m all there = no_truth (sym there)
+all_met taken (n ∷ ns) m all there = by (n == m) refl (λ within. all_met taken ns m (and_parts (has taken n) (list_all (has taken) ns) all).1 within)
+  where
+    by : (b : Bool) → (n == m) ≡ b → (has ns m ≡ true → has taken m ≡ true) → has taken m ≡ true
+    by true is further = subst (λ k. has taken k ≡ true) (eqb-true n m is) (and_parts (has taken n) (list_all (has taken) ns) all).0
+    by false is further = further (sym (ap (λ b. b || has ns m) is) ∙ there)
+
+-- what is taken was left
+was_left : (ready : List ℕ → ℕ → Bool) (done left taken rest : List ℕ) (m : ℕ) → Takes ready done left taken rest → has taken m ≡ true → has left m ≡ true
+was_left ready done left [] rest m takes there = no_truth (sym there)
+was_left ready done left (x ∷ taken) rest m takes there =
+    ap (λ xs. has xs m) takes.2 ∙ has_append takes.0 (x ∷ takes.1) m
+    ∙ by (x == m) refl (λ within. sym (has_append takes.0 takes.1 m) ∙ was_left ready (done ++ x ∷ []) (takes.0 ++ takes.1) taken rest m takes.5 within)
+  where
+    with_it : (a b : Bool) → (a || true) ≡ true
+    with_it true b = refl
+    with_it false b = refl
+
+    around : (a b c : Bool) → (a || c) ≡ true → (a || (b || c)) ≡ true
+    around true b c e = refl
+    around false true c e = refl
+    around false false c e = e
+
+    by : (b : Bool) → (x == m) ≡ b → (has taken m ≡ true → (has takes.0 m || has takes.1 m) ≡ true) → (has takes.0 m || ((x == m) || has takes.1 m)) ≡ true
+    by true is further = ap (λ b. has takes.0 m || (b || has takes.1 m)) is ∙ with_it (has takes.0 m) true
+    by false is further = around (has takes.0 m) (x == m) (has takes.1 m) (further (sym (ap (λ b. b || has taken m) is) ∙ there))
+
+nothing_needed : (needs : List (List ℕ)) (a n m : ℕ) → has (range_with_len a (length needs)) (a + n) ≡ false → has (needs_at needs n) m ≡ true → ⊥
+nothing_needed [] a n m none there = no_truth (sym there)
+nothing_needed (ns ∷ needs) a zero m none there =
+    let here : a ≡ a + zero = omega arith in
+    no_truth (sym (or_left (a == a + zero) (has (range_with_len (a + 1) (length needs)) (a + zero)) (eq-eqb a (a + zero) here)) ∙ none)
+nothing_needed (ns ∷ needs) a (suc n) m none there =
+    let moved : a + suc n ≡ (a + 1) + n = omega arith in
+    nothing_needed needs (a + 1) n m (ap (λ k. has (range_with_len (a + 1) (length needs)) k) (sym moved) ∙ (neither (a == a + suc n) (has (range_with_len (a + 1) (length needs)) (a + suc n)) none).1) there
+
+pub order_places : (needs : List (List ℕ)) (order : List ℕ) → IsOrder (is_ready needs) (all_of needs) order → HasPlaces needs (place_in order)
+order_places needs order takes n m asked = by (has order n) refl
+  where
+    at : IsTakenFirst (is_ready needs) [] order n → (place_in order m < place_in order n) × (has (all_of needs) m ≡ true)
+    at first =
+        let met = all_met first.before (needs_at needs n) m first.is_ready asked in
+        let less : place_in order m < place_in order n =
+        subst (λ o. place_in o m < place_in o n) (sym first.cut) (subst (λ k. place_in (first.before ++ n ∷ first.after) m < k) (sym (place_behind first.before first.after n first.not_before)) (place_within first.before (n ∷ first.after) m met)) in
+        let there : has order m ≡ true = ap (λ o. has o m) first.cut ∙ has_append first.before (n ∷ first.after) m ∙ or_left (has first.before m) (has (n ∷ first.after) m) met in
+        (less, was_left (is_ready needs) [] (all_of needs) order [] m takes there)
+
+    by : (b : Bool) → has order n ≡ b → (place_in order m < place_in order n) × (has (all_of needs) m ≡ true)
+    by true is = at (taken_first (is_ready needs) [] (all_of needs) order [] n takes is)
+    by false is = absurd (by_absence (has (all_of needs) n) refl)
+      where
+        by_absence : (b : Bool) → has (all_of needs) n ≡ b → ⊥
+        by_absence true there = no_truth (sym (stays (is_ready needs) [] (all_of needs) order [] n takes there is))
+        by_absence false gone = nothing_needed needs 0 n m (let same : 0 + n ≡ n = omega arith in ap (has (all_of needs)) same ∙ gone) asked
+
+pub circle_has_no_places : (needs : List (List ℕ)) (order : Order) (n : ℕ) (place : ℕ → ℕ) → Ordered (is_ready needs) (all_of needs) order → order ≡ Circle n → HasPlaces needs place → ⊥
+circle_has_no_places needs order n place is e places = never_stuck needs place n places (subst (Ordered (is_ready needs) (all_of needs)) e is)

@@ -50,6 +50,7 @@ equal_at x n = by (nat_lt x n) refl
     unlike : (b : Bool) → (x == n) ≡ b → is_eq (cond b Equal Greater) ≡ b
     unlike true e = refl
     unlike false e = refl
+
     by : (b : Bool) → nat_lt x n ≡ b → is_eq (cond b Less (cond (x == n) Equal Greater)) ≡ (x == n)
     by true e = sym (ne_eqb x n (λ same. let less = ltb-true x n e in absurd (omega (arith, less, same))))
     by false e = unlike (x == n) refl

@@ -1,5 +1,5 @@
 -- Names that differ in the case of ASCII letters alone (Component Model, Explainer.md, "Name Uniqueness").
-use Rattle.std.specs.Prelude.{◌≡◌, ℕ, ◌<◌, Bool, true, false, List, length, Option, Some, None, slice_get}
+use Rattle.std.specs.Prelude.{◌≡◌, ℕ, ◌<◌, Bool, true, false, List, length, Some, slice_get}
 use Rattle.std.specs.Str.{str_eq_ignore_ascii_case}
 use Rattle.compose_agree.specs.declared.letter_case.CaseClash.{CaseClash}
 

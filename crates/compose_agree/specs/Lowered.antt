@@ -1,5 +1,5 @@
 -- Names found by what they are in lower case.
-use Rattle.std.specs.Prelude.{◌≡◌, ℕ, ◌<◌, true, List, Option, Some, MatchOption, slice_get, bytes_eq, false}
+use Rattle.std.specs.Prelude.{◌≡◌, ℕ, ◌<◌, true, List, Some, MatchOption, slice_get, bytes_eq, false}
 use Rattle.std.specs.Str.{str_to_ascii_lowercase}
 use Rattle.std.specs.BTreeMap.{BTreeMap, get}
 use Rattle.std.specs.Cmp.Lexicographic.{slice_cmp}

@@ -1,6 +1,9 @@
 -- An order in which what is needed comes first.
-use Rattle.std.specs.Prelude.{◌≡◌, ℕ, ◌<◌, Bool, true, false, List, [], ◌∷◌, ◌++◌, length, Contains, slice_index_or, ◌==◌}
+use Rattle.std.specs.Prelude.{◌≡◌, ℕ, ◌<◌, Bool, true, false, List, [], ◌∷◌, ◌++◌, length, map, slice_index_or, ◌==◌, Vec}
 use Rattle.std.specs.List.{AllByRecursion, list_any, list_all, range_with_len}
+use Rattle.std.specs.Global.{Global}
+use Rattle.compose_agree.specs.declared.order.Order.{Order}
+use Rattle.compose_agree.specs.declared.order.Order.TheVariants as order
 
 -- One after the other these are taken from what is left: each is the first of those left that is ready, given what is taken
 -- already. The rest stays.
@@ -39,6 +42,16 @@ is_ready needs taken n = list_all (has taken) (needs_at needs n)
 abbrev pub all_of : List (List ℕ) → List ℕ
 all_of needs = range_with_len 0 (length needs)
 
--- There is no circle: each thing that is needed is there, and has a place before that of what needs it.
+-- Each thing that is needed is there, and has a place before that of what needs it: so no things need each other in a circle.
 abbrev pub HasPlaces : List (List ℕ) → (ℕ → ℕ) → Type 0
 HasPlaces needs place = (n m : ℕ) → has (needs_at needs n) m ≡ true → (place m < place n) × (has (all_of needs) m ≡ true)
+
+-- ---- what lies in memory
+
+abbrev pub needs_of : List (Vec ℕ Global) → List (List ℕ)
+needs_of needs = map (λ (n : Vec ℕ Global). n.items) needs
+
+-- these things have this order; or they have none, and this is the first that has no place
+abbrev pub Ordered : (List ℕ → ℕ → Bool) → List ℕ → Order → Type 0
+Ordered ready all (order.Whole numbers) = IsOrder ready all numbers.items
+Ordered ready all (order.Circle n) = IsStuck ready all n

@@ -11,8 +11,11 @@ pub fn one_order()
         → ⊥ }
 {}
 
-/// Where things need each other in no circle, none waits without end.
+/// Things have an order exactly where each has a place behind those of what it needs, so that none need each other in a
+/// circle.
 pub fn only_circles_have_no_order()
-    ensures { (needs : List (List ℕ)) (place : ℕ → ℕ) (n : ℕ) → HasPlaces needs place
-        → IsStuck (is_ready needs) (all_of needs) n → ⊥ }
+    ensures places { (needs : List (List ℕ)) (order : List ℕ) → IsOrder (is_ready needs) (all_of needs) order
+        → (place : ℕ → ℕ) × HasPlaces needs place }
+    ensures circle { (needs : List (List ℕ)) (place : ℕ → ℕ) (n : ℕ) → IsStuck (is_ready needs) (all_of needs) n
+        → HasPlaces needs place → ⊥ }
 {}

@@ -2,8 +2,9 @@
 
 ghost use Rattle.std.specs.Prelude.{◌≡◌, ◌++◌, ◌<◌, [], false, length, map, IfOk, List, ℕ};
 ghost use Rattle.std.specs.List.{AllByRecursion, list_all, range_with_len};
-ghost use Rattle.compose_agree.specs.Order.{Takes, is_ready, has, all_of};
-ghost use Rattle.compose_agree.specs.Turns.{IsTaken, IsFirstReady, needs_of, Ordered};
+ghost use Rattle.compose_agree.specs.Order.{HasPlaces, Ordered, Takes, all_of, has, is_ready, needs_of};
+ghost use Rattle.compose_agree.specs.Turns.{IsFirstReady, IsTaken};
+ghost use Rattle.compose_agree.specs.declared.order.Order.TheVariants.{Circle};
 
 use std::alloc::Global;
 use std::collections::BTreeSet;
@@ -85,11 +86,8 @@ fn numbers_below(alloc: Global, end: usize) -> Result<Vec<usize>, Memory>
     Ok(numbers)
 }
 
-/// The order of things, numbered from 0, of which each needs those of its numbers: always the first of those left of which
-/// all needs have a place. A number that is none of a thing is never taken.
-///
-/// The time grows with the number of things times that of all needs.
-pub fn order_of(alloc: Global, needs: &[Vec<usize>]) -> Result<Order, Memory>
+/// The order of things, or the first that has no place.
+fn place_all(alloc: Global, needs: &[Vec<usize>]) -> Result<Order, Memory>
     ensures { IfOk result (λ order. Ordered (is_ready (needs_of needs.now)) (all_of (needs_of needs.now)) order) }
 {
     let mut left = numbers_below(alloc, needs.len())?;
@@ -98,4 +96,17 @@ pub fn order_of(alloc: Global, needs: &[Vec<usize>]) -> Result<Order, Memory>
         Some(number) => Ok(Order::Circle(*number)),
         None => Ok(Order::Whole(order)),
     }
+}
+
+/// The order of things, numbered from 0, of which each needs those of its numbers: always the first of those left of which
+/// all needs have a place. What needs a number that is none of a thing has no place.
+///
+/// The time grows with the number of things times that of all needs.
+pub fn order_of(alloc: Global, needs: &[Vec<usize>]) -> Result<Order, Memory>
+    ensures order { IfOk result (λ order. Ordered (is_ready (needs_of needs.now)) (all_of (needs_of needs.now)) order) }
+    ensures circle { IfOk result (λ order. (n : ℕ) (place : ℕ → ℕ) → order ≡ Circle n
+        → HasPlaces (needs_of needs.now) place → ⊥) }
+{
+    let order = place_all(alloc, needs)?;
+    Ok(order)
 }

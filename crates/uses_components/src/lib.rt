@@ -2,6 +2,7 @@
 //! module for each crate, whose page quotes it.
 #![tactic(auto)]
 
+mod agree;
 mod completions;
 mod compose;
 mod documents;
@@ -20,6 +21,7 @@ mod typed_reads;
 mod types;
 mod values;
 
+pub use agree::instance_order;
 pub use completions::emitted_events_begin_a_document;
 pub use compose::link_bytes;
 pub use documents::{number_of, take_scalar};

@@ -1,8 +1,8 @@
 use Rattle.std.proofs.Common.{◌+◌, subst}
-use Rattle.std.specs.Prelude.{IfSome, IfNone, map, slice_get}
+use Rattle.std.specs.Prelude.{IfSome, IfNone, map}
 use Rattle.std.specs.Str.{str_to_ascii_lowercase}
 use Rattle.compose_agree.specs.Lowered.{FindsLowered, IsLowered, NoneLowered}
-use Rattle.compose_agree.proofs.CaseLaws.{apart_more, first_clash, name_at, all_apart}
+use Rattle.compose_agree.proofs.CaseLaws.{apart_more, first_clash, name_at}
 use Rattle.compose_agree.proofs.letter_case.case_clash.Goals as goal
 
 pub returns-in-Some : goal.returns-in-Some

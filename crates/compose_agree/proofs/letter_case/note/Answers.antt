@@ -1,9 +1,8 @@
-use Rattle.std.proofs.Common.{rules, ◌≡◌, Some, None, ap, sym, subst, ◌∙◌}
+use Rattle.std.proofs.Common.{rules, ◌≡◌, Some, None, subst}
 use Rattle.std.specs.Str.{str_to_ascii_lowercase}
 use Rattle.std.specs.BTreeMap.{get, Updates}
 use Rattle.std.specs.Cmp.Lexicographic.{slice_cmp}
 use Rattle.std.specs.Ordering.{nat_cmp}
-use Rattle.compose_agree.specs.Lowered.{NoneLowered}
 use Rattle.compose_agree.proofs.CaseLaws.{found_at, noted}
 use Rattle.compose_agree.proofs.letter_case.note.Goals as goal
 

@@ -1,6 +1,6 @@
 use Rattle.std.proofs.Common.{◌≡◌, ◌∙◌, sym, false}
 use Rattle.compose_agree.specs.Order.{is_ready}
-use Rattle.compose_agree.specs.Turns.{needs_of}
+use Rattle.compose_agree.specs.Order.{needs_of}
 use Rattle.compose_agree.proofs.TurnLaws.{all_more}
 use Rattle.compose_agree.proofs.order.first_ready.Goals as goal
 

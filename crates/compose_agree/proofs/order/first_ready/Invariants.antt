@@ -1,7 +1,7 @@
 use Rattle.std.proofs.Common.{◌≡◌, ℕ, List, take, false}
 use Rattle.std.specs.List.{AllByRecursion}
-use Rattle.compose_agree.specs.Order.{is_ready}
-use Rattle.compose_agree.specs.Turns.{IsTaken, needs_of}
+use Rattle.compose_agree.specs.Order.{is_ready, needs_of}
+use Rattle.compose_agree.specs.Turns.{IsTaken}
 use Rattle.compose_agree.proofs.order.first_ready.Given as goal
 
 abbrev pub invariant-loop-place : goal.invariant-loop-place

@@ -1,9 +1,7 @@
-use Rattle.std.proofs.Common.{◌≡◌, ◌∙◌, ◌++◌, [], ◌∷◌, List, ℕ, sym, subst, Some, refl}
-use Rattle.std.specs.BTreeSet.{contains}
-use Rattle.std.specs.Ordering.{nat_cmp}
+use Rattle.std.proofs.Common.{[], sym, subst, Some, refl}
 use Rattle.std.proofs.lemmas.List.{append-nil}
-use Rattle.compose_agree.specs.Order.{Takes, is_ready, has}
-use Rattle.compose_agree.specs.Turns.{needs_of, IsTaken, IsFirstReady}
+use Rattle.compose_agree.specs.Order.{Takes, is_ready, needs_of}
+use Rattle.compose_agree.specs.Turns.{IsTaken, IsFirstReady}
 use Rattle.compose_agree.proofs.TurnLaws.{taken_more, takes_next}
 use Rattle.compose_agree.proofs.order.take_in_turn.Goals as goal
 

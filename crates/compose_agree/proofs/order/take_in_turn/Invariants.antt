@@ -1,6 +1,6 @@
-use Rattle.std.proofs.Common.{◌≡◌, ◌++◌, ℕ, List, [], length}
-use Rattle.compose_agree.specs.Order.{Takes, is_ready}
-use Rattle.compose_agree.specs.Turns.{IsTaken, needs_of}
+use Rattle.std.proofs.Common.{◌++◌, ℕ, List, [], length}
+use Rattle.compose_agree.specs.Order.{Takes, is_ready, needs_of}
+use Rattle.compose_agree.specs.Turns.{IsTaken}
 use Rattle.compose_agree.proofs.order.take_in_turn.Given as goal
 
 abbrev pub invariant-loop-place : goal.invariant-loop-place
