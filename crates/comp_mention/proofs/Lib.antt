@@ -1,0 +1,2 @@
+mod MentionLaws
+mod WalkLaws
