@@ -1,0 +1,27 @@
+-- What the head of an entity's tree tells of the entity.
+use Rattle.std.specs.Prelude.{Bool, true, false, None}
+use Rattle.comp_table.specs.declared.head.Head.{Head}
+use Rattle.comp_table.specs.declared.head.Head.TheVariants as head
+
+-- the head is that of a value type
+abbrev pub is_value_head : Head → Bool
+is_value_head (head.Primitive p) = true
+is_value_head (head.RecordOf place) = true
+is_value_head (head.VariantOf place) = true
+is_value_head (head.FlagsOf place) = true
+is_value_head (head.EnumOf place) = true
+is_value_head head.ListOf = true
+is_value_head head.TupleOf = true
+is_value_head head.OptionOf = true
+is_value_head head.ResultOf = true
+is_value_head (head.Own r) = true
+is_value_head (head.Borrow r) = true
+is_value_head _ = false
+
+-- a record, a variant, flags and an enum need the name of a place, so that they may be named
+abbrev pub has_name : Head → Bool
+has_name (head.RecordOf None) = false
+has_name (head.VariantOf None) = false
+has_name (head.FlagsOf None) = false
+has_name (head.EnumOf None) = false
+has_name _ = true

@@ -1,0 +1,4 @@
+pub mod Faults
+pub mod Standings
+pub mod Heads
+pub mod Rows
