@@ -1,3 +1,7 @@
+mod BoundLaws
+mod CoreLaws
+mod ModuleLaws
 mod RowLaws
 mod StandingLaws
+mod TreeLaws
 mod ValueLaws

@@ -16,12 +16,18 @@ use Rattle.comp_space.specs.declared.space.Standing.{Standing}
 use Rattle.warg_values.specs.Answers.{Gives}
 use Rattle.comp_space.specs.Faults.{fault_of, Fails, Found, Finds}
 use Rattle.comp_space.specs.Heads.{is_value_head, has_name}
-use Rattle.comp_space.specs.Standings.{Shows, AllShow, AreThere}
+use Rattle.comp_space.specs.Standings.{Shows, Pairwise, AllShow, AreThere}
 use Rattle.comp_table.specs.declared.head.Head.{Head}
 use Rattle.comp_table.specs.declared.head.Head.TheVariants as head
 use Rattle.comp_table.specs.Plain.{plain_value, plain_entity}
 use Rattle.comp_table.specs.StandLaws.{stands_kept}
 use Rattle.comp_table.specs.Trees.{PlainTree, Stands, Extends, IsBelow, tree_at, root}
+
+abbrev failed : {A F : Type 0} → F → Result A F
+failed fault = Err fault
+
+pub same_fault : {A F : Type 0} (x y : F) → failed {A = A} x ≡ failed y → x ≡ y
+same_fault x y e = cc
 
 -- a fault ends a reading
 pub fails_bind : {A B : Type 0} (given : Result A ShapeFault) (next : A → Result B ShapeFault) (error : ScopeError) → Fails error given → Fails error (given >>= next)
@@ -57,11 +63,34 @@ fails_same f g errors.Memory k h = tt
 pub shows_kept : {Y : Type 0} (plain : Y → PlainTree) (ts us : List PlainTree) → Extends ts us → (x : Standing) (y : Y × Bool) → Shows plain ts x y → Shows plain us x y
 shows_kept plain ts us grown x y s = record { stands = stands_kept ts us grown x.number (plain y.0) s.stands; named_is = s.named_is }
 
+pub pairwise_kept : {X Y : Type 0} (R Q : X → Y → Type 0) → ((x : X) (y : Y) → R x y → Q x y) → (xs : List X) (ys : List Y) → Pairwise R xs ys → Pairwise Q xs ys
+pairwise_kept R Q k [] [] a = tt
+pairwise_kept R Q k [] (y ∷ ys) a = absurd a
+pairwise_kept R Q k (x ∷ xs) [] a = absurd a
+pairwise_kept R Q k (x ∷ xs) (y ∷ ys) a = (k x y a.0, pairwise_kept R Q k xs ys a.1)
+
+pub pairwise_push : {X Y : Type 0} (R : X → Y → Type 0) (xs : List X) (ys : List Y) (x : X) (y : Y) → Pairwise R xs ys → R x y → Pairwise R (xs ++ x ∷ []) (ys ++ y ∷ [])
+pairwise_push R [] [] x y a r = (r, tt)
+pairwise_push R [] (w ∷ ys) x y a r = absurd a
+pairwise_push R (v ∷ xs) [] x y a r = absurd a
+pairwise_push R (v ∷ xs) (w ∷ ys) x y a r = (a.0, pairwise_push R xs ys x y a.1 r)
+
+-- what stands at an index
+pub pairwise_at : {X Y : Type 0} (R : X → Y → Type 0) (xs : List X) (ys : List Y) (i : ℕ) (x : X) → Pairwise R xs ys → at_index xs i ≡ Ok x → Found R x (at_index ys i)
+pairwise_at R [] ys i x a e = absurd cc
+pairwise_at R (w ∷ xs) [] i x a e = absurd a
+pairwise_at R (w ∷ xs) (y ∷ ys) zero x a e = record { value = y; given_is = refl; shown = subst (λ v. R v y) (ok_is w x e) a.0 }
+pairwise_at R (w ∷ xs) (y ∷ ys) (suc i) x a e = pairwise_at R xs ys i x a.1 e
+
+pub pairwise_fails : {X Y : Type 0} (R : X → Y → Type 0) (xs : List X) (ys : List Y) (i : ℕ) (fault : ShapeFault) → Pairwise R xs ys → at_index xs i ≡ Err fault → at_index ys i ≡ Err fault
+pairwise_fails R [] [] i fault a e = ap Err (same_fault Index fault e)
+pairwise_fails R [] (y ∷ ys) i fault a e = absurd a
+pairwise_fails R (x ∷ xs) [] i fault a e = absurd a
+pairwise_fails R (x ∷ xs) (y ∷ ys) zero fault a e = absurd cc
+pairwise_fails R (x ∷ xs) (y ∷ ys) (suc i) fault a e = pairwise_fails R xs ys i fault a.1 e
+
 pub all_show_kept : (ts us : List PlainTree) → Extends ts us → (xs : List Standing) (es : List scope.Standing) → AllShow ts xs es → AllShow us xs es
-all_show_kept ts us grown [] [] a = tt
-all_show_kept ts us grown [] (e ∷ es) a = absurd a
-all_show_kept ts us grown (x ∷ xs) [] a = absurd a
-all_show_kept ts us grown (x ∷ xs) (e ∷ es) a = (shows_kept plain_entity ts us grown x e a.0, all_show_kept ts us grown xs es a.1)
+all_show_kept ts us grown xs es a = pairwise_kept (Shows plain_entity ts) (Shows plain_entity us) (shows_kept plain_entity ts us grown) xs es a
 
 pub all_are_there : (ts : List PlainTree) (xs : List Standing) (es : List scope.Standing) → AllShow ts xs es → AreThere ts xs
 all_are_there ts [] [] a = tt
@@ -87,25 +116,11 @@ numbers_kept ts us grown ns b = below_longer (length ts) (length us) ns (number_
 pub there_kept : (ts us : List PlainTree) → Extends ts us → (xs : List Standing) → AreThere ts xs → AreThere us xs
 there_kept ts us grown xs b = below_longer (length ts) (length us) (map (λ s. s.number) xs) (number_kept ts us grown) b
 
-abbrev failed : {A F : Type 0} → F → Result A F
-failed fault = Err fault
-
-pub same_fault : {A F : Type 0} (x y : F) → failed {A = A} x ≡ failed y → x ≡ y
-same_fault x y e = cc
-
--- what stands at an index
 pub at_found : (ts : List PlainTree) (xs : List Standing) (es : List scope.Standing) (i : ℕ) (x : Standing) → AllShow ts xs es → at_index xs i ≡ Ok x → Found (Shows plain_entity ts) x (at_index es i)
-at_found ts [] es i x a e = absurd cc
-at_found ts (y ∷ xs) [] i x a e = absurd a
-at_found ts (y ∷ xs) (z ∷ es) zero x a e = record { value = z; given_is = refl; shown = subst (λ (w : Standing). Shows plain_entity ts w z) (ok_is y x e) a.0 }
-at_found ts (y ∷ xs) (z ∷ es) (suc i) x a e = at_found ts xs es i x a.1 e
+at_found ts xs es i x a e = pairwise_at (Shows plain_entity ts) xs es i x a e
 
 pub at_fails : (ts : List PlainTree) (xs : List Standing) (es : List scope.Standing) (i : ℕ) (fault : ShapeFault) → AllShow ts xs es → at_index xs i ≡ Err fault → at_index es i ≡ Err fault
-at_fails ts [] [] i fault a e = ap Err (same_fault Index fault e)
-at_fails ts [] (z ∷ es) i fault a e = absurd a
-at_fails ts (y ∷ xs) [] i fault a e = absurd a
-at_fails ts (y ∷ xs) (z ∷ es) zero fault a e = absurd cc
-at_fails ts (y ∷ xs) (z ∷ es) (suc i) fault a e = at_fails ts xs es i fault a.1 e
+at_fails ts xs es i fault a e = pairwise_fails (Shows plain_entity ts) xs es i fault a e
 
 there_at : (k : ℕ) (xs : List Standing) (i : ℕ) (x : Standing) → IsBelow k (map (λ s. s.number) xs) → at_index xs i ≡ Ok x → x.number < k
 there_at k [] i x b e = absurd cc
@@ -116,7 +131,7 @@ pub number_there : (ts : List PlainTree) (xs : List Standing) (i : ℕ) (x : Sta
 number_there ts xs i x b e = there_at (length ts) xs i x b e
 
 -- the head tells what an entity is
-is_value_at : (t : ValueTree) → is_value_head (root (plain_value t)) ≡ true
+pub is_value_at : (t : ValueTree) → is_value_head (root (plain_value t)) ≡ true
 is_value_at (Primitive p) = refl
 is_value_at (TupleOf parts) = refl
 is_value_at (RecordOf place fields) = refl

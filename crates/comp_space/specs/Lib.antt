@@ -2,3 +2,4 @@ pub mod Faults
 pub mod Standings
 pub mod Heads
 pub mod Rows
+pub mod CoreStandings

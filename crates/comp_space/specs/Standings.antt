@@ -11,11 +11,15 @@ pub record Shows {Y : Type 0} (plain : Y → PlainTree) (table : List PlainTree)
   pub stands : Stands table standing.number (plain y.0)
   pub named_is : standing.named ≡ y.1
 
--- The same of what the indices of an index space stand for, from 0 on.
+-- two lists are as long, and what stands at one index of them is so related
+abbrev pub Pairwise : {X Y : Type 0} → (X → Y → Type 0) → List X → List Y → Type 0
+Pairwise R [] [] = Unit {0}
+Pairwise R (x ∷ xs) (y ∷ ys) = R x y × Pairwise R xs ys
+Pairwise R _ _ = ⊥
+
+-- what the indices of an index space stand for, from 0 on
 abbrev pub AllShow : List PlainTree → List Standing → List scope.Standing → Type 0
-AllShow table [] [] = Unit {0}
-AllShow table (standing ∷ standings) (e ∷ es) = Shows plain_entity table standing e × AllShow table standings es
-AllShow table _ _ = ⊥
+AllShow table standings es = Pairwise (Shows plain_entity table) standings es
 
 -- each number stands for something
 abbrev pub AreThere : List PlainTree → List Standing → Type 0

@@ -4,6 +4,8 @@
 //! The terms are those of the Component Model's `Explainer.md`.
 #![tactic(auto)]
 
+mod bounds;
+mod core_types;
 mod error;
 mod nodes;
 mod parts;
