@@ -129,3 +129,19 @@ pub out_past : {B : Type 0} (now : B → List CoreStanding) (own : List CoreStan
 out_past now own around count outer index is le =
     ap (λ c. standing_out (own ∷ map now around) c index) is
     ∙ ap (λ o. item_or_fault o >>= λ types. at_index types index) (slice_get-map now around outer ∙ ap (option_map now) (slice_get_past around outer le))
+
+-- what stands for something is there
+core_is_there : (ts : List PlainTree) (x : CoreStanding) (t : KnownCoreType) → ShowsCore ts x t → IsCoreBelow (length ts) x
+core_is_there ts (by_number.OfItem n) (OfItem t) s = s.there
+core_is_there ts (by_number.OfItem n) (OfModules m) s = absurd s
+core_is_there ts (by_number.OfItem n) Unknown s = absurd s
+core_is_there ts (by_number.OfModules n) (OfItem t) s = absurd s
+core_is_there ts (by_number.OfModules n) (OfModules m) s = s.there
+core_is_there ts (by_number.OfModules n) Unknown s = absurd s
+core_is_there ts by_number.Unknown t s = tt
+
+pub cores_are_there : (ts : List PlainTree) (xs : List CoreStanding) (known : List KnownCoreType) → AllShowCore ts xs known → CoresAreThere ts xs
+cores_are_there ts [] [] a = tt
+cores_are_there ts [] (t ∷ known) a = absurd a
+cores_are_there ts (x ∷ xs) [] a = absurd a
+cores_are_there ts (x ∷ xs) (t ∷ known) a = (core_is_there ts x t a.0, cores_are_there ts xs known a.1)

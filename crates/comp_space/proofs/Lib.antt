@@ -2,6 +2,7 @@ mod BoundLaws
 mod CoreLaws
 mod ModuleLaws
 mod RowLaws
+mod SpaceLaws
 mod StandingLaws
 mod TreeLaws
 mod ValueLaws

@@ -7,7 +7,7 @@ use Rattle.warg_values.specs.ReadingLaws.{bind_ok, ok_is}
 use Rattle.comp_entity.specs.Bounds.{ShapeFault}
 use Rattle.comp_space.specs.declared.error.ScopeError.{ScopeError}
 use Rattle.comp_space.specs.declared.parts.Parts.{Parts}
-use Rattle.comp_space.specs.declared.space.Standing.{Standing}
+use Rattle.comp_space.specs.declared.standing.Standing.{Standing}
 use Rattle.comp_space.specs.Faults.{Fails, Found, Finds}
 use Rattle.comp_space.specs.Rows.{all_of, all_named, ShowsRows}
 use Rattle.comp_space.specs.Standings.{Shows}

@@ -12,7 +12,7 @@ use Rattle.comp_scope.specs.Spaces as scope
 use Rattle.comp_scope.specs.Values.{as_value, as_resource}
 use Rattle.comp_space.specs.declared.error.ScopeError.{ScopeError}
 use Rattle.comp_space.specs.declared.error.ScopeError.TheVariants as errors
-use Rattle.comp_space.specs.declared.space.Standing.{Standing}
+use Rattle.comp_space.specs.declared.standing.Standing.{Standing}
 use Rattle.warg_values.specs.Answers.{Gives}
 use Rattle.comp_space.specs.Faults.{fault_of, Fails, Found, Finds}
 use Rattle.comp_space.specs.Heads.{is_value_head, has_name}

@@ -12,7 +12,7 @@ use Rattle.comp_entity.specs.Views.{values_of, fields_of as fields_in}
 use Rattle.comp_scope.specs.Spaces.{Spaces}
 use Rattle.comp_scope.specs.Values.{part_of, payload_of, resource_of, parts_of, fields_of, cases_of, params_of, result_of, value_of, func_of}
 use Rattle.comp_space.specs.declared.parts.Parts.{Parts}
-use Rattle.comp_space.specs.declared.space.Standing.{Standing}
+use Rattle.comp_space.specs.declared.standing.Standing.{Standing}
 use Rattle.comp_space.specs.declared.error.ScopeError.{ScopeError}
 use Rattle.comp_space.specs.Faults.{Fails, Found}
 use Rattle.comp_space.specs.Rows.{all_of, all_named, field_of, case_of, plain_case, ShowsRows}

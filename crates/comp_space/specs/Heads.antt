@@ -1,5 +1,8 @@
 -- What the head of an entity's tree tells of the entity.
 use Rattle.std.specs.Prelude.{Bool, true, false, None}
+use Rattle.comp_format.specs.declared.types.CoreSort.TheVariants as core
+use Rattle.comp_format.specs.declared.types.Sort.{Sort}
+use Rattle.comp_format.specs.declared.types.Sort.TheVariants as sort
 use Rattle.comp_table.specs.declared.head.Head.{Head}
 use Rattle.comp_table.specs.declared.head.Head.TheVariants as head
 
@@ -25,3 +28,12 @@ has_name (head.VariantOf None) = false
 has_name (head.FlagsOf None) = false
 has_name (head.EnumOf None) = false
 has_name _ = true
+
+-- the sort of an entity of this head
+abbrev pub sort_of_head : Head → Sort
+sort_of_head head.Func = sort.Func
+sort_of_head head.Instance = sort.Instance
+sort_of_head head.Component = sort.Component
+sort_of_head head.Module = sort.Core core.Module
+sort_of_head head.OwnModule = sort.Core core.Module
+sort_of_head _ = sort.Ty

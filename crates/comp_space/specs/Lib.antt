@@ -3,3 +3,4 @@ pub mod Standings
 pub mod Heads
 pub mod Rows
 pub mod CoreStandings
+pub mod SpaceViews

@@ -2,7 +2,7 @@
 use Rattle.std.specs.Prelude.{◌≡◌, ℕ, Bool, List, [], ◌∷◌, map, length}
 use Rattle.comp_entity.specs.Entity.{EntityTree}
 use Rattle.comp_scope.specs.Spaces as scope
-use Rattle.comp_space.specs.declared.space.Standing.{Standing}
+use Rattle.comp_space.specs.declared.standing.Standing.{Standing}
 use Rattle.comp_table.specs.Plain.{plain_entity}
 use Rattle.comp_table.specs.Trees.{PlainTree, Stands, IsBelow}
 

@@ -7,12 +7,16 @@
 mod bounds;
 mod core_types;
 mod error;
+pub mod laws;
 mod nodes;
 mod parts;
 mod space;
+mod standing;
 mod values;
 
+pub use core_types::{CoreStanding, as_module, core_type_at, core_type_of};
 pub use error::ScopeError;
 pub use parts::resource_of;
-pub use space::Standing;
+pub use space::{CoreCounts, Counts, Space, sort_at};
+pub use standing::Standing;
 pub use values::{func_of, value_of};

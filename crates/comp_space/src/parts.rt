@@ -14,7 +14,7 @@ ghost use Rattle.comp_table.specs.Trees.{Extends, IsBelow, Stands};
 
 use crate::error::ScopeError;
 use crate::nodes::{leaf, under};
-use crate::space::Standing;
+use crate::standing::Standing;
 use comp_entity::ResourceNo;
 use comp_format::ValType;
 use comp_table::{Head, TypeTable};

@@ -12,7 +12,7 @@ ghost use Rattle.comp_table.specs.Trees.{Extends};
 use crate::error::ScopeError;
 use crate::nodes::{around, around_two, labelled, leaf, node};
 use crate::parts::{Parts, both, cases_of, fields_of, part_of, parts_of, payload_of, resource_of};
-use crate::space::Standing;
+use crate::standing::Standing;
 use comp_format::{DefinedType, FuncType, ValType};
 use comp_table::{Head, TypeTable};
 use std::alloc::Global;
