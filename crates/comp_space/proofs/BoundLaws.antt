@@ -1,7 +1,7 @@
 -- Laws of bounds.
 use Rattle.std.specs.Prelude.{◌≡◌, ℕ, false, List, refl}
 use Rattle.std.proofs.Common.{sym, ◌∙◌, ap}
-use Rattle.comp_entity.specs.Entity.{ValueTree, Value, Resource, Func, Instance, Component, EntityTree, IsType, IsFunc, IsInstance, IsComponent, IsModule, IsOwnModule}
+use Rattle.comp_entity.specs.Entity.{Value, Resource, Func, Instance, Component, EntityTree, IsType, IsFunc, IsInstance, IsComponent, IsModule, IsOwnModule}
 use Rattle.comp_entity.specs.Bounds.{depth_of}
 use Rattle.comp_space.specs.Heads.{is_value_head}
 use Rattle.comp_space.proofs.StandingLaws.{is_value_at}

@@ -1,11 +1,11 @@
 -- Laws of core types and of scopes of core types, also in a table that has grown.
-use Rattle.std.specs.Prelude.{◌≡◌, ℕ, zero, suc, ◌+◌, ◌<◌, ◌≤◌, List, [], ◌∷◌, ◌++◌, map, length, Option, Some, None, option_map, Result, Ok, Err, slice_get, slice_index_or, refl, Vec}
+use Rattle.std.specs.Prelude.{◌≡◌, ℕ, zero, suc, ◌<◌, ◌≤◌, List, [], ◌∷◌, ◌++◌, map, length, option_map, Result, Ok, Err, slice_index_or, refl, Vec}
 use Rattle.std.specs.Global.{Global}
-use Rattle.std.proofs.Common.{sym, ◌∙◌, ap, subst, arith}
+use Rattle.std.proofs.Common.{sym, ◌∙◌, ap, subst}
 use Rattle.std.proofs.lemmas.List.{map-append}
 use Rattle.std.proofs.lemmas.Option.{slice_get-map, slice_get-get_or, slice_get_past}
 use Rattle.warg_values.specs.Reading.{◌>>=◌}
-use Rattle.warg_values.specs.ReadingLaws.{bind_ok, ok_is, never}
+use Rattle.warg_values.specs.ReadingLaws.{bind_ok, ok_is}
 use Rattle.comp_entity.specs.Bounds.{ShapeFault, Index}
 use Rattle.comp_entity.specs.declared.module.CoreShape.{CoreShape}
 use Rattle.comp_scope.specs.CoreScopes as scope
@@ -16,8 +16,7 @@ use Rattle.comp_space.specs.declared.core_types.CoreStanding.TheVariants as by_n
 use Rattle.comp_space.specs.declared.core_types.ModuleScope.{ModuleScope}
 use Rattle.comp_space.specs.CoreStandings.{ShowsCore, AllShowCore, ScopesShow, IsCoreBelow, CoresAreThere, ScopesAreThere, ShowsModule, ModuleIsThere, standing_out}
 use Rattle.comp_space.specs.Faults.{Found}
-use Rattle.comp_space.specs.Standings.{Pairwise}
-use Rattle.comp_space.proofs.StandingLaws.{pairwise_kept, pairwise_push, pairwise_at, pairwise_fails, number_kept, numbers_kept, below_push, same_fault}
+use Rattle.comp_space.proofs.StandingLaws.{pairwise_kept, pairwise_push, pairwise_at, pairwise_fails, number_kept, numbers_kept, same_fault}
 use Rattle.std.specs.List.{AllByRecursion}
 use Rattle.comp_table.specs.Plain.{plain_core, plain_module, plain_import, plain_export}
 use Rattle.comp_table.specs.StandLaws.{stands_kept, all_kept, all_push}

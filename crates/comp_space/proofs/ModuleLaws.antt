@@ -1,19 +1,13 @@
 -- Laws of declarations of core modules that are read one by one.
-use Rattle.std.specs.Prelude.{◌≡◌, ℕ, Bool, true, false, if◌then◌else◌, zero, suc, ◌+◌, ◌<◌, List, [], ◌∷◌, ◌++◌, map, length, take, slice_index_or, Result, Ok, Err, refl}
-use Rattle.std.proofs.Common.{sym, ◌∙◌, ap, subst, arith}
-use Rattle.std.proofs.lemmas.List.{take_more, take_all}
+use Rattle.std.specs.Prelude.{◌≡◌, ℕ, Bool, true, false, if◌then◌else◌, zero, suc, ◌<◌, List, [], ◌∷◌, ◌++◌, map, length, take, slice_index_or, Result, Ok, Err, refl}
+use Rattle.std.proofs.Common.{◌∙◌, ap, arith}
 use Rattle.warg_values.specs.Reading.{◌>>=◌}
 use Rattle.warg_values.specs.ReadingLaws.{bind_ok, ok_is}
-use Rattle.comp_format.specs.CoreTypes as tree
 use Rattle.comp_format.specs.CoreTypes.{ModuleDeclTree, module_decls}
 use Rattle.comp_entity.specs.Bounds.{ShapeFault, TooDeep, TooBig, Bounds, kept, is_within, depth_of, entity_nodes}
-use Rattle.comp_entity.specs.Entity.{IsModule, EntityTree}
-use Rattle.comp_scope.specs.CoreScopes.{ModuleScope, no_module_scope, module_in, core_type_of, module_of, with_module_decl}
-use Rattle.comp_scope.specs.Spaces.{KnownCoreType, OfModules}
-use Rattle.comp_space.specs.declared.error.ScopeError.{ScopeError}
-use Rattle.comp_space.specs.declared.error.ScopeError.TheVariants as errors
-use Rattle.comp_space.specs.Faults.{Fails, Found, Finds}
-use Rattle.comp_space.proofs.StandingLaws.{fails_same, fails_bind}
+use Rattle.comp_entity.specs.Entity.{EntityTree}
+use Rattle.comp_scope.specs.CoreScopes.{ModuleScope, module_of, with_module_decl}
+use Rattle.comp_scope.specs.Spaces.{KnownCoreType}
 
 pub bind_end : {A F : Type 0} (r : Result A F) → (r >>= λ x. Ok x) ≡ r
 bind_end (Ok x) = refl

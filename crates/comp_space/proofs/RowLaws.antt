@@ -2,13 +2,12 @@
 use Rattle.std.specs.Prelude.{◌≡◌, ℕ, zero, suc, ◌+◌, ◌<◌, Bool, true, false, ◌&&◌, List, [], ◌∷◌, ◌++◌, map, length, take, slice_index_or, Result, Ok, Err, refl}
 use Rattle.std.proofs.Common.{sym, ◌∙◌, ap, subst, arith}
 use Rattle.std.proofs.lemmas.List.{map-append, take_more, take_all}
-use Rattle.warg_values.specs.Reading.{◌>>=◌}
 use Rattle.warg_values.specs.ReadingLaws.{bind_ok, ok_is}
 use Rattle.comp_entity.specs.Bounds.{ShapeFault}
 use Rattle.comp_space.specs.declared.error.ScopeError.{ScopeError}
 use Rattle.comp_space.specs.declared.parts.Parts.{Parts}
 use Rattle.comp_space.specs.declared.standing.Standing.{Standing}
-use Rattle.comp_space.specs.Faults.{Fails, Found, Finds}
+use Rattle.comp_space.specs.Faults.{Fails, Found}
 use Rattle.comp_space.specs.Rows.{all_of, all_named, ShowsRows}
 use Rattle.comp_space.specs.Standings.{Shows}
 use Rattle.comp_space.proofs.StandingLaws.{fails_same}

@@ -1,15 +1,13 @@
 -- Laws of index spaces by number.
-use Rattle.std.specs.Prelude.{◌≡◌, ℕ, Bool, List, [], ◌∷◌, ◌++◌, Vec, refl}
+use Rattle.std.specs.Prelude.{◌≡◌, ℕ, List, [], ◌∷◌, ◌++◌, Vec, refl}
 use Rattle.std.specs.Global.{Global}
-use Rattle.std.proofs.Common.{sym, ◌∙◌, ap}
+use Rattle.std.proofs.Common.{◌∙◌, ap}
 use Rattle.comp_format.specs.declared.types.CoreSort.{CoreSort}
-use Rattle.comp_format.specs.declared.types.Sort.{Sort}
 use Rattle.comp_format.specs.declared.types.Sort.TheVariants as sort
 use Rattle.comp_entity.specs.Entity.{ValueTree, Primitive, TupleOf, RecordOf, VariantOf, ListOf, FlagsOf, EnumOf, OptionOf, ResultOf, Own, Borrow, Value, Resource, Func, Instance, Component, EntityTree, IsType, IsFunc, IsInstance, IsComponent, IsModule, IsOwnModule}
 use Rattle.comp_scope.specs.Spaces.{Spaces, placed, sort_of}
 use Rattle.comp_space.specs.declared.space.Space.{Space}
 use Rattle.comp_space.specs.declared.standing.Standing.{Standing}
-use Rattle.comp_space.specs.CoreStandings.{CoresAreThere}
 use Rattle.comp_space.specs.Heads.{sort_of_head}
 use Rattle.comp_space.specs.SpaceViews.{ShowsSpaces, SpaceIsThere}
 use Rattle.comp_space.specs.Standings.{Shows}
@@ -52,9 +50,16 @@ sort_is ts n h e is s = ap sort_of_head (is ∙ ap root s.tree_is) ∙ sort_at_r
 module _ (ts : List PlainTree) (space : Space) (s : Spaces) (x : Standing) (v : Vec Standing Global) (shows : ShowsSpaces ts space s) where
   pub put_type : (e : EntityTree) → Stands ts x.number (plain_entity e) → sort.Ty ≡ sort_of e → v.items ≡ space.types.items ++ x ∷ [] → ShowsSpaces ts (record space { types = v }) (placed s e x.named)
   put_type (IsType t) stands is e = record {
-    is_closed = shows.is_closed; core = shows.core; core_types = shows.core_types; modules = shows.modules; funcs = shows.funcs;
+    is_closed = shows.is_closed;
+    core = shows.core;
+    core_types = shows.core_types;
+    modules = shows.modules;
+    funcs = shows.funcs;
     types = rw e (pairwise_push (Shows plain_entity ts) space.types.items s.types x (IsType t, x.named) shows.types (record { stands = stands; named_is = refl }));
-    components = shows.components; instances = shows.instances; brought = shows.brought; made = shows.made;
+    components = shows.components;
+    instances = shows.instances;
+    brought = shows.brought;
+    made = shows.made;
   }
   put_type (IsFunc f) stands is e = absurd cc
   put_type (IsInstance es) stands is e = absurd cc
@@ -64,9 +69,16 @@ module _ (ts : List PlainTree) (space : Space) (s : Spaces) (x : Standing) (v : 
 
   pub put_func : (e : EntityTree) → Stands ts x.number (plain_entity e) → sort.Func ≡ sort_of e → v.items ≡ space.funcs.items ++ x ∷ [] → ShowsSpaces ts (record space { funcs = v }) (placed s e x.named)
   put_func (IsFunc f) stands is e = record {
-    is_closed = shows.is_closed; core = shows.core; core_types = shows.core_types; modules = shows.modules;
+    is_closed = shows.is_closed;
+    core = shows.core;
+    core_types = shows.core_types;
+    modules = shows.modules;
     funcs = rw e (pairwise_push (Shows plain_entity ts) space.funcs.items s.funcs x (IsFunc f, x.named) shows.funcs (record { stands = stands; named_is = refl }));
-    types = shows.types; components = shows.components; instances = shows.instances; brought = shows.brought; made = shows.made;
+    types = shows.types;
+    components = shows.components;
+    instances = shows.instances;
+    brought = shows.brought;
+    made = shows.made;
   }
   put_func (IsType t) stands is e = absurd cc
   put_func (IsInstance es) stands is e = absurd cc
@@ -76,10 +88,16 @@ module _ (ts : List PlainTree) (space : Space) (s : Spaces) (x : Standing) (v : 
 
   pub put_instance : (e : EntityTree) → Stands ts x.number (plain_entity e) → sort.Instance ≡ sort_of e → v.items ≡ space.instances.items ++ x ∷ [] → ShowsSpaces ts (record space { instances = v }) (placed s e x.named)
   put_instance (IsInstance es) stands is e = record {
-    is_closed = shows.is_closed; core = shows.core; core_types = shows.core_types; modules = shows.modules; funcs = shows.funcs;
-    types = shows.types; components = shows.components;
+    is_closed = shows.is_closed;
+    core = shows.core;
+    core_types = shows.core_types;
+    modules = shows.modules;
+    funcs = shows.funcs;
+    types = shows.types;
+    components = shows.components;
     instances = rw e (pairwise_push (Shows plain_entity ts) space.instances.items s.instances x (IsInstance es, x.named) shows.instances (record { stands = stands; named_is = refl }));
-    brought = shows.brought; made = shows.made;
+    brought = shows.brought;
+    made = shows.made;
   }
   put_instance (IsType t) stands is e = absurd cc
   put_instance (IsFunc f) stands is e = absurd cc
@@ -89,10 +107,16 @@ module _ (ts : List PlainTree) (space : Space) (s : Spaces) (x : Standing) (v : 
 
   pub put_component : (e : EntityTree) → Stands ts x.number (plain_entity e) → sort.Component ≡ sort_of e → v.items ≡ space.components.items ++ x ∷ [] → ShowsSpaces ts (record space { components = v }) (placed s e x.named)
   put_component (IsComponent is' es) stands is e = record {
-    is_closed = shows.is_closed; core = shows.core; core_types = shows.core_types; modules = shows.modules; funcs = shows.funcs;
+    is_closed = shows.is_closed;
+    core = shows.core;
+    core_types = shows.core_types;
+    modules = shows.modules;
+    funcs = shows.funcs;
     types = shows.types;
     components = rw e (pairwise_push (Shows plain_entity ts) space.components.items s.components x (IsComponent is' es, x.named) shows.components (record { stands = stands; named_is = refl }));
-    instances = shows.instances; brought = shows.brought; made = shows.made;
+    instances = shows.instances;
+    brought = shows.brought;
+    made = shows.made;
   }
   put_component (IsType t) stands is e = absurd cc
   put_component (IsFunc f) stands is e = absurd cc
@@ -102,14 +126,28 @@ module _ (ts : List PlainTree) (space : Space) (s : Spaces) (x : Standing) (v : 
 
   pub put_module : (c : CoreSort) (e : EntityTree) → Stands ts x.number (plain_entity e) → sort.Core c ≡ sort_of e → v.items ≡ space.modules.items ++ x ∷ [] → ShowsSpaces ts (record space { modules = v }) (placed s e x.named)
   put_module c (IsModule m) stands is e = record {
-    is_closed = shows.is_closed; core = shows.core; core_types = shows.core_types;
+    is_closed = shows.is_closed;
+    core = shows.core;
+    core_types = shows.core_types;
     modules = rw e (pairwise_push (Shows plain_entity ts) space.modules.items s.modules x (IsModule m, x.named) shows.modules (record { stands = stands; named_is = refl }));
-    funcs = shows.funcs; types = shows.types; components = shows.components; instances = shows.instances; brought = shows.brought; made = shows.made;
+    funcs = shows.funcs;
+    types = shows.types;
+    components = shows.components;
+    instances = shows.instances;
+    brought = shows.brought;
+    made = shows.made;
   }
   put_module c IsOwnModule stands is e = record {
-    is_closed = shows.is_closed; core = shows.core; core_types = shows.core_types;
+    is_closed = shows.is_closed;
+    core = shows.core;
+    core_types = shows.core_types;
     modules = rw e (pairwise_push (Shows plain_entity ts) space.modules.items s.modules x (IsOwnModule, x.named) shows.modules (record { stands = stands; named_is = refl }));
-    funcs = shows.funcs; types = shows.types; components = shows.components; instances = shows.instances; brought = shows.brought; made = shows.made;
+    funcs = shows.funcs;
+    types = shows.types;
+    components = shows.components;
+    instances = shows.instances;
+    brought = shows.brought;
+    made = shows.made;
   }
   put_module c (IsType t) stands is e = absurd cc
   put_module c (IsFunc f) stands is e = absurd cc

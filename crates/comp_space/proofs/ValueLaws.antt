@@ -1,5 +1,5 @@
 -- Laws of types of values and of functions, by their parts.
-use Rattle.std.specs.Prelude.{◌≡◌, ℕ, Bool, true, ◌&&◌, List, [], ◌∷◌, map, length, Option, Some, None, Result, Ok, Err, refl}
+use Rattle.std.specs.Prelude.{◌≡◌, ℕ, Bool, true, ◌&&◌, List, [], ◌∷◌, map, Option, Some, None, Result, Ok, Err, refl}
 use Rattle.std.proofs.Common.{sym, ◌∙◌, ap, subst}
 use Rattle.warg_values.specs.Reading.{◌>>=◌}
 use Rattle.warg_values.specs.ReadingLaws.{never, ok_is}
@@ -7,7 +7,7 @@ use Rattle.comp_format.specs.declared.types.ValType.{ValType}
 use Rattle.comp_format.specs.declared.types.DefinedType.TheVariants as defined
 use Rattle.comp_format.specs.declared.types.FuncType.{FuncType}
 use Rattle.comp_entity.specs.Bounds.{ShapeFault}
-use Rattle.comp_entity.specs.Entity.{Name, ValueTree, ValueTrees, TupleOf, RecordOf, VariantOf, ListOf, FlagsOf, EnumOf, OptionOf, ResultOf, Own, Borrow, more, Cases, no_case, labelled, Payload, absent, present, FuncTree}
+use Rattle.comp_entity.specs.Entity.{Name, ValueTree, TupleOf, RecordOf, VariantOf, ListOf, FlagsOf, EnumOf, OptionOf, ResultOf, Own, Borrow, more, Cases, no_case, labelled, Payload, absent, present}
 use Rattle.comp_entity.specs.Views.{values_of, fields_of as fields_in}
 use Rattle.comp_scope.specs.Spaces.{Spaces}
 use Rattle.comp_scope.specs.Values.{part_of, payload_of, resource_of, parts_of, fields_of, cases_of, params_of, result_of, value_of, func_of}

@@ -1,5 +1,5 @@
 -- Lists of types, each of which is read, or the first of which has a fault.
-use Rattle.std.specs.Prelude.{◌≡◌, ℕ, Bool, true, ◌&&◌, List, [], ◌∷◌, map, Result, Ok, Err}
+use Rattle.std.specs.Prelude.{◌≡◌, ℕ, Bool, true, ◌&&◌, List, [], ◌∷◌, map, Result, Ok}
 use Rattle.warg_values.specs.Reading.{◌>>=◌}
 use Rattle.comp_format.specs.declared.types.ValType.{ValType}
 use Rattle.std.specs.Prelude.{Option}

@@ -1,6 +1,5 @@
 -- What the indices of a scope stand for, by numbers of a table.
-use Rattle.std.specs.Prelude.{◌≡◌, ℕ, Bool, List, [], ◌∷◌, map, length}
-use Rattle.comp_entity.specs.Entity.{EntityTree}
+use Rattle.std.specs.Prelude.{◌≡◌, Bool, List, [], ◌∷◌, map, length}
 use Rattle.comp_scope.specs.Spaces as scope
 use Rattle.comp_space.specs.declared.standing.Standing.{Standing}
 use Rattle.comp_table.specs.Plain.{plain_entity}

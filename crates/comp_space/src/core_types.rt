@@ -178,11 +178,7 @@ fn core_func(
 }
 
 /// The number of a core module with these imports and exports.
-fn core_module(
-    table: &mut TypeTable,
-    alloc: Global,
-    own: ModuleScope,
-) -> Result<usize, Memory>
+fn core_module(table: &mut TypeTable, alloc: Global, own: ModuleScope) -> Result<usize, Memory>
     requires { ModuleIsThere table.old own }
     ensures extends { Extends table.old table.new }
     ensures there { IfOk result (λ n. n < length table.new) }
@@ -190,7 +186,9 @@ fn core_module(
         → IfOk result (λ n. Stands table.new n (plain_module (module_in known))) }
 {
     let ModuleScope {
-        imports, exports, ..
+        imports,
+        exports,
+        ..
     } = own;
     let imports = node(table, alloc, Head::Entries, imports)?;
     let exports = node(table, alloc, Head::Entries, exports)?;

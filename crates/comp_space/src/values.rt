@@ -125,11 +125,7 @@ fn tuple_of(
 }
 
 /// Flags of these labels.
-fn flags_of(
-    table: &mut TypeTable,
-    alloc: Global,
-    labels: &[Text],
-) -> Result<Standing, ScopeError>
+fn flags_of(table: &mut TypeTable, alloc: Global, labels: &[Text]) -> Result<Standing, ScopeError>
     ensures extends { Extends table.old table.new }
     ensures there { IfOk result (λ x. x.number < length table.new) }
     ensures found { (s : Spaces)
@@ -193,13 +189,7 @@ fn result_of(
 {
     let first = payload_of(table, alloc, types, ok)?;
     let second = payload_of(table, alloc, types, err)?;
-    let number = around_two(
-        table,
-        alloc,
-        Head::ResultOf,
-        first.number,
-        second.number,
-    )?;
+    let number = around_two(table, alloc, Head::ResultOf, first.number, second.number)?;
     Ok(Standing {
         number,
         named: both(first.named, second.named),

@@ -9,9 +9,8 @@ use Rattle.comp_format.specs.CoreTypes.{module_decls}
 use Rattle.comp_format.specs.Views.{core_tree, module_decl_tree, module_tree}
 use Rattle.comp_scope.specs.CoreScopes.{core_type_of, module_in, module_of, no_module_scope, with_module_decl}
 use Rattle.comp_scope.specs.Spaces.{OfItem, OfModules}
-use Rattle.comp_space.specs.CoreStandings.{AllShowCore, ScopesShow}
-use Rattle.comp_space.specs.Faults.{Fails, Found}
-use Rattle.comp_space.specs.declared.core_types.CoreStanding.TheVariants as by_number
+use Rattle.comp_space.specs.CoreStandings.{AllShowCore}
+use Rattle.comp_space.specs.Faults.{Fails}
 use Rattle.comp_table.specs.Plain.{plain_core}
 use Rattle.comp_table.specs.StandLaws.{all_none, grows_not, grows_on, same_stands}
 use Rattle.comp_space.proofs.CoreLaws.{cores_push, module_kept, module_there_kept, scopes_kept, scopes_there_kept, with_type}

@@ -2,7 +2,7 @@ use Rattle.std.proofs.Common.{ap, subst, sym, ◌∙◌, ◌∷◌, ◌++◌, []
 use Rattle.warg_values.specs.Reading.{◌>>=◌}
 use Rattle.comp_scope.specs.CoreScopes.{core_item, with_module_decl}
 use Rattle.comp_space.specs.CoreStandings.{AllShowCore}
-use Rattle.comp_table.specs.Plain.{plain_import, under_label}
+use Rattle.comp_table.specs.Plain.{under_label}
 use Rattle.comp_table.specs.StandLaws.{grows_on, same_stands}
 use Rattle.comp_space.proofs.CoreLaws.{module_kept, module_there_kept, with_import}
 use Rattle.comp_space.proofs.StandingLaws.{below_push, fails_bind, passed_on}

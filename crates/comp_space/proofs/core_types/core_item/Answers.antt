@@ -1,4 +1,4 @@
-use Rattle.std.proofs.Common.{refl, subst, length, ◌<◌, IfOk}
+use Rattle.std.proofs.Common.{refl, length}
 use Rattle.std.proofs.lemmas.Result.{IfOk-weaker}
 use Rattle.comp_entity.specs.declared.module.CoreShape.TheVariants as shape
 use Rattle.comp_scope.specs.CoreScopes.{as_core_func, core_item}

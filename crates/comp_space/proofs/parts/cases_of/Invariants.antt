@@ -3,7 +3,6 @@ use Rattle.comp_scope.specs.Spaces.{Spaces}
 use Rattle.comp_space.specs.Faults.{Found}
 use Rattle.comp_space.specs.Standings.{AllShow}
 use Rattle.comp_space.specs.Rows.{ShowsRows, all_of, case_of, plain_case}
-
 use Rattle.comp_table.specs.Trees.{Extends, IsBelow}
 use Rattle.comp_space.proofs.parts.cases_of.Given as goal
 

@@ -17,7 +17,7 @@ node-requires c = rw c.in_ok-parts.ensures
 
 pub returns-in_err-params-clause-found : goal.returns-in_err-params-clause-found
 returns-in_err-params-clause-found c = λ s shows.
-    passed_on _ c.from_residual.result c.in_err-params.field-0.0 _ c.from_residual.ensures.1 
+    passed_on _ c.from_residual.result c.in_err-params.field-0.0 _ c.from_residual.ensures.1
     (func_fails s c.args.func.now c.in_err-params.field-0.0 (subst (λ xs. Fails c.in_err-params.field-0.0 (all_of (field_of s) xs)) c.as_slice.ensures (c.in_err-params.ensures.found s shows)))
 
 pub returns-in_err-result-clause-found : goal.returns-in_err-result-clause-found
