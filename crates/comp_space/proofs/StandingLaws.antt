@@ -2,7 +2,7 @@
 use Rattle.std.specs.Prelude.{◌≡◌, ℕ, zero, suc, ◌<◌, Bool, true, false, ◌&&◌, List, [], ◌∷◌, ◌++◌, map, length, Some, None, Result, Ok, Err, refl}
 use Rattle.std.proofs.Common.{sym, ◌∙◌, ap, subst}
 use Rattle.std.proofs.lemmas.Result.{err_from_is_err_and}
-use Rattle.std.specs.Prelude.{IsErrAnd}
+use Rattle.std.specs.Prelude.{IsErrAnd, OnErr}
 use Rattle.warg_values.specs.Reading.{◌>>=◌}
 use Rattle.warg_values.specs.ReadingLaws.{ok_is}
 use Rattle.comp_entity.specs.Entity.{Name, ValueTree, Primitive, TupleOf, RecordOf, VariantOf, ListOf, FlagsOf, EnumOf, OptionOf, ResultOf, Own, Borrow, Value, Resource, Func, Instance, Component, EntityTree, IsType, IsFunc, IsInstance, IsComponent, IsModule, IsOwnModule}
@@ -204,3 +204,7 @@ resource_found ts n b h r (IsInstance es) is s v = absurd (let no = sym (is ∙ 
 resource_found ts n b h r (IsComponent is' es) is s v = absurd (let no = sym (is ∙ ap root v.tree_is) ∙ s in cc)
 resource_found ts n b h r (IsModule m) is s v = absurd (let no = sym (is ∙ ap root v.tree_is) ∙ s in cc)
 resource_found ts n b h r IsOwnModule is s v = absurd (let no = sym (is ∙ ap root v.tree_is) ∙ s in cc)
+
+pub on_err_always : {T E P : Type 0} (r : Result T E) → P → OnErr r P
+on_err_always (Ok x) p = tt
+on_err_always (Err e) p = p

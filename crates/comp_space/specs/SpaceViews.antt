@@ -37,3 +37,7 @@ pub record SpaceIsThere (table : List PlainTree) (space : Space) : Type 0 where
   pub types : AreThere table space.types.items
   pub components : AreThere table space.components.items
   pub instances : AreThere table space.instances.items
+
+-- they stand for some index spaces
+abbrev pub IsSpace : List PlainTree → Space → Type 0
+IsSpace table space = (s : Spaces) × ShowsSpaces table space s

@@ -12,6 +12,7 @@ mod nodes;
 mod parts;
 mod space;
 mod standing;
+mod types;
 mod values;
 
 pub use core_types::{CoreStanding, as_module, core_type_at, core_type_of};
@@ -19,4 +20,5 @@ pub use error::ScopeError;
 pub use parts::resource_of;
 pub use space::{CoreCounts, Counts, Space, sort_at};
 pub use standing::Standing;
+pub use types::{add_func_type, add_value_type};
 pub use values::{func_of, value_of};
