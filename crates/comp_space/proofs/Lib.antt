@@ -1,4 +1,5 @@
 mod BoundLaws
+mod DescriptionLaws
 mod CoreLaws
 mod ModuleLaws
 mod RowLaws

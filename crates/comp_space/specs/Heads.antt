@@ -37,3 +37,12 @@ sort_of_head head.Component = sort.Component
 sort_of_head head.Module = sort.Core core.Module
 sort_of_head head.OwnModule = sort.Core core.Module
 sort_of_head _ = sort.Ty
+
+-- the head is that of a type of functions, and of a type of components
+abbrev pub is_func_type : Head → Bool
+is_func_type head.FuncType = true
+is_func_type _ = false
+
+abbrev pub is_component_type : Head → Bool
+is_component_type head.ComponentType = true
+is_component_type _ = false

@@ -4,3 +4,4 @@ pub mod Heads
 pub mod Rows
 pub mod CoreStandings
 pub mod SpaceViews
+pub mod Descriptions

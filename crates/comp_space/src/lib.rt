@@ -6,6 +6,7 @@
 
 mod bounds;
 mod core_types;
+mod descriptions;
 mod error;
 pub mod laws;
 mod nodes;
@@ -16,6 +17,7 @@ mod types;
 mod values;
 
 pub use core_types::{CoreStanding, as_module, core_type_at, core_type_of};
+pub use descriptions::{Described, described_component, described_func};
 pub use error::ScopeError;
 pub use parts::resource_of;
 pub use space::{CoreCounts, Counts, Space, sort_at};
