@@ -12,7 +12,7 @@ use Rattle.comp_table.specs.declared.head.Head.{Head}
 use Rattle.comp_table.specs.declared.head.Head.TheVariants as head
 use Rattle.comp_table.specs.Plain.{around, plain_value, plain_entity}
 use Rattle.comp_table.specs.StandLaws.{same_stands}
-use Rattle.comp_table.specs.Trees.{PlainTree, PlainTrees, tree, Stands, tree_at, root, below_root, node_tree}
+use Rattle.comp_table.specs.Trees.{PlainTree, PlainTrees, tree, Stands, tree_at, root, below_root}
 
 no_func : (t : ValueTree) → is_func_type (root (plain_value t)) ≡ false
 no_func (Primitive p) = refl
