@@ -1,0 +1,16 @@
+use Rattle.std.proofs.Common.{length, take}
+use Rattle.comp_scope.specs.Spaces.{Spaces}
+use Rattle.comp_space.specs.Faults.{Found}
+use Rattle.comp_space.specs.Standings.{AllShow}
+use Rattle.comp_space.specs.Rows.{ShowsRows, all_of, field_of}
+use Rattle.comp_table.specs.Plain.{plain_param}
+use Rattle.comp_table.specs.Trees.{Extends, IsBelow}
+use Rattle.comp_space.proofs.parts.fields_of.Given as goal
+
+abbrev pub invariant-loop-field : goal.invariant-loop-field
+invariant-loop-field l = record {
+  extends : Extends l.fn.table l.table;
+  there : IsBelow (length l.table) l.numbers.items;
+  found : (s : Spaces) → AllShow l.fn.table l.types s.types
+      → Found (ShowsRows plain_param l.table) (record { numbers = l.numbers; named = l.named }) (all_of (field_of s) (take l.field-index l.fields));
+}

@@ -1,0 +1,17 @@
+use Rattle.std.proofs.Common.{length, take}
+use Rattle.comp_scope.specs.Spaces.{Spaces}
+use Rattle.comp_space.specs.Faults.{Found}
+use Rattle.comp_space.specs.Standings.{AllShow}
+use Rattle.comp_scope.specs.Values.{part_of}
+use Rattle.comp_space.specs.Rows.{ShowsRows, all_of}
+use Rattle.comp_table.specs.Plain.{plain_value}
+use Rattle.comp_table.specs.Trees.{Extends, IsBelow}
+use Rattle.comp_space.proofs.parts.parts_of.Given as goal
+
+abbrev pub invariant-loop-part : goal.invariant-loop-part
+invariant-loop-part l = record {
+  extends : Extends l.fn.table l.table;
+  there : IsBelow (length l.table) l.numbers.items;
+  found : (s : Spaces) → AllShow l.fn.table l.types s.types
+      → Found (ShowsRows plain_value l.table) (record { numbers = l.numbers; named = l.named }) (all_of (part_of s) (take l.part-index l.parts));
+}

@@ -1,0 +1,11 @@
+use Rattle.comp_space.proofs.StandingLaws.{passed_on}
+use Rattle.comp_space.proofs.ValueLaws.{record_fails, record_found}
+use Rattle.comp_space.proofs.values.record_of.Goals as goal
+
+pub returns-in_err-numbers-clause-found : goal.returns-in_err-numbers-clause-found
+returns-in_err-numbers-clause-found c = λ s shows.
+    passed_on _ c.from_residual.result c.in_err-numbers.field-0.0 _ c.from_residual.ensures.1 (record_fails s c.args.fields.now c.in_err-numbers.field-0.0 (c.in_err-numbers.ensures.found s shows))
+
+pub returns-clause-found : goal.returns-clause-found
+returns-clause-found c = λ s shows.
+    record_found s c.args.fields.now c.fields_of.new.table c.node.new.table c.in_ok-numbers.field-0 c.in_ok-number.number (c.in_ok-numbers.ensures.found s shows) c.in_ok-number.ensures.number
