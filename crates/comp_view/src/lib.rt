@@ -4,6 +4,7 @@
 #![tactic(auto)]
 
 mod entities;
+pub mod laws;
 mod modules;
 mod parts;
 mod values;

@@ -1,6 +1,7 @@
 //! What the numbers of a table stand for, as it lies in memory.
 
 ghost use Rattle.std.specs.Prelude.{◌≡◌, IfOk};
+ghost use Rattle.comp_entity.specs.declared.entity.Entity.{Entity};
 ghost use Rattle.comp_entity.specs.Entity.{EntityTree};
 ghost use Rattle.comp_entity.specs.Names.{entity_by};
 ghost use Rattle.comp_entity.specs.Views.{entity_tree, func_tree};
@@ -31,6 +32,8 @@ pub fn entity_at(table: &TypeTable, alloc: Global, number: TypeNumber) -> Result
     ensures tree { IfOk result (λ entity. entity_plain entity ≡ tree_by all_named 0 (tree_at table.now number.0)) }
     ensures entity { IfOk result (λ entity. (e : EntityTree)
         → Stands table.now number.0 (plain_entity e) → entity_tree entity ≡ entity_by all_named 0 e) }
+    ensures again { IfOk result (λ entity. (x : Entity)
+        → Stands table.now number.0 (entity_plain x) → entity_tree entity ≡ entity_tree x) }
 {
     changed_entities_have_changed_trees();
     one_entity();
