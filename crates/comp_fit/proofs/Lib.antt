@@ -1,0 +1,4 @@
+pub mod ExportLaws
+pub mod KindLaws
+pub mod LooseLaws
+pub mod ModuleLaws

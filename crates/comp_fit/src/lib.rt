@@ -1,0 +1,12 @@
+//! Which entities of WebAssembly components can be given where others are asked for, over the numbers of a table.
+//!
+//! The terms are those of the Component Model's `Explainer.md`.
+#![tactic(auto)]
+
+mod fit;
+mod loosen;
+mod modules;
+mod pair;
+
+pub use fit::{fits_as_named, fits_loosely};
+pub use loosen::loosened;
