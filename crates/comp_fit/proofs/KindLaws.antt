@@ -90,7 +90,7 @@ tied Less y e = absurd cc
 tied Equal y e = (refl, e)
 tied Greater y e = absurd cc
 
-same_pair : (a b : Pair) → pair_cmp a b ≡ Equal → a ≡ b
+pub same_pair : (a b : Pair) → pair_cmp a b ≡ Equal → a ≡ b
 same_pair a b e =
     let h = tied (nat_cmp a.given b.given) (nat_cmp a.asked b.asked) e in
     let given = nat_cmp-IsAntisymmetric a.given b.given h.0 in

@@ -13,6 +13,7 @@ ghost use Rattle.comp_table.specs.Shown.{AreShown, IsShown};
 ghost use Rattle.comp_table.specs.Trees.{PlainTree, IsBelow, Stands, root, tree_at, trees_of};
 
 use crate::modules::modules_fit;
+use crate::names::{are_instances, entry_at, names_of};
 use crate::pair::{Pair, inner};
 use comp_entity::laws::a_change_keeps_fit;
 use comp_table::laws::changed_entities_have_changed_trees;
@@ -27,16 +28,6 @@ const LEVELS: usize = 1000;
 /// The answers that are known already.
 type Known = BTreeMap<Pair, bool>;
 
-/// Whether a head is that of an instance.
-fn is_instance(head: &Head) -> bool
-    ensures { result ≡ is_instance head.now }
-{
-    match head {
-        Head::Instance => true,
-        _ => false,
-    }
-}
-
 /// Whether a head is that of a core module.
 fn is_module(head: &Head) -> bool
     ensures { result ≡ is_module head.now }
@@ -47,16 +38,6 @@ fn is_module(head: &Head) -> bool
     }
 }
 
-/// Whether both numbers stand for instances.
-fn are_instances(table: &TypeTable, pair: Pair) -> bool
-    requires given { pair.given < length table.now }
-    requires asked { pair.asked < length table.now }
-    ensures { result
-        ≡ (is_instance (root (tree_at table.now pair.given)) && is_instance (root (tree_at table.now pair.asked))) }
-{
-    is_instance(table.head(pair.given)) && is_instance(table.head(pair.asked))
-}
-
 /// Whether both numbers stand for core modules.
 fn are_modules(table: &TypeTable, pair: Pair) -> bool
     requires given { pair.given < length table.now }
@@ -65,42 +46,6 @@ fn are_modules(table: &TypeTable, pair: Pair) -> bool
         ≡ (is_module (root (tree_at table.now pair.given)) && is_module (root (tree_at table.now pair.asked))) }
 {
     is_module(table.head(pair.given)) && is_module(table.head(pair.asked))
-}
-
-/// The name and the entity of the import or the export that a number stands for.
-fn entry_at(table: &TypeTable, number: usize) -> (&Text, usize)
-    requires there { number < length table.now }
-    requires entry { (name : List ℕ) × (mark : Bool) × (t : PlainTree)
-        × (tree_at table.now number ≡ around (Head.Entry mark name) t) }
-    ensures { (name : List ℕ) (mark : Bool) (t : PlainTree)
-        → tree_at table.now number ≡ around (Head.Entry mark name) t
-        → (result.0.now ≡ name) × Stands table.now result.1 t }
-{
-    let Head::Entry(_, name) = table.head(number) else {
-        unreachable!()
-    };
-    (name, table.parts(number)[0])
-}
-
-/// The number of the first entity under each name.
-fn names_of(
-    table: &TypeTable,
-    alloc: Global,
-    parts: &[usize],
-) -> Result<BTreeMap<Text, usize>, Memory>
-    requires below { IsBelow (length table.now) parts.now }
-    requires entries { (es : Entries) × (trees_of (map (tree_at table.now) parts.now) ≡ plain_entries es) }
-    ensures { IfOk result (λ names. (es : Entries)
-        → trees_of (map (tree_at table.now) parts.now) ≡ plain_entries es → AreNames table.now es names) }
-{
-    let mut names = BTreeMap::new(alloc);
-    let mut left = parts.len();
-    while left > 0 {
-        left -= 1;
-        let (name, entity) = entry_at(table, parts[left]);
-        names.insert(name.try_clone(alloc)?, entity)?;
-    }
-    Ok(names)
 }
 
 /// Whether the entity of one number can be given where that of another one is asked for.

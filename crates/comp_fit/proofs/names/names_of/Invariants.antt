@@ -3,7 +3,7 @@ use Rattle.comp_entity.specs.Entity.{Entries}
 use Rattle.comp_fit.specs.Known.{AreNames}
 use Rattle.comp_table.specs.Plain.{plain_entries}
 use Rattle.comp_table.specs.Trees.{tree_at, trees_of}
-use Rattle.comp_fit.proofs.fit.names_of.Given as goal
+use Rattle.comp_fit.proofs.names.names_of.Given as goal
 
 abbrev pub invariant-loop-left : goal.invariant-loop-left
 invariant-loop-left l = record {

@@ -1,7 +1,7 @@
 use Rattle.std.proofs.Common.{rules, ap, sym, ◌∙◌, ◌≡◌, ◌<◌, ◌+◌, ◌-◌, ◌∷◌, arith, drop, length, map, refl, slice_index_or}
 use Rattle.comp_table.specs.Trees.{tree_at, trees_of}
 use Rattle.comp_fit.proofs.ExportLaws.{dropped, entry_among, names_more, no_names, nothing_left}
-use Rattle.comp_fit.proofs.fit.names_of.Goals as goal
+use Rattle.comp_fit.proofs.names.names_of.Goals as goal
 
 pub loop-left-init : goal.loop-left-init
 loop-left-init c = record {
