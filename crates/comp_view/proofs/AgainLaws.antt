@@ -60,10 +60,10 @@ type_layer (layer.«TypeShape::Component» c) d = λ i. around_two head.Componen
 pub entity_same : (e : Entity) → EntitySame (entity_tree e)
 entity_same = ind-Entity (λ e. EntitySame (entity_tree e)) (λ t. TypeSame (type_tree t)) (λ c. SidesSame (component_sides c)) (λ i. EntriesSame (instance_entries i))
     (λ x y is. subst (λ x. EntitySame (entity_tree (roll-Entity x))) is
-        (subst EntitySame (sym (fold-roll-Entity EntityTree TypeShapeTree Sides Entries entity_step type_step component_step instance_step (map-Entity EntityNamed TypeNamed ComponentNamed InstanceNamed Entity TypeShape ComponentShape InstanceShape (λ e. e.0) (λ e. e.0) (λ e. e.0) (λ e. e.0) y))) (entity_layer y)))
+    (subst EntitySame (sym (fold-roll-Entity EntityTree TypeShapeTree Sides Entries entity_step type_step component_step instance_step (map-Entity EntityNamed TypeNamed ComponentNamed InstanceNamed Entity TypeShape ComponentShape InstanceShape (λ e. e.0) (λ e. e.0) (λ e. e.0) (λ e. e.0) y))) (entity_layer y)))
     (λ x y is. subst (λ x. TypeSame (type_tree (roll-TypeShape x))) is
-        (subst TypeSame (sym (fold-roll-TypeShape EntityTree TypeShapeTree Sides Entries entity_step type_step component_step instance_step (map-TypeShape EntityNamed TypeNamed ComponentNamed InstanceNamed Entity TypeShape ComponentShape InstanceShape (λ e. e.0) (λ e. e.0) (λ e. e.0) (λ e. e.0) y))) (type_layer y)))
+    (subst TypeSame (sym (fold-roll-TypeShape EntityTree TypeShapeTree Sides Entries entity_step type_step component_step instance_step (map-TypeShape EntityNamed TypeNamed ComponentNamed InstanceNamed Entity TypeShape ComponentShape InstanceShape (λ e. e.0) (λ e. e.0) (λ e. e.0) (λ e. e.0) y))) (type_layer y)))
     (λ x y is. subst (λ x. SidesSame (component_sides (roll-ComponentShape x))) is
-        (subst SidesSame (sym (fold-roll-ComponentShape EntityTree TypeShapeTree Sides Entries entity_step type_step component_step instance_step (map-ComponentShape EntityNamed TypeNamed ComponentNamed InstanceNamed Entity TypeShape ComponentShape InstanceShape (λ e. e.0) (λ e. e.0) (λ e. e.0) (λ e. e.0) y))) (entries_same y.imports.items, entries_same y.exports.items)))
+    (subst SidesSame (sym (fold-roll-ComponentShape EntityTree TypeShapeTree Sides Entries entity_step type_step component_step instance_step (map-ComponentShape EntityNamed TypeNamed ComponentNamed InstanceNamed Entity TypeShape ComponentShape InstanceShape (λ e. e.0) (λ e. e.0) (λ e. e.0) (λ e. e.0) y))) (entries_same y.imports.items, entries_same y.exports.items)))
     (λ x y is. subst (λ x. EntriesSame (instance_entries (roll-InstanceShape x))) is
-        (subst EntriesSame (sym (fold-roll-InstanceShape EntityTree TypeShapeTree Sides Entries entity_step type_step component_step instance_step (map-InstanceShape EntityNamed TypeNamed ComponentNamed InstanceNamed Entity TypeShape ComponentShape InstanceShape (λ e. e.0) (λ e. e.0) (λ e. e.0) (λ e. e.0) y))) (entries_same y.exports.items)))
+    (subst EntriesSame (sym (fold-roll-InstanceShape EntityTree TypeShapeTree Sides Entries entity_step type_step component_step instance_step (map-InstanceShape EntityNamed TypeNamed ComponentNamed InstanceNamed Entity TypeShape ComponentShape InstanceShape (λ e. e.0) (λ e. e.0) (λ e. e.0) (λ e. e.0) y))) (entries_same y.exports.items)))

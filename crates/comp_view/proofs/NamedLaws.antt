@@ -12,7 +12,7 @@ use Rattle.comp_table.specs.Changes.{head_by, scopes_in, tree_by, trees_by}
 use Rattle.comp_table.specs.declared.head.Head.TheVariants as head
 use Rattle.comp_table.specs.Plain.{leaf, around, around_two, under_label, plain_labels, plain_value, plain_values, plain_cases, plain_payload, plain_result, plain_param, plain_func, plain_core, plain_import, plain_export, plain_module}
 use Rattle.comp_table.specs.Rows.{core_value_plain}
-use Rattle.comp_table.specs.Trees.{PlainTree, tree, none, more, trees_of, root, below_root}
+use Rattle.comp_table.specs.Trees.{PlainTree, tree, more, trees_of, root, below_root}
 use Rattle.comp_view.specs.Kinds.{all_named}
 
 labels_same : (d : ℕ) (ls : List (List ℕ)) → trees_by all_named d (plain_labels ls) ≡ plain_labels ls

@@ -6,7 +6,7 @@ use Rattle.comp_table.specs.declared.head.Head.{Head}
 use Rattle.comp_table.specs.declared.head.Head.TheVariants as head
 use Rattle.comp_table.specs.Trees.{PlainTree, tree, PlainTrees, none, more, trees_of, root, below_root, tree_at, IsBelow}
 use Rattle.comp_table.specs.Plain.{leaf}
-use Rattle.comp_view.specs.Kinds.{Kind, LabelAlone, Held, Field, AnyEntity, Parts, nothing, one, two, all, first, never, label_parts, entries_parts, func_parts, entry_parts, parts_of, IsTreeOf, AreTreesOf, IsNumberOf, AreNumbersOf, IsLabel, IsEntryHead}
+use Rattle.comp_view.specs.Kinds.{Kind, LabelAlone, Held, Field, AnyEntity, Parts, nothing, one, two, all, first, label_parts, entries_parts, func_parts, entry_parts, parts_of, IsTreeOf, AreTreesOf, IsNumberOf, AreNumbersOf, IsLabel, IsEntryHead}
 
 pub whole : (t : PlainTree) (h : Head) (us : PlainTrees) → h ≡ root t → us ≡ below_root t → tree h us ≡ t
 whole (tree g vs) h us e f = λ i. tree (e i) (f i)

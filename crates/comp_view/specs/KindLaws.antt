@@ -1,6 +1,6 @@
 -- Laws of kinds: the tree of heads of an entity is of what can lie in memory where each field of its records has a type,
 -- and no core module of a component's own stands in it.
-use Rattle.std.specs.Prelude.{◌≡◌, ℕ, List, [], ◌∷◌, map, Option, Some, None}
+use Rattle.std.specs.Prelude.{ℕ, List, [], ◌∷◌, map, Option, Some, None}
 use Rattle.std.specs.List.{AllByRecursion}
 use Rattle.comp_format.specs.declared.core_types.CoreVal.{CoreVal}
 use Rattle.comp_entity.specs.declared.module.CoreShape.{CoreShape}

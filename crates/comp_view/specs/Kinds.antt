@@ -1,7 +1,7 @@
 -- Which trees of heads are of what can lie in memory (Component Model, Binary.md, "Type Definitions"): of each kind of
 -- them, what may stand at the root, and of which kinds the parts are then. Each field of a record has a type there, and no
 -- core module of a component's own, whose type is not known, stands in any.
-use Rattle.std.specs.Prelude.{ℕ, ◌<◌, List, length, Bool, Some, true}
+use Rattle.std.specs.Prelude.{ℕ, ◌<◌, List, length, Some, true}
 use Rattle.std.specs.List.{AllByRecursion}
 use Rattle.comp_entity.specs.Names.{Change}
 use Rattle.comp_table.specs.declared.head.Head.{Head}

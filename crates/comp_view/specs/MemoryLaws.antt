@@ -1,21 +1,20 @@
 -- Laws of what lies in memory: each field of a record has a type there, and no core module of a component's own stands in
 -- any entity.
-use Rattle.std.specs.Prelude.{◌≡◌, ℕ, List, [], ◌∷◌, map, Option, Some, None, option_map, Box, Vec, refl}
-use Rattle.std.specs.Global.{Global}
+use Rattle.std.specs.Prelude.{◌≡◌, ℕ, List, [], ◌∷◌, map, Option, Some, None, option_map, refl}
 use Rattle.std.specs.List.{AllByRecursion}
 use Rattle.std.proofs.Common.{sym, subst}
 use Rattle.comp_entity.specs.declared.entity.ValueShape.{ValueShape, ValueShape-F, roll-ValueShape, map-ValueShape, fold-roll-ValueShape, ind-ValueShape}
 use Rattle.comp_entity.specs.declared.entity.ValueShape.TheOpen as value_layer
 use Rattle.comp_entity.specs.declared.entity.FuncShape.{FuncShape}
 use Rattle.comp_entity.specs.declared.entity.TypeShape.{TypeShape, TypeShape-F, roll-TypeShape, map-TypeShape, fold-roll-TypeShape}
-use Rattle.comp_entity.specs.declared.entity.InstanceShape.{InstanceShape, InstanceShape-F, roll-InstanceShape, map-InstanceShape, fold-roll-InstanceShape}
-use Rattle.comp_entity.specs.declared.entity.ComponentShape.{ComponentShape, ComponentShape-F, roll-ComponentShape, map-ComponentShape, fold-roll-ComponentShape}
+use Rattle.comp_entity.specs.declared.entity.InstanceShape.{InstanceShape, roll-InstanceShape, map-InstanceShape, fold-roll-InstanceShape}
+use Rattle.comp_entity.specs.declared.entity.ComponentShape.{ComponentShape, roll-ComponentShape, map-ComponentShape, fold-roll-ComponentShape}
 use Rattle.comp_entity.specs.declared.entity.Entity.{Entity, Entity-F, roll-Entity, map-Entity, fold-roll-Entity, ind-Entity}
 use Rattle.comp_entity.specs.declared.entity.Entity.TheOpen as layer
 use Rattle.comp_entity.specs.Entity.{ValueTree, EntityTree, TypeShapeTree, Entries}
 use Rattle.comp_entity.specs.Views.{value_tree, func_tree, value_step, values_of, fields_of, cases_of, payload_of, entries_of, Sides, entity_step, type_step, component_step, instance_step, entity_tree, type_tree, component_sides, instance_entries}
 use Rattle.comp_table.specs.Rows.{entity_plain, value_plain}
-use Rattle.comp_table.specs.Shown.{IsShownType, IsShown, AreShown, SidesAreShown}
+use Rattle.comp_table.specs.Shown.{IsShownType, IsShown, AreShown}
 use Rattle.comp_view.specs.Fields.{HasFields, AllHaveFields, AreFields, CasesHaveFields, HeldHasFields, ResultHasFields, FuncHasFields, TypeHasFields, EntityHasFields, EntriesHaveFields}
 use Rattle.comp_view.specs.KindLaws.{entity_lies, value_lies}
 use Rattle.comp_view.specs.Kinds.{IsTreeOf}
@@ -126,13 +125,13 @@ type_good (layer.«TypeShape::Component» c) = ((c.1.0.0, c.1.1.0), (c.1.0.1, c.
 pub entity_is_good : (e : Entity) → EntityGood (entity_tree e)
 entity_is_good = ind-Entity (λ e. EntityGood (entity_tree e)) (λ t. TypeGood (type_tree t)) (λ c. SidesGood (component_sides c)) (λ i. EntriesGood (instance_entries i))
     (λ x y is. subst (λ x. EntityGood (entity_tree (roll-Entity x))) is
-        (subst EntityGood (sym (fold-roll-Entity EntityTree TypeShapeTree Sides Entries entity_step type_step component_step instance_step (map-Entity EntityLying TypeLying ComponentLying InstanceLying Entity TypeShape ComponentShape InstanceShape (λ e. e.0) (λ e. e.0) (λ e. e.0) (λ e. e.0) y))) (entity_good y)))
+    (subst EntityGood (sym (fold-roll-Entity EntityTree TypeShapeTree Sides Entries entity_step type_step component_step instance_step (map-Entity EntityLying TypeLying ComponentLying InstanceLying Entity TypeShape ComponentShape InstanceShape (λ e. e.0) (λ e. e.0) (λ e. e.0) (λ e. e.0) y))) (entity_good y)))
     (λ x y is. subst (λ x. TypeGood (type_tree (roll-TypeShape x))) is
-        (subst TypeGood (sym (fold-roll-TypeShape EntityTree TypeShapeTree Sides Entries entity_step type_step component_step instance_step (map-TypeShape EntityLying TypeLying ComponentLying InstanceLying Entity TypeShape ComponentShape InstanceShape (λ e. e.0) (λ e. e.0) (λ e. e.0) (λ e. e.0) y))) (type_good y)))
+    (subst TypeGood (sym (fold-roll-TypeShape EntityTree TypeShapeTree Sides Entries entity_step type_step component_step instance_step (map-TypeShape EntityLying TypeLying ComponentLying InstanceLying Entity TypeShape ComponentShape InstanceShape (λ e. e.0) (λ e. e.0) (λ e. e.0) (λ e. e.0) y))) (type_good y)))
     (λ x y is. subst (λ x. SidesGood (component_sides (roll-ComponentShape x))) is
-        (subst SidesGood (sym (fold-roll-ComponentShape EntityTree TypeShapeTree Sides Entries entity_step type_step component_step instance_step (map-ComponentShape EntityLying TypeLying ComponentLying InstanceLying Entity TypeShape ComponentShape InstanceShape (λ e. e.0) (λ e. e.0) (λ e. e.0) (λ e. e.0) y))) (entries_good y.imports.items, entries_good y.exports.items)))
+    (subst SidesGood (sym (fold-roll-ComponentShape EntityTree TypeShapeTree Sides Entries entity_step type_step component_step instance_step (map-ComponentShape EntityLying TypeLying ComponentLying InstanceLying Entity TypeShape ComponentShape InstanceShape (λ e. e.0) (λ e. e.0) (λ e. e.0) (λ e. e.0) y))) (entries_good y.imports.items, entries_good y.exports.items)))
     (λ x y is. subst (λ x. EntriesGood (instance_entries (roll-InstanceShape x))) is
-        (subst EntriesGood (sym (fold-roll-InstanceShape EntityTree TypeShapeTree Sides Entries entity_step type_step component_step instance_step (map-InstanceShape EntityLying TypeLying ComponentLying InstanceLying Entity TypeShape ComponentShape InstanceShape (λ e. e.0) (λ e. e.0) (λ e. e.0) (λ e. e.0) y))) (entries_good y.exports.items)))
+    (subst EntriesGood (sym (fold-roll-InstanceShape EntityTree TypeShapeTree Sides Entries entity_step type_step component_step instance_step (map-InstanceShape EntityLying TypeLying ComponentLying InstanceLying Entity TypeShape ComponentShape InstanceShape (λ e. e.0) (λ e. e.0) (λ e. e.0) (λ e. e.0) y))) (entries_good y.exports.items)))
 
 -- the trees of heads of what lies in memory are of what can lie there
 pub entity_in_memory : (e : Entity) → IsTreeOf kind.AnyEntity (entity_plain e)

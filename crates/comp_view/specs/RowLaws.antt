@@ -15,7 +15,7 @@ use Rattle.comp_entity.specs.declared.entity.Entity.{Entity, fold-roll-Entity}
 use Rattle.comp_entity.specs.declared.entity.Entity.TheOpen as layer
 use Rattle.comp_entity.specs.declared.entity.Entity.TheVariants as entity
 use Rattle.comp_entity.specs.Entity.{Name, ValueTree, VariantOf, TypeShapeTree, EntityTree, Entries}
-use Rattle.comp_entity.specs.Views.{value_tree, func_tree, value_step, values_of, fields_of, cases_of, entries_of, named_entities, Sides, entity_step, type_step, component_step, instance_step, entity_tree, type_tree, component_sides, instance_entries}
+use Rattle.comp_entity.specs.Views.{value_tree, func_tree, value_step, values_of, fields_of, cases_of, entries_of, named_entities, Sides, entity_step, type_step, component_step, instance_step, component_sides, instance_entries}
 use Rattle.comp_table.specs.declared.head.Head.TheVariants as head
 use Rattle.comp_table.specs.Trees.{tree, more, trees_of}
 use Rattle.comp_table.specs.Plain.{leaf, around, around_two, plain_module, plain_value, plain_values, plain_cases, plain_result, plain_param, plain_func, plain_type, plain_entity, plain_entries}
