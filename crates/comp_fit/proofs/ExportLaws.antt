@@ -1,10 +1,10 @@
 -- Laws of imports and exports by number, as far as a loop has come.
-use Rattle.std.specs.Prelude.{◌≡◌, ℕ, zero, suc, ◌+◌, ◌-◌, ◌<◌, Bool, true, false, ◌&&◌, List, [], ◌∷◌, map, drop, length, slice_index_or, Option, Some, None, refl, cond}
+use Rattle.std.specs.Prelude.{◌≡◌, ℕ, zero, suc, ◌+◌, ◌<◌, Bool, true, false, ◌&&◌, List, [], ◌∷◌, map, drop, length, slice_index_or, Option, Some, None, refl, cond}
 use Rattle.std.specs.BTreeMap.{BTreeMap, get, Updates, is_at}
 use Rattle.std.specs.Cmp.Lexicographic.{slice_cmp, nat_list_eq_equiv}
 use Rattle.std.specs.Map.{lookup}
 use Rattle.std.specs.Option.{option_map_or}
-use Rattle.std.specs.Ordering.{nat_cmp, is_eq}
+use Rattle.std.specs.Ordering.{nat_cmp}
 use Rattle.std.specs.Str.{bytes_eq}
 use Rattle.std.proofs.Common.{sym, ◌∙◌, ap, subst, arith}
 use Rattle.std.proofs.lemmas.Map.Text.{is_eq-slice_cmp}
@@ -48,9 +48,6 @@ module _ (ts : List PlainTree) where
     pub shown : AreShown rest
     pub fit : all_fit same_name given asked ≡ all_fit same_name given rest
 
-  pub at_first : (ps : List ℕ) (given asked : Entries) → trees_of (map (tree_at ts) ps) ≡ plain_entries asked → AreShown asked → IsLeft ps given asked
-  at_first ps given asked e s = record { rest = asked; trees = e; shown = s; fit = refl }
-
   abbrev one_fits : Entries → List ℕ → EntityTree → Bool
   one_fits given name asked = option_map_or (λ (e : EntityTree × Bool). fits_with same_name e.0 asked) (under name given) false
 
@@ -90,10 +87,6 @@ module _ (ts : List PlainTree) where
   pub found_fits : (n : ℕ) (u : Option (EntityTree × Bool)) (item : EntityTree) (answer : Bool) → IsUnder ts (Some n) u → ((e : EntityTree) → Stands ts n (plain_entity e) → answer ≡ fits_with same_name e item) → answer ≡ option_map_or (λ (e : EntityTree × Bool). fits_with same_name e.0 item) u false
   found_fits n None item answer h f = absurd h
   found_fits n (Some e) item answer h f = f e.0 h
-
-  pub none_fits : (u : Option (EntityTree × Bool)) (item : EntityTree) → IsUnder ts None u → false ≡ option_map_or (λ (e : EntityTree × Bool). fits_with same_name e.0 item) u false
-  none_fits None item h = refl
-  none_fits (Some e) item h = absurd h
 
   pub found_is : (n : ℕ) (u : Option (EntityTree × Bool)) → IsUnder ts (Some n) u → (e : EntityTree) × Stands ts n (plain_entity e)
   found_is n None h = absurd h

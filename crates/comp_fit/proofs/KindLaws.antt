@@ -1,20 +1,19 @@
 -- Laws of which entities are instances and core modules, and of pairs whose answers are known.
-use Rattle.std.specs.Prelude.{◌≡◌, ℕ, suc, Bool, true, false, ◌&&◌, List, [], Option, Some, None, refl, cond, ◌⊎◌}
-use Rattle.std.specs.BTreeMap.{BTreeMap, get, Updates, is_at}
+use Rattle.std.specs.Prelude.{◌≡◌, ℕ, suc, Bool, true, false, ◌&&◌, List, Option, Some, refl, cond, ◌⊎◌}
+use Rattle.std.specs.BTreeMap.{BTreeMap, get, Updates}
 use Rattle.std.specs.FinMap.{nat_cmp-IsAntisymmetric}
-use Rattle.std.specs.Map.{lookup}
 use Rattle.std.specs.Ordering.{nat_cmp, ordering_then, is_eq}
 use Rattle.std.specs.declared.cmp.Ordering.{Ordering}
 use Rattle.std.specs.declared.cmp.Ordering.TheVariants.{Less, Equal, Greater}
-use Rattle.std.proofs.Common.{sym, ◌∙◌, ap, subst, arith, inl, inr}
+use Rattle.std.proofs.Common.{sym, ◌∙◌, subst, inl, inr}
 use Rattle.std.proofs.lemmas.Option.{same_Some}
 use Rattle.comp_entity.specs.declared.module.ModuleShape.{ModuleShape}
 use Rattle.comp_entity.specs.Entity.{ValueTree, Primitive, TupleOf, RecordOf, VariantOf, ListOf, FlagsOf, EnumOf, OptionOf, ResultOf, Own, Borrow, TypeShapeTree, Value, Resource, Func, Instance, Component, EntityTree, IsType, IsFunc, IsInstance, IsComponent, IsModule, IsOwnModule, Entries, no_entry, entry}
 use Rattle.comp_entity.specs.Names.{Change, type_by, entity_by, entries_by}
-use Rattle.comp_entity.specs.Fits.{entities_equal, equal, fits_with, same_name}
+use Rattle.comp_entity.specs.Fits.{equal, fits_with, same_name}
 use Rattle.comp_fit.specs.declared.pair.Pair.{Pair}
 use Rattle.comp_fit.specs.Known.{Answers, AreAnswers, pair_cmp, is_instance, is_module}
-use Rattle.comp_table.specs.Plain.{plain_value, plain_type, plain_entity}
+use Rattle.comp_table.specs.Plain.{plain_value, plain_entity}
 use Rattle.comp_table.specs.Shown.{IsShownType, IsShown, AreShown}
 use Rattle.comp_table.specs.Trees.{PlainTree, root, tree_at, Stands}
 
@@ -107,9 +106,6 @@ answer_more ts old new p answer are here updates q b e = of (got (pair_cmp p q) 
     of : ((pair_cmp p q ≡ Equal) × (Some answer ≡ Some b)) ⊎ (get pair_cmp old q ≡ Some b) → Answers ts q b
     of (inl h) = subst (λ x. Answers ts x b) (same_pair p q h.0) (subst (Answers ts p) (same_Some answer b h.1) here)
     of (inr h) = are q b h
-
-pub no_answers : (ts : List PlainTree) (known : BTreeMap Pair Bool) → known.entries ≡ [] → AreAnswers ts known
-no_answers ts known empty p answer e = absurd (let h = ap (λ es. lookup (is_at (pair_cmp p)) es) (sym empty) ∙ e in cc)
 
 -- in other names the same core modules of a component's own stand in an entity
 mutual

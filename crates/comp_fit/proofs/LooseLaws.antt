@@ -1,9 +1,8 @@
 -- Laws of numbers of what all resources are one in.
-use Rattle.std.specs.Prelude.{◌≡◌, ℕ, zero, suc, ◌<◌, List, [], ◌∷◌, map, length, slice_index_or, Option, Some, cond, refl, ◌⊎◌}
-use Rattle.std.specs.BTreeMap.{BTreeMap, get, Updates, is_at}
+use Rattle.std.specs.Prelude.{◌≡◌, ℕ, zero, suc, ◌<◌, List, [], ◌∷◌, map, length, slice_index_or, Some, refl, ◌⊎◌}
+use Rattle.std.specs.BTreeMap.{BTreeMap, get, Updates}
 use Rattle.std.specs.FinMap.{nat_cmp-IsAntisymmetric}
-use Rattle.std.specs.Map.{lookup}
-use Rattle.std.specs.Ordering.{nat_cmp, is_eq}
+use Rattle.std.specs.Ordering.{nat_cmp}
 use Rattle.std.specs.declared.cmp.Ordering.TheVariants.{Equal}
 use Rattle.std.proofs.Common.{sym, ◌∙◌, ap, subst, arith, inl, inr, length-append}
 use Rattle.std.proofs.lemmas.List.{get_or_append_left}
@@ -47,9 +46,6 @@ loosened_more ts old new m n are here updates q i e = of (got (nat_cmp m q) (Som
     of : ((nat_cmp m q ≡ Equal) × (Some n ≡ Some i)) ⊎ (get nat_cmp old q ≡ Some i) → IsLoosened ts q i
     of (inl h) = subst (λ x. IsLoosened ts x i) (nat_cmp-IsAntisymmetric m q h.0) (subst (IsLoosened ts m) (same_Some n i h.1) here)
     of (inr h) = are q i h
-
-pub none_loosened : (ts : List PlainTree) (known : BTreeMap ℕ ℕ) → known.entries ≡ [] → AreLoosened ts known
-none_loosened ts known empty m n e = absurd (let h = ap (λ es. lookup (is_at (nat_cmp m)) es) (sym empty) ∙ e in cc)
 
 parts_changed : (c : Change) (ts : List PlainTree) (d : ℕ) (ps : List ℕ) → trees_of (map (λ p. tree_by c d (tree_at ts p)) ps) ≡ trees_by c d (trees_of (map (tree_at ts) ps))
 parts_changed c ts d [] = refl

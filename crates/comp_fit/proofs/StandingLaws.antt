@@ -12,13 +12,13 @@ use Rattle.std.specs.declared.cmp.Ordering.TheVariants.{Less, Equal, Greater}
 use Rattle.std.proofs.Common.{sym, ◌∙◌, ap, subst, inl, inr}
 use Rattle.std.proofs.lemmas.Bool.{eqb-true}
 use Rattle.std.proofs.lemmas.Option.{same_Some}
-use Rattle.comp_entity.specs.Entity.{Name, ValueTree, Primitive, TupleOf, RecordOf, VariantOf, ListOf, FlagsOf, EnumOf, OptionOf, ResultOf, Own, Borrow, TypeShapeTree, Value, Resource, Func, Instance, Component, EntityTree, IsType, IsFunc, IsInstance, IsComponent, IsModule, IsOwnModule, Entries, no_entry, entry}
-use Rattle.comp_entity.specs.Fits.{Stands, ForResource, ForPlace, same_name, place_of, for_place, resource_for, stands, all_stand, under}
+use Rattle.comp_entity.specs.Entity.{Name, ValueTree, Primitive, TupleOf, RecordOf, VariantOf, ListOf, FlagsOf, EnumOf, OptionOf, ResultOf, Own, Borrow, Value, Resource, Func, Instance, Component, EntityTree, IsType, IsFunc, IsInstance, IsComponent, IsModule, IsOwnModule, Entries}
+use Rattle.comp_entity.specs.Fits.{Stands, ForResource, ForPlace, same_name, resource_for, stands, all_stand, under}
 use Rattle.comp_fit.proofs.ExportLaws.{IsNext, next, none_left}
 use Rattle.comp_fit.proofs.KindLaws.{both, same_pair}
 use Rattle.comp_fit.specs.declared.pair.Pair.{Pair}
 use Rattle.comp_fit.specs.declared.standing.Called.{Called}
-use Rattle.comp_fit.specs.Known.{IsUnder, pair_cmp, is_instance}
+use Rattle.comp_fit.specs.Known.{IsUnder, pair_cmp}
 use Rattle.comp_fit.specs.Standing.{called, called_cmp, found_for, first_of, Adds, IsCovered, AreCovered, resource_head}
 use Rattle.comp_table.specs.declared.head.Head.TheVariants as head
 use Rattle.comp_table.specs.Plain.{around, plain_value, plain_entity, plain_entries}
@@ -42,10 +42,6 @@ stands_first (ForResource asked r ∷ ss) us n = of (same_name asked n) (stands_
     of false h = h
 stands_first (ForPlace asked p ∷ ss) us n = stands_first ss us n
 
--- what nothing stands for adds nothing
-pub adds_none : (found : BTreeMap Called Name) (ss : List Stands) → ((n : Name) → resource_for ss n ≡ None) → Adds found found ss
-adds_none found ss none n = sym (ap (first_of (found_for found n)) (none n) ∙ first_none (found_for found n))
-
 -- what has been found already adds nothing
 pub adds_covered : (ts : List PlainTree) (found : BTreeMap Called Name) (p : Pair) → IsCovered ts found p → (given asked : EntityTree) → table.Stands ts p.given (plain_entity given) → table.Stands ts p.asked (plain_entity asked) → Adds found found (stands given asked)
 adds_covered ts found p covered given asked s u n = of (found_for found n) (covered given asked s u n)
@@ -58,10 +54,6 @@ adds_covered ts found p covered given asked s u n = of (found_for found n) (cove
 nothing_before : (old new other : Option Name) → new ≡ first_of old other → new ≡ None → (old ≡ None) × (other ≡ None)
 nothing_before None new other e h = (refl, sym e ∙ h)
 nothing_before (Some r) new other e h = absurd (let k = sym e ∙ h in cc)
-
-pub covered_later : (ts : List PlainTree) (old new : BTreeMap Called Name) (seen : BTreeSet Pair) (ss : List Stands) → Adds old new ss → AreCovered ts old seen → AreCovered ts new seen
-covered_later ts old new seen ss adds covered p is given asked s u n h =
-    covered p is given asked s u n (nothing_before (found_for old n) (found_for new n) (resource_for ss n) (adds n) h).0
 
 pub covered_here : (ts : List PlainTree) (old new : BTreeMap Called Name) (p : Pair) → ((given asked : EntityTree) → table.Stands ts p.given (plain_entity given) → table.Stands ts p.asked (plain_entity asked) → Adds old new (stands given asked)) → IsCovered ts new p
 covered_here ts old new p adds given asked s u n h =
@@ -126,16 +118,6 @@ called_one a n e =
     let out = sym (eqb-true a.out n.out h.0) in
     let number = sym (eqb-true a.number n.number h.1) in λ i. record { out = out i; number = number i }
 
-pub adds_again : (found : BTreeMap Called Name) (asked given r : Name) → get called_cmp found (called asked) ≡ Some r → Adds found found (ForResource asked given ∷ [])
-adds_again found asked given r e n = of (same_name asked n) (called_one asked n)
-  where
-    is_there : (o : Option Name) (x : Option Name) → o ≡ Some r → o ≡ first_of o x
-    is_there None x h = absurd cc
-    is_there (Some s) x h = refl
-    of : (b : Bool) → (b ≡ true → called n ≡ called asked) → found_for found n ≡ first_of (found_for found n) (cond b (Some given) None)
-    of true h = is_there (found_for found n) (Some given) (ap (get called_cmp found) (h refl) ∙ e)
-    of false h = sym (first_none (found_for found n))
-
 pub adds_one : (old new : BTreeMap Called Name) (asked given : Name) → get called_cmp old (called asked) ≡ None → Updates called_cmp old new (called asked) (Some given) → Adds old new (ForResource asked given ∷ [])
 adds_one old new asked given e updates n =
     updates.0 (called n) ∙ ap (λ b. cond b (Some given) (found_for old n)) (called_same asked n) ∙ of (same_name asked n) (called_one asked n)
@@ -152,9 +134,6 @@ module _ (ts : List PlainTree) where
     pub trees : trees_of (map (tree_at ts) ps) ≡ plain_entries rest
     pub adds : (n : Name) → first_of (found_for old n) (resource_for (all_stand given asked) n) ≡ first_of (found_for now n) (resource_for (all_stand given rest) n)
 
-  pub added_first : (ps : List ℕ) (given asked : Entries) (found : BTreeMap Called Name) → trees_of (map (tree_at ts) ps) ≡ plain_entries asked → IsAdded ps given asked found found
-  added_first ps given asked found e = record { rest = asked; trees = e; adds = λ n. refl }
-
   abbrev pub one_stands : Entries → List ℕ → EntityTree → List Stands
   one_stands given name asked = option_map_or (λ (e : EntityTree × Bool). stands e.0 asked) (under name given) []
 
@@ -168,11 +147,15 @@ module _ (ts : List PlainTree) where
     pub added_later : (new : BTreeMap Called Name) → ((name : List ℕ) (mark : Bool) (item : EntityTree) → tree_at ts p ≡ around (head.Entry mark name) (plain_entity item) → Adds now new (one_stands given name item)) → IsAdded ps given asked old new
     added_later new f =
         let adds = f here.name here.mark here.item here.here in
-        record { rest = here.rest; trees = here.later; adds = λ n.
-            l.adds n ∙ ap (λ es. first_of (found_for now n) (resource_for (all_stand given es) n)) here.is
-            ∙ ap (first_of (found_for now n)) (stands_first (one_stands given here.name here.item) (all_stand given here.rest) n)
-            ∙ sym (first_twice (found_for now n) (resource_for (one_stands given here.name here.item) n) (resource_for (all_stand given here.rest) n))
-            ∙ ap (λ o. first_of o (resource_for (all_stand given here.rest) n)) (sym (adds n)) }
+        record {
+          rest = here.rest;
+          trees = here.later;
+          adds = λ n.
+              l.adds n ∙ ap (λ es. first_of (found_for now n) (resource_for (all_stand given es) n)) here.is
+              ∙ ap (first_of (found_for now n)) (stands_first (one_stands given here.name here.item) (all_stand given here.rest) n)
+              ∙ sym (first_twice (found_for now n) (resource_for (one_stands given here.name here.item) n) (resource_for (all_stand given here.rest) n))
+              ∙ ap (λ o. first_of o (resource_for (all_stand given here.rest) n)) (sym (adds n));
+        }
 
   pub added_all : (given asked : Entries) (old new : BTreeMap Called Name) → IsAdded [] given asked old new → Adds old new (all_stand given asked)
   added_all given asked old new l n =
@@ -182,10 +165,6 @@ module _ (ts : List PlainTree) where
   pub found_adds : (m : ℕ) (u : Option (EntityTree × Bool)) (item : EntityTree) (old new : BTreeMap Called Name) → IsUnder ts (Some m) u → ((e : EntityTree) → table.Stands ts m (plain_entity e) → Adds old new (stands e item)) → Adds old new (option_map_or (λ (e : EntityTree × Bool). stands e.0 item) u [])
   found_adds m None item old new h f = absurd h
   found_adds m (Some e) item old new h f = f e.0 h
-
-  pub none_adds : (u : Option (EntityTree × Bool)) (item : EntityTree) (found : BTreeMap Called Name) → IsUnder ts None u → Adds found found (option_map_or (λ (e : EntityTree × Bool). stands e.0 item) u [])
-  none_adds None item found h = adds_none found [] (λ n. refl)
-  none_adds (Some e) item found h = absurd h
 
 -- nothing is found at first
 pub nothing_found : (found : BTreeMap Called Name) → found.entries ≡ [] → (n : Name) → found_for found n ≡ None

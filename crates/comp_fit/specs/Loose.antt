@@ -1,5 +1,5 @@
 -- Entities in which all resources are one.
-use Rattle.std.specs.Prelude.{ℕ, Option, None, true}
+use Rattle.std.specs.Prelude.{None, true}
 use Rattle.comp_entity.specs.Entity.{EntityTree, made}
 use Rattle.comp_entity.specs.Names.{Change, entity_by}
 use Rattle.comp_table.specs.Changes.{tree_by}

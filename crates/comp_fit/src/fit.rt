@@ -4,7 +4,8 @@ ghost use Rattle.std.specs.Prelude.{◌≡◌, ◌<◌, ◌&&◌, ℕ, Bool, tru
 ghost use Rattle.std.specs.Option.{option_map_or};
 ghost use Rattle.comp_entity.specs.Entity.{Entries, EntityTree};
 ghost use Rattle.comp_entity.specs.Fits.{all_fit, fits_loosely, fits_with, same_name, under};
-ghost use Rattle.comp_fit.specs.Known.{Answers, AreAnswers, AreNames, IsEntity, IsLooseEntity, IsLooseShownEntity, IsShownEntity};
+ghost use Rattle.comp_fit.specs.Known.{Answers, AreAnswers, AreNames, IsEntity, IsShownEntity};
+ghost use Rattle.comp_fit.specs.Known.{IsLooseEntity, IsLooseShownEntity};
 ghost use Rattle.comp_fit.specs.Known.{is_instance, is_module};
 ghost use Rattle.comp_fit.specs.Loose.{loose_tree};
 ghost use Rattle.comp_table.specs.declared.head.Head.TheVariants as Head;
@@ -166,9 +167,9 @@ fn export_fits(
 }
 
 /// Whether the entity of one number can be given where that of another one is asked for, each resource being compared
-/// by its name (`Explainer.md`, "Type Checking"). No core module of a component's own, whose type is not known, stands in
-/// the second. What is no instance and no core module is compared in no time that grows with its size, and a pair of
-/// instances once. `Memory` also where more than a thousand instances lie within each other.
+/// by its name (`Explainer.md`, "Type Checking"). No core module of a component's own, whose type is not known, stands
+/// in the second. What is no instance and no core module is compared in no time that grows with its size, and a pair
+/// of instances once. `Memory` also where more than a thousand instances lie within each other.
 pub fn fits_as_named(
     table: &TypeTable,
     alloc: Global,

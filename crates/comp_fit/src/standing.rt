@@ -1,6 +1,7 @@
 //! What stands in a given entity for the resources of one that is asked for.
 
-ghost use Rattle.std.specs.Prelude.{◌≡◌, ◌<◌, ◌&&◌, ◌∷◌, ℕ, [], List, Bool, true, length, map, unwrap_or, IfOk, IfSome, OnOk};
+ghost use Rattle.std.specs.Prelude.{◌≡◌, ◌<◌, ◌&&◌, ◌∷◌, []};
+ghost use Rattle.std.specs.Prelude.{ℕ, List, Bool, true, length, map, unwrap_or, IfOk, IfSome, OnOk};
 ghost use Rattle.std.specs.Option.{option_map_or};
 ghost use Rattle.comp_entity.specs.Entity.{Entries, EntityTree, Name};
 ghost use Rattle.comp_entity.specs.Fits.{ForResource, all_stand, resource_for, stands, under};
@@ -149,7 +150,15 @@ fn note_instance(
     }
     let levels = inner(levels)?;
     let names = names_of(table, alloc, table.parts(pair.given))?;
-    note_exports(table, found, seen, alloc, levels, &names, table.parts(pair.asked))?;
+    note_exports(
+        table,
+        found,
+        seen,
+        alloc,
+        levels,
+        &names,
+        table.parts(pair.asked),
+    )?;
     seen.insert(pair)?;
     Ok(())
 }

@@ -3,9 +3,8 @@ use Rattle.std.proofs.lemmas.Result.{IfOk-weaker}
 use Rattle.std.specs.BTreeMap.{get}
 use Rattle.std.specs.Cmp.Lexicographic.{slice_cmp}
 use Rattle.std.specs.Ordering.{nat_cmp}
-use Rattle.comp_entity.specs.Entity.{EntityTree, IsInstance}
-use Rattle.comp_entity.specs.Fits.{all_fit, fits_with, same_name, under}
-use Rattle.comp_fit.specs.Known.{Answers, IsUnder, pair_cmp, is_instance, is_module}
+use Rattle.comp_entity.specs.Fits.{fits_with, same_name, under}
+use Rattle.comp_fit.specs.Known.{IsUnder, pair_cmp, is_instance, is_module}
 use Rattle.comp_table.specs.Plain.{plain_entity, plain_module}
 use Rattle.comp_table.specs.Shown.{IsShown}
 use Rattle.comp_table.specs.StandLaws.{same_stands}
@@ -59,9 +58,9 @@ pub export_fits-returns-in-Some-clause-fits : goal.export_fits-returns-in-Some-c
 export_fits-returns-in-Some-clause-fits t c =
     let found : get (slice_cmp nat_cmp) c.args.names.now c.entry_at-asked.result.0.now ≡ Some c.in-Some.found.now = search rules in
     IfOk-weaker c.entity_fits.result _ _ (λ answer fits given name mark asked names is shown.
-        let item = c.entry_at-asked.ensures name mark (plain_entity asked) is in
-        let here = subst (λ o. IsUnder c.args.table.now o (under name given)) (ap (get (slice_cmp nat_cmp) c.args.names.now) (sym item.0) ∙ found) (names name) in
-        found_fits c.args.table.now c.in-Some.found.now (under name given) asked answer here (λ x s. fits x asked s item.1 shown)) c.entity_fits.ensures.fits
+    let item = c.entry_at-asked.ensures name mark (plain_entity asked) is in
+    let here = subst (λ o. IsUnder c.args.table.now o (under name given)) (ap (get (slice_cmp nat_cmp) c.args.names.now) (sym item.0) ∙ found) (names name) in
+    found_fits c.args.table.now c.in-Some.found.now (under name given) asked answer here (λ x s. fits x asked s item.1 shown)) c.entity_fits.ensures.fits
 
 pub exports_fit-export_fits-requires : goal.exports_fit-export_fits-requires
 exports_fit-export_fits-requires t c =
@@ -133,6 +132,6 @@ exports_fit-returns-then-not-fits-clause-fits t c =
     let lt : c.loop-part.part-index < length c.args.parts.now = search rules in
     let is : c.in_ok-fits.fits ≡ false = search rules in
     λ given asked names trees shown.
-        let left = subst (λ ps. IsLeft c.args.table.now ps given asked) (dropped c.args.parts.now c.loop-part.part-index 0 lt) (c.loop-part.invariant.left given asked names trees shown) in
-        fits_not c.args.table.now (slice_index_or c.args.parts.now c.loop-part.part-index 0) (drop (c.loop-part.part-index + 1) c.args.parts.now) given asked left
-        (λ name mark item here s. sym is ∙ c.in_ok-fits.ensures.fits given name mark item names here s)
+    let left = subst (λ ps. IsLeft c.args.table.now ps given asked) (dropped c.args.parts.now c.loop-part.part-index 0 lt) (c.loop-part.invariant.left given asked names trees shown) in
+    fits_not c.args.table.now (slice_index_or c.args.parts.now c.loop-part.part-index 0) (drop (c.loop-part.part-index + 1) c.args.parts.now) given asked left
+    (λ name mark item here s. sym is ∙ c.in_ok-fits.ensures.fits given name mark item names here s)

@@ -1,4 +1,4 @@
-use Rattle.std.proofs.Common.{rules, ap, sym, ◌∙◌, ◌≡◌, ◌<◌, ◌+◌, ◌&&◌, subst, length, Some, None, true, false, drop, slice_index_or}
+use Rattle.std.proofs.Common.{rules, ap, sym, ◌∙◌, ◌≡◌, ◌<◌, ◌+◌, subst, length, Some, true, drop, slice_index_or}
 use Rattle.std.specs.BTreeMap.{get}
 use Rattle.std.specs.BTreeSet.{contains}
 use Rattle.std.specs.Cmp.Lexicographic.{slice_cmp}
@@ -33,9 +33,9 @@ pub note_export-returns-clause-adds : goal.note_export-returns-clause-adds
 note_export-returns-clause-adds t c =
     let found : get (slice_cmp nat_cmp) c.args.names.now c.entry_at-asked.result.0.now ≡ Some c.in-Some.given.now = search rules in
     λ given name mark asked names is.
-        let item = c.entry_at-asked.ensures name mark (plain_entity asked) is in
-        let here = subst (λ o. IsUnder c.args.table.now o (under name given)) (ap (get (slice_cmp nat_cmp) c.args.names.now) (sym item.0) ∙ found) (names name) in
-        found_adds c.args.table.now c.in-Some.given.now (under name given) asked c.args.found.now c.note_entity.new.found here (λ e s. c.in_ok-note_entity.ensures.adds e asked s item.1)
+    let item = c.entry_at-asked.ensures name mark (plain_entity asked) is in
+    let here = subst (λ o. IsUnder c.args.table.now o (under name given)) (ap (get (slice_cmp nat_cmp) c.args.names.now) (sym item.0) ∙ found) (names name) in
+    found_adds c.args.table.now c.in-Some.given.now (under name given) asked c.args.found.now c.note_entity.new.found here (λ e s. c.in_ok-note_entity.ensures.adds e asked s item.1)
 
 pub note_exports-note_export-requires : goal.note_exports-note_export-requires
 note_exports-note_export-requires t c =
@@ -60,7 +60,7 @@ pub note_exports-returns-clause-adds : goal.note_exports-returns-clause-adds
 note_exports-returns-clause-adds t c =
     let end : c.loop-part.part-index ≡ length c.args.parts.now = search rules in
     λ given asked names trees. added_all c.args.table.now given asked c.args.found.now c.loop-part.found
-        (subst (λ ps. IsAdded c.args.table.now ps given asked c.args.found.now c.loop-part.found) (nothing_left c.args.parts.now c.loop-part.part-index end) (c.loop-part.invariant.added given asked names trees))
+    (subst (λ ps. IsAdded c.args.table.now ps given asked c.args.found.now c.loop-part.found) (nothing_left c.args.parts.now c.loop-part.part-index end) (c.loop-part.invariant.added given asked names trees))
 
 pub note_instance-returns-then-contains-clause-adds : goal.note_instance-returns-then-contains-clause-adds
 note_instance-returns-then-contains-clause-adds t c =
