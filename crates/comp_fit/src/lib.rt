@@ -1,0 +1,16 @@
+//! Which entities of WebAssembly components can be given where others are asked for, over the numbers of a table.
+//!
+//! The terms are those of the Component Model's `Explainer.md`.
+#![tactic(auto)]
+
+mod exact;
+mod fit;
+mod loosen;
+mod modules;
+mod names;
+mod pair;
+mod standing;
+
+pub use exact::fits;
+pub use fit::{fits_as_named, fits_loosely};
+pub use loosen::loosened;

@@ -1,0 +1,5 @@
+pub mod Fields
+pub mod KindLaws
+pub mod Kinds
+pub mod MemoryLaws
+pub mod RowLaws
