@@ -1,0 +1,17 @@
+//! What a client keeps of registries: checkpoints, logs, contents and the registries of namespaces, in stores that tell
+//! what they hold.
+#![tactic(auto)]
+
+mod after;
+mod error;
+mod memory_registry;
+mod registry;
+mod schedule;
+mod slots;
+mod sound;
+mod stored;
+
+pub use after::After;
+pub use error::{EntryKind, StoreError};
+pub use memory_registry::MemoryRegistry;
+pub use registry::RegistryStorage;

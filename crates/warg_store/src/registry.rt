@@ -1,0 +1,52 @@
+//! What a client keeps of registries, as stores give and take it.
+
+ghost use Rattle.std.specs.Prelude.{◌≡◌, ◌≤◌, ℕ, Option, IfOk, IfErr, IfSome, OnOk, OnErr, option_copied, option_map};
+ghost use Rattle.warg_info.specs.Info.{IsSoundOperator, IsSoundPackage};
+ghost use Rattle.warg_store.specs.Entry.{Whole, entry_of, IsLoadFault, IsStoreFault};
+ghost use Rattle.warg_store.specs.Held.{Held, Tells, LeavesStore, operator_info, package_info, with_checkpoint, with_operator, with_package};
+
+use crate::error::{EntryKind, StoreError};
+use std::alloc::Global;
+use warg_exchange::SignedCheckpoint;
+use warg_hash::PackageName;
+use warg_info::{OperatorInfo, PackageInfo};
+use warg_url::RegistryDomain;
+
+/// Keeps checkpoints and logs of registries. The home registry is the one without a name.
+///
+/// An implementation in memory tells which entries there are, and each has a count of faults, by which a caller knows that
+/// the outside failed.
+pub trait RegistryStorage: Drop {
+    /// How many calls failed so far.
+    ghost faults: { Self → ℕ };
+
+    /// What is held, where the object tells it.
+    ghost told: { Self → Option Held };
+
+    /// The checkpoint that is kept of a registry.
+    fn load_checkpoint(
+        &mut self,
+        alloc: Global,
+        registry: Option<&RegistryDomain>,
+    ) -> Result<Option<SignedCheckpoint>, StoreError>
+        ensures never_falls { faults self.old ≤ faults self.new }
+        ensures kept { IfSome (told self.old) (Tells (told self.new)) }
+        ensures found { IfOk result (λ o. IfSome (told self.old) (λ held.
+            held.checkpoints (option_copied registry.entry) ≡ entry_of o)) }
+        ensures fault { IfErr result (λ e. IsLoadFault e EntryKind.Checkpoint (faults self.old) (faults self.new)
+            (option_map (λ held. held.checkpoints (option_copied registry.entry)) (told self.old))) };
+
+    /// Keeps a checkpoint of a registry. A refusal leaves the old one, the new one, or what can't be read.
+    fn store_checkpoint(
+        &mut self,
+        alloc: Global,
+        registry: Option<&RegistryDomain>,
+        checkpoint: &SignedCheckpoint,
+    ) -> Result<(), StoreError>
+        ensures never_falls { faults self.old ≤ faults self.new }
+        ensures stored { OnOk result (IfSome (told self.old) (λ held.
+            Tells (told self.new) (with_checkpoint held (option_copied registry.entry) (Whole checkpoint.now)))) }
+        ensures refused { OnErr result (IfSome (told self.old) (λ held.
+            LeavesStore (told self.new) held (with_checkpoint held (option_copied registry.entry)) checkpoint.now)) }
+        ensures fault { IfErr result (λ e. IsStoreFault e (faults self.old) (faults self.new)) };
+}
