@@ -7,7 +7,7 @@ use Rattle.warg_store.specs.Faults.{has_store_failed}
 use Rattle.warg_store.specs.declared.after.After.{After}
 use Rattle.warg_store.specs.declared.after.After.TheVariants as after
 use Rattle.warg_store.specs.Entry.{Entry, SameEntries, entry_of}
-use Rattle.warg_store.specs.Held.{Held, Registry, is_registry, with_checkpoint}
+use Rattle.warg_store.specs.Held.{Held, Info, Registry, Package, is_registry, is_package, with_checkpoint, with_operator, with_package}
 use Rattle.warg_store.specs.Memory.{IsAfterStore}
 use Rattle.warg_store.specs.Slots.{AreAfterStore}
 
@@ -31,3 +31,17 @@ is_no_failure r h failed = true≢false (sym (ap (λ r. has_store_failed r) fail
 -- a call that was not planned to fail
 pub is_not_planned : {X : Type 0} (o : Option X) (b : Bool) → b ≡ false → b ≡ is_some o → IsSome o → ⊥
 is_not_planned o b fine is some = true≢false (sym some ∙ (sym is ∙ fine))
+
+-- the logs of operators alone changed
+pub after_operator : (failing : Option After) (held now : Held) (k : Registry) (info : Info) → SameEntries now.checkpoints held.checkpoints → SameEntries now.packages held.packages → AreAfterStore is_registry failing held.operators k info now.operators → IsAfterStore failing held (with_operator held k) info now
+after_operator None held now k info c p put = record { checkpoints = c; operators = put; packages = p }
+after_operator (Some after.Old) held now k info c p put = record { checkpoints = c; operators = put; packages = p }
+after_operator (Some after.New) held now k info c p put = record { checkpoints = c; operators = put; packages = p }
+after_operator (Some after.Unreadable) held now k info c p put = record { checkpoints = c; operators = put; packages = p }
+
+-- the logs of packages alone changed
+pub after_package : (failing : Option After) (held now : Held) (k : Package) (info : Info) → SameEntries now.checkpoints held.checkpoints → SameEntries now.operators held.operators → AreAfterStore is_package failing held.packages k info now.packages → IsAfterStore failing held (with_package held k) info now
+after_package None held now k info c o put = record { checkpoints = c; operators = o; packages = put }
+after_package (Some after.Old) held now k info c o put = record { checkpoints = c; operators = o; packages = put }
+after_package (Some after.New) held now k info c o put = record { checkpoints = c; operators = o; packages = put }
+after_package (Some after.Unreadable) held now k info c o put = record { checkpoints = c; operators = o; packages = put }

@@ -1,9 +1,11 @@
 //! What a client keeps of registries, in memory.
 
-ghost use Rattle.std.specs.Prelude.{◌≡◌, ◌≤◌, ◌++◌, ◌∷◌, ◌↔◌, [], Some, None, IfOk, IfErr, IfSome, IsSomeAnd, IsSome, IsErrOf, OnOk, OnErr, option_copied, option_map};
+ghost use Rattle.std.specs.Prelude.{◌≡◌, ◌≤◌, ◌++◌, ◌∷◌, ◌↔◌, [], ℕ, false, Some, None, IfOk, IfErr, IfSome, IsSomeAnd, IsSome, IsErrOf, OnOk, OnErr, option_copied, option_map};
+ghost use Rattle.warg_info.specs.Info.{IsSoundOperator, IsSoundPackage};
 ghost use Rattle.warg_store.specs.Entry.{Whole, entry_of, IsLoadFault, IsStoreFault};
 ghost use Rattle.warg_store.specs.Faults.{planned, after_call, has_store_failed};
-ghost use Rattle.warg_store.specs.Held.{Tells, SameHeld, nothing, LeavesStore, with_checkpoint};
+ghost use Rattle.warg_store.specs.Held.{Tells, SameHeld, nothing, LeavesStore, is_package, operator_info, package_info, with_checkpoint, with_operator, with_package};
+ghost use Rattle.warg_store.specs.Slots.{entries_in};
 ghost use Rattle.warg_store.specs.Memory.{held_in, schedule_in, IsAfterStore};
 
 use crate::after::After;
@@ -39,6 +41,39 @@ fn key_of(
         Some(name) => Ok(Some(name.try_clone(alloc)?)),
         None => Ok(None),
     }
+}
+
+/// A registry's name and a package's as a key.
+fn package_key(
+    alloc: Global,
+    registry: Option<&RegistryDomain>,
+    name: &PackageName,
+) -> Result<(Option<RegistryDomain>, PackageName), Memory>
+    ensures { IfOk result (λ key. key ≡ (option_copied registry.entry, name.now)) }
+{
+    Ok((key_of(alloc, registry)?, name.try_clone(alloc)?))
+}
+
+/// A copy of the log of a package, under its name.
+fn load_named(
+    alloc: Global,
+    packages: &SlotMap<(Option<RegistryDomain>, PackageName), PackageInfo>,
+    key: &(Option<RegistryDomain>, PackageName),
+    name: &PackageName,
+) -> Result<Option<PackageInfo>, StoreError>
+    ensures found { IfOk result (λ o. entries_in is_package package_info packages.now key.now
+        ≡ entry_of (option_map package_info o)) }
+    ensures sound { IfOk result (λ o. IfSome o IsSoundPackage) }
+    ensures name { IfOk result (λ o. IfSome o (λ info. info.name ≡ name.now)) }
+    ensures fault { (before after : ℕ) → IfErr result (λ e. IsLoadFault e EntryKind.Package before after
+        (Some (entries_in is_package package_info packages.now key.now))) }
+    ensures no_failure { has_store_failed result ≡ false }
+{
+    let Some(info) = packages.load(alloc, EntryKind::Package, key)? else {
+        return Ok(None);
+    };
+    let name = name.try_clone(alloc)?;
+    Ok(Some(PackageInfo { name, ..info }))
 }
 
 impl MemoryRegistry {
@@ -81,6 +116,44 @@ impl MemoryRegistry {
         let key = key_of(alloc, registry)?;
         let checkpoint = Sound::copy_of(alloc, checkpoint)?;
         self.checkpoints.put(key, checkpoint, failing)
+    }
+
+    /// Keeps the log of a registry's operator, or leaves what a call that is to fail leaves. A refusal changes nothing.
+    fn put_operator(
+        &mut self,
+        alloc: Global,
+        registry: Option<&RegistryDomain>,
+        info: &OperatorInfo,
+        failing: Option<After>,
+    ) -> Result<(), Memory>
+        requires { IsSoundOperator info.now }
+        ensures put { OnOk result (IsAfterStore failing (held_in self.old)
+            (with_operator (held_in self.old) (option_copied registry.entry)) (operator_info info.now) (held_in self.new)) }
+        ensures unchanged { OnErr result (SameHeld (held_in self.new) (held_in self.old)) }
+        ensures schedule { schedule_in self.new ≡ schedule_in self.old }
+    {
+        let key = key_of(alloc, registry)?;
+        let info = Sound::copy_of(alloc, info)?;
+        self.operators.put(key, info, failing)
+    }
+
+    /// Keeps the log of a package, or leaves what a call that is to fail leaves. A refusal changes nothing.
+    fn put_package(
+        &mut self,
+        alloc: Global,
+        registry: Option<&RegistryDomain>,
+        info: &PackageInfo,
+        failing: Option<After>,
+    ) -> Result<(), Memory>
+        requires { IsSoundPackage info.now }
+        ensures put { OnOk result (IsAfterStore failing (held_in self.old)
+            (with_package (held_in self.old) (option_copied registry.entry, info.now.name)) (package_info info.now) (held_in self.new)) }
+        ensures unchanged { OnErr result (SameHeld (held_in self.new) (held_in self.old)) }
+        ensures schedule { schedule_in self.new ≡ schedule_in self.old }
+    {
+        let key = package_key(alloc, registry, &info.name)?;
+        let info = Sound::copy_of(alloc, info)?;
+        self.packages.put(key, info, failing)
     }
 }
 
@@ -130,6 +203,105 @@ impl RegistryStorage for MemoryRegistry {
     {
         let failing = self.schedule.planned();
         let done = self.put_checkpoint(alloc, registry, checkpoint, failing);
+        self.schedule.finish(failing, done)
+    }
+
+    fn load_operator(
+        &mut self,
+        alloc: Global,
+        registry: Option<&RegistryDomain>,
+    ) -> Result<Option<OperatorInfo>, StoreError>
+        ensures never_falls { (schedule_in self.old).faults ≤ (schedule_in self.new).faults }
+        ensures kept { Tells (Some (held_in self.new)) (held_in self.old) }
+        ensures found { IfOk result (λ o.
+            (held_in self.old).operators (option_copied registry.entry) ≡ entry_of (option_map operator_info o)) }
+        ensures sound { IfOk result (λ o. IfSome o IsSoundOperator) }
+        ensures fault { IfErr result (λ e. IsLoadFault e EntryKind.Operator (schedule_in self.old).faults
+            (schedule_in self.new).faults (Some ((held_in self.old).operators (option_copied registry.entry)))) }
+        ensures failed { IsErrOf result StoreError.Failed ↔ IsSome (planned (schedule_in self.old)) }
+        ensures scheduled { schedule_in self.new ≡ after_call (schedule_in self.old) (has_store_failed result) }
+    {
+        if self.schedule.fails_now() {
+            return Err(StoreError::Failed);
+        }
+        let key = key_of(alloc, registry)?;
+        self.operators.load(alloc, EntryKind::Operator, &key)
+    }
+
+    fn store_operator(
+        &mut self,
+        alloc: Global,
+        registry: Option<&RegistryDomain>,
+        info: &OperatorInfo,
+    ) -> Result<(), StoreError>
+        requires { IsSoundOperator info.now }
+        ensures never_falls { (schedule_in self.old).faults ≤ (schedule_in self.new).faults }
+        ensures stored { OnOk result (Tells (Some (held_in self.new))
+            (with_operator (held_in self.old) (option_copied registry.entry) (Whole (operator_info info.now)))) }
+        ensures refused { OnErr result (LeavesStore (Some (held_in self.new)) (held_in self.old)
+            (with_operator (held_in self.old) (option_copied registry.entry)) (operator_info info.now)) }
+        ensures fault { IfErr result (λ e. IsStoreFault e (schedule_in self.old).faults (schedule_in self.new).faults) }
+        ensures left { IsErrOf result StoreError.Failed → IsSomeAnd (planned (schedule_in self.old)) (λ after.
+            IsAfterStore (Some after) (held_in self.old)
+            (with_operator (held_in self.old) (option_copied registry.entry)) (operator_info info.now)
+            (held_in self.new)) }
+        ensures unchanged { IsErrOf result StoreError.Memory → SameHeld (held_in self.new) (held_in self.old) }
+        ensures unplanned { OnOk result (planned (schedule_in self.old) ≡ None) }
+        ensures scheduled { schedule_in self.new ≡ after_call (schedule_in self.old) (has_store_failed result) }
+    {
+        let failing = self.schedule.planned();
+        let done = self.put_operator(alloc, registry, info, failing);
+        self.schedule.finish(failing, done)
+    }
+
+    fn load_package(
+        &mut self,
+        alloc: Global,
+        registry: Option<&RegistryDomain>,
+        name: &PackageName,
+    ) -> Result<Option<PackageInfo>, StoreError>
+        ensures never_falls { (schedule_in self.old).faults ≤ (schedule_in self.new).faults }
+        ensures kept { Tells (Some (held_in self.new)) (held_in self.old) }
+        ensures found { IfOk result (λ o. (held_in self.old).packages (option_copied registry.entry, name.now)
+            ≡ entry_of (option_map package_info o)) }
+        ensures sound { IfOk result (λ o. IfSome o IsSoundPackage) }
+        ensures name { IfOk result (λ o. IfSome o (λ info. info.name ≡ name.now)) }
+        ensures fault { IfErr result (λ e. IsLoadFault e EntryKind.Package (schedule_in self.old).faults
+            (schedule_in self.new).faults
+            (Some ((held_in self.old).packages (option_copied registry.entry, name.now)))) }
+        ensures failed { IsErrOf result StoreError.Failed ↔ IsSome (planned (schedule_in self.old)) }
+        ensures scheduled { schedule_in self.new ≡ after_call (schedule_in self.old) (has_store_failed result) }
+    {
+        if self.schedule.fails_now() {
+            return Err(StoreError::Failed);
+        }
+        let key = package_key(alloc, registry, name)?;
+        load_named(alloc, &self.packages, &key, name)
+    }
+
+    fn store_package(
+        &mut self,
+        alloc: Global,
+        registry: Option<&RegistryDomain>,
+        info: &PackageInfo,
+    ) -> Result<(), StoreError>
+        requires { IsSoundPackage info.now }
+        ensures never_falls { (schedule_in self.old).faults ≤ (schedule_in self.new).faults }
+        ensures stored { OnOk result (Tells (Some (held_in self.new)) (with_package (held_in self.old)
+            (option_copied registry.entry, info.now.name) (Whole (package_info info.now)))) }
+        ensures refused { OnErr result (LeavesStore (Some (held_in self.new)) (held_in self.old)
+            (with_package (held_in self.old) (option_copied registry.entry, info.now.name)) (package_info info.now)) }
+        ensures fault { IfErr result (λ e. IsStoreFault e (schedule_in self.old).faults (schedule_in self.new).faults) }
+        ensures left { IsErrOf result StoreError.Failed → IsSomeAnd (planned (schedule_in self.old)) (λ after.
+            IsAfterStore (Some after) (held_in self.old)
+            (with_package (held_in self.old) (option_copied registry.entry, info.now.name)) (package_info info.now)
+            (held_in self.new)) }
+        ensures unchanged { IsErrOf result StoreError.Memory → SameHeld (held_in self.new) (held_in self.old) }
+        ensures unplanned { OnOk result (planned (schedule_in self.old) ≡ None) }
+        ensures scheduled { schedule_in self.new ≡ after_call (schedule_in self.old) (has_store_failed result) }
+    {
+        let failing = self.schedule.planned();
+        let done = self.put_package(alloc, registry, info, failing);
         self.schedule.finish(failing, done)
     }
 }

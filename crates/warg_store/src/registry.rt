@@ -49,4 +49,64 @@ pub trait RegistryStorage: Drop {
         ensures refused { OnErr result (IfSome (told self.old) (λ held.
             LeavesStore (told self.new) held (with_checkpoint held (option_copied registry.entry)) checkpoint.now)) }
         ensures fault { IfErr result (λ e. IsStoreFault e (faults self.old) (faults self.new)) };
+
+    /// What is kept of the log of a registry's operator. It is sound.
+    fn load_operator(
+        &mut self,
+        alloc: Global,
+        registry: Option<&RegistryDomain>,
+    ) -> Result<Option<OperatorInfo>, StoreError>
+        ensures never_falls { faults self.old ≤ faults self.new }
+        ensures kept { IfSome (told self.old) (Tells (told self.new)) }
+        ensures found { IfOk result (λ o. IfSome (told self.old) (λ held.
+            held.operators (option_copied registry.entry) ≡ entry_of (option_map operator_info o))) }
+        ensures sound { IfOk result (λ o. IfSome o IsSoundOperator) }
+        ensures fault { IfErr result (λ e. IsLoadFault e EntryKind.Operator (faults self.old) (faults self.new)
+            (option_map (λ held. held.operators (option_copied registry.entry)) (told self.old))) };
+
+    /// Keeps the log of a registry's operator. A refusal leaves the old one, the new one, or what can't be read.
+    fn store_operator(
+        &mut self,
+        alloc: Global,
+        registry: Option<&RegistryDomain>,
+        info: &OperatorInfo,
+    ) -> Result<(), StoreError>
+        requires { IsSoundOperator info.now }
+        ensures never_falls { faults self.old ≤ faults self.new }
+        ensures stored { OnOk result (IfSome (told self.old) (λ held. Tells (told self.new)
+            (with_operator held (option_copied registry.entry) (Whole (operator_info info.now))))) }
+        ensures refused { OnErr result (IfSome (told self.old) (λ held. LeavesStore (told self.new) held
+            (with_operator held (option_copied registry.entry)) (operator_info info.now))) }
+        ensures fault { IfErr result (λ e. IsStoreFault e (faults self.old) (faults self.new)) };
+
+    /// What is kept of the log of a package in a registry. It is sound, and has the package's name.
+    fn load_package(
+        &mut self,
+        alloc: Global,
+        registry: Option<&RegistryDomain>,
+        name: &PackageName,
+    ) -> Result<Option<PackageInfo>, StoreError>
+        ensures never_falls { faults self.old ≤ faults self.new }
+        ensures kept { IfSome (told self.old) (Tells (told self.new)) }
+        ensures found { IfOk result (λ o. IfSome (told self.old) (λ held.
+            held.packages (option_copied registry.entry, name.now) ≡ entry_of (option_map package_info o))) }
+        ensures sound { IfOk result (λ o. IfSome o IsSoundPackage) }
+        ensures name { IfOk result (λ o. IfSome o (λ info. info.name ≡ name.now)) }
+        ensures fault { IfErr result (λ e. IsLoadFault e EntryKind.Package (faults self.old) (faults self.new)
+            (option_map (λ held. held.packages (option_copied registry.entry, name.now)) (told self.old))) };
+
+    /// Keeps the log of a package in a registry. A refusal leaves the old one, the new one, or what can't be read.
+    fn store_package(
+        &mut self,
+        alloc: Global,
+        registry: Option<&RegistryDomain>,
+        info: &PackageInfo,
+    ) -> Result<(), StoreError>
+        requires { IsSoundPackage info.now }
+        ensures never_falls { faults self.old ≤ faults self.new }
+        ensures stored { OnOk result (IfSome (told self.old) (λ held. Tells (told self.new)
+            (with_package held (option_copied registry.entry, info.now.name) (Whole (package_info info.now))))) }
+        ensures refused { OnErr result (IfSome (told self.old) (λ held. LeavesStore (told self.new) held
+            (with_package held (option_copied registry.entry, info.now.name)) (package_info info.now))) }
+        ensures fault { IfErr result (λ e. IsStoreFault e (faults self.old) (faults self.new)) };
 }
