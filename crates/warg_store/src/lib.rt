@@ -3,7 +3,9 @@
 #![tactic(auto)]
 
 mod after;
+mod content;
 mod error;
+mod memory_content;
 mod memory_registry;
 mod registry;
 mod schedule;
@@ -12,6 +14,8 @@ mod sound;
 mod stored;
 
 pub use after::After;
+pub use content::ContentStorage;
 pub use error::{EntryKind, StoreError};
+pub use memory_content::MemoryContent;
 pub use memory_registry::MemoryRegistry;
 pub use registry::RegistryStorage;
