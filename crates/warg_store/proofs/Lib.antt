@@ -1,2 +1,3 @@
 mod ContentLaws
 mod HeldLaws
+mod ResetLaws

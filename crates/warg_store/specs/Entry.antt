@@ -16,12 +16,6 @@ abbrev pub entry_of : {X : Type 0} → Option X → Entry X
 entry_of None = Absent
 entry_of (Some x) = Whole x
 
--- what a refused reset leaves of an entry: the entry as it was, nothing, or what can't be read
-abbrev pub IsPartlyGone : {X : Type 0} → Entry X → Entry X → Type 0
-IsPartlyGone Absent left = left ≡ Absent
-IsPartlyGone (Whole x) left = (left ≡ Whole x) ⊎ (left ≡ Absent) ⊎ (left ≡ Unreadable)
-IsPartlyGone Unreadable left = (left ≡ Absent) ⊎ (left ≡ Unreadable)
-
 -- ---- entries by their keys
 
 module _ {K X : Type 0} where
@@ -37,9 +31,9 @@ module _ {K X : Type 0} where
   abbrev pub without_entries : (K → Bool) → (K → Entry X) → K → Entry X
   without_entries gone entries k = if gone k then Absent else entries k
 
-  -- each entry of some keys is partly gone, and each other entry is the same
+  -- each entry of some keys is the same or gone, and each other entry is the same
   abbrev pub ArePartlyGone : (K → Bool) → (K → Entry X) → (K → Entry X) → Type 0
-  ArePartlyGone gone held now = (k : K) → (now k ≡ held k) ⊎ ((gone k ≡ true) × IsPartlyGone (held k) (now k))
+  ArePartlyGone gone held now = (k : K) → (now k ≡ held k) ⊎ ((gone k ≡ true) × (now k ≡ Absent))
 
 -- ---- refusals
 

@@ -8,6 +8,7 @@ mod error;
 mod memory_content;
 mod memory_registry;
 mod registry;
+mod resets;
 mod schedule;
 mod slots;
 mod sound;

@@ -4,14 +4,15 @@ ghost use Rattle.std.specs.Prelude.{◌≡◌, ◌≤◌, ◌++◌, ◌∷◌, �
 ghost use Rattle.warg_info.specs.Info.{IsSoundOperator, IsSoundPackage};
 ghost use Rattle.warg_store.specs.Entry.{Whole, entry_of, IsLoadFault, IsStoreFault};
 ghost use Rattle.warg_store.specs.Faults.{planned, after_call, has_store_failed};
-ghost use Rattle.warg_store.specs.Held.{Tells, SameHeld, nothing, LeavesStore, is_package, operator_info, package_info, with_checkpoint, with_operator, with_package};
+ghost use Rattle.warg_store.specs.Held.{Tells, SameHeld, nothing, LeavesStore, LeavesReset, after_reset, is_package, operator_info, package_info, with_checkpoint, with_operator, with_package};
 ghost use Rattle.warg_store.specs.Slots.{entries_in};
-ghost use Rattle.warg_store.specs.Memory.{held_in, schedule_in, IsAfterStore};
+ghost use Rattle.warg_store.specs.Memory.{held_in, schedule_in, IsAfterStore, IsAfterReset};
 
 use crate::after::After;
 use crate::error::{EntryKind, StoreError};
 use crate::registry::RegistryStorage;
 use crate::schedule::StoreSchedule;
+use crate::resets::{reset_packages, reset_registries};
 use crate::slots::SlotMap;
 use crate::sound::Sound;
 use std::alloc::Global;
@@ -100,6 +101,21 @@ impl MemoryRegistry {
         self.schedule.fail_at(call, after)
     }
 
+    /// Takes entries away, or leaves what a call that is to fail leaves.
+    fn take_away(&mut self, all_registries: bool, failing: Option<After>)
+        ensures reset { IsAfterReset failing all_registries (held_in self.old) (held_in self.new) }
+        ensures schedule { schedule_in self.new ≡ schedule_in self.old }
+    {
+        match failing {
+            None | Some(After::New) => {
+                reset_registries(&mut self.checkpoints, all_registries);
+                reset_registries(&mut self.operators, all_registries);
+                reset_packages(&mut self.packages, all_registries);
+            }
+            Some(After::Old | After::Unreadable) => {}
+        }
+    }
+
     /// Keeps a checkpoint, or leaves what a call that is to fail leaves. A refusal changes nothing.
     fn put_checkpoint(
         &mut self,
@@ -161,6 +177,21 @@ impl RegistryStorage for MemoryRegistry {
     ghost faults = { λ m. (schedule_in m).faults };
 
     ghost told = { λ m. Some (held_in m) };
+
+    fn reset(&mut self, _alloc: Global, all_registries: bool) -> Result<(), StoreError>
+        ensures never_falls { (schedule_in self.old).faults ≤ (schedule_in self.new).faults }
+        ensures reset { OnOk result (Tells (Some (held_in self.new)) (after_reset all_registries (held_in self.old))) }
+        ensures refused { OnErr result (LeavesReset (Some (held_in self.new)) all_registries (held_in self.old)) }
+        ensures fault { IfErr result (λ e. IsStoreFault e (schedule_in self.old).faults (schedule_in self.new).faults) }
+        ensures left { IsErrOf result StoreError.Failed → IsSomeAnd (planned (schedule_in self.old)) (λ after.
+            IsAfterReset (Some after) all_registries (held_in self.old) (held_in self.new)) }
+        ensures failed { IsErrOf result StoreError.Failed ↔ IsSome (planned (schedule_in self.old)) }
+        ensures scheduled { schedule_in self.new ≡ after_call (schedule_in self.old) (has_store_failed result) }
+    {
+        let failing = self.schedule.planned();
+        self.take_away(all_registries, failing);
+        self.schedule.finish(failing, Ok(()))
+    }
 
     fn load_checkpoint(
         &mut self,

@@ -3,7 +3,7 @@
 ghost use Rattle.std.specs.Prelude.{◌≡◌, ◌≤◌, ℕ, Option, IfOk, IfErr, IfSome, OnOk, OnErr, option_copied, option_map};
 ghost use Rattle.warg_info.specs.Info.{IsSoundOperator, IsSoundPackage};
 ghost use Rattle.warg_store.specs.Entry.{Whole, entry_of, IsLoadFault, IsStoreFault};
-ghost use Rattle.warg_store.specs.Held.{Held, Tells, LeavesStore, operator_info, package_info, with_checkpoint, with_operator, with_package};
+ghost use Rattle.warg_store.specs.Held.{Held, Tells, LeavesStore, LeavesReset, after_reset, operator_info, package_info, with_checkpoint, with_operator, with_package};
 
 use crate::error::{EntryKind, StoreError};
 use std::alloc::Global;
@@ -22,6 +22,15 @@ pub trait RegistryStorage: Drop {
 
     /// What is held, where the object tells it.
     ghost told: { Self → Option Held };
+
+    /// Takes away what is kept of the home registry, or of all registries. A refusal leaves each of these entries as it
+    /// was, or none.
+    fn reset(&mut self, alloc: Global, all_registries: bool) -> Result<(), StoreError>
+        ensures never_falls { faults self.old ≤ faults self.new }
+        ensures reset { OnOk result (IfSome (told self.old) (λ held.
+            Tells (told self.new) (after_reset all_registries held))) }
+        ensures refused { OnErr result (IfSome (told self.old) (LeavesReset (told self.new) all_registries)) }
+        ensures fault { IfErr result (λ e. IsStoreFault e (faults self.old) (faults self.new)) };
 
     /// The checkpoint that is kept of a registry.
     fn load_checkpoint(

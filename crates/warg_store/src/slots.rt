@@ -25,7 +25,8 @@ pub enum Slot<T: Stored> {
 /// What is kept of one kind of entry, by its key.
 #[derive(Debug, Drop)]
 pub struct SlotMap<K: Eq + Hash, T: Stored> {
-    slots: IndexMap<K, Slot<T>>,
+    /// The slots.
+    pub slots: IndexMap<K, Slot<T>>,
 }
 
 impl<K: Eq + Hash + Drop, T: Stored> SlotMap<K, T> {
