@@ -1,3 +1,4 @@
 mod ContentLaws
+mod CopyLaws
 mod HeldLaws
 mod ResetLaws

@@ -4,5 +4,7 @@ pub mod Faults
 pub mod Held
 pub mod Memory
 pub mod MemoryContents
+pub mod MemoryNames
+pub mod Namespaces
 pub mod Schedules
 pub mod Slots
