@@ -2,3 +2,4 @@ mod ContentLaws
 mod CopyLaws
 mod HeldLaws
 mod ResetLaws
+mod TellingLaws

@@ -74,7 +74,8 @@ abbrev pub after_reset : Bool → Held → Held
 after_reset all held = record {
   checkpoints = without_entries (is_reset all) held.checkpoints;
   operators = without_entries (is_reset all) held.operators;
-  packages = without_entries (λ p. is_reset all p.0) held.packages }
+  packages = without_entries (λ p. is_reset all p.0) held.packages;
+}
 
 -- what a refused reset leaves
 pub record IsPartlyReset (all : Bool) (held now : Held) : Type 0 where

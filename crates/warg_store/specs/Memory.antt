@@ -13,7 +13,8 @@ abbrev pub held_in : MemoryRegistry → Held
 held_in store = record {
   checkpoints = entries_in is_registry (λ c. c) store.checkpoints;
   operators = entries_in is_registry operator_info store.operators;
-  packages = entries_in is_package package_info store.packages }
+  packages = entries_in is_package package_info store.packages;
+}
 
 abbrev pub schedule_in : MemoryRegistry → Schedule
 schedule_in store = schedule_of store.schedule

@@ -5,6 +5,7 @@
 mod after;
 mod content;
 mod error;
+pub mod laws;
 mod memory_content;
 mod memory_namespaces;
 mod memory_registry;

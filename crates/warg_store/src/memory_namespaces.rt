@@ -1,6 +1,7 @@
 //! The registries of namespaces, in memory.
 
-ghost use Rattle.std.specs.Prelude.{◌≡◌, ◌≢◌, ◌≤◌, ◌++◌, ◌∷◌, ◌↔◌, [], ℕ, false, Some, None, Err, IfOk, IfErr, IfSome, IsSome, IsSomeAnd, IsErrOf, OnOk, OnErr, option_map};
+ghost use Rattle.std.specs.Prelude.{◌≡◌, ◌≢◌, ◌≤◌, ◌++◌, ◌∷◌, ◌↔◌, [], ℕ, false, Some, None, Err, IfOk, IfErr, IfSome, IsSome, IsSomeAnd, IsErrOf, OnOk, OnErr, option_map, bytes_eq};
+ghost use Rattle.indexmap.specs.IndexMap.{insert_entry};
 ghost use Rattle.warg_store.specs.Entry.{Absent, Whole, Unreadable, entry_of, IsLoadFault, IsStoreFault};
 ghost use Rattle.warg_store.specs.Faults.{planned, after_call, has_store_failed};
 ghost use Rattle.warg_store.specs.MemoryNames.{names_in, names_schedule};
@@ -34,6 +35,23 @@ pub struct MemoryNamespaces {
     schedule: StoreSchedule,
 }
 
+/// Adds the registry of a namespace to names. A refusal changes nothing.
+fn add_name(
+    alloc: Global,
+    names: &mut IndexMap<Text, RegistryDomain>,
+    namespace: &str,
+    registry: &RegistryDomain,
+) -> Result<(), Memory>
+    ensures added { OnOk result (names.new.entries
+        ≡ insert_entry bytes_eq names.old.entries namespace.now registry.now) }
+    ensures unchanged { OnErr result (names.new.entries ≡ names.old.entries) }
+{
+    let namespace = Text::copy_of(alloc, namespace)?;
+    let registry = registry.try_clone(alloc)?;
+    names.insert(namespace, registry)?;
+    Ok(())
+}
+
 /// Equal names of their own, in the same order.
 fn copies_of(
     alloc: Global,
@@ -43,7 +61,7 @@ fn copies_of(
 {
     let mut copies = IndexMap::new(alloc);
     for (namespace, registry) in names {
-        copies.insert(namespace.try_clone(alloc)?, registry.try_clone(alloc)?)?;
+        add_name(alloc, &mut copies, namespace.as_str(), registry)?;
     }
     Ok(copies)
 }
@@ -71,10 +89,7 @@ impl MemoryNamespaces {
     }
 
     /// A copy of the names.
-    fn copy_of(
-        &self,
-        alloc: Global,
-    ) -> Result<Option<IndexMap<Text, RegistryDomain>>, StoreError>
+    fn copy_of(&self, alloc: Global) -> Result<Option<IndexMap<Text, RegistryDomain>>, StoreError>
         ensures found { IfOk result (λ o. names_in self.now ≡ entry_of (option_map (λ names. names.entries) o)) }
         ensures fault { (before after : ℕ) → IfErr result (λ e. IsLoadFault e EntryKind.Namespaces before after
             (Some (names_in self.now))) }
@@ -99,14 +114,12 @@ impl MemoryNamespaces {
         ensures unchanged { OnErr result (names_in self.new ≡ names_in self.old) }
         ensures schedule { names_schedule self.new ≡ names_schedule self.old }
     {
-        let namespace = Text::copy_of(alloc, namespace)?;
-        let registry = registry.try_clone(alloc)?;
         if let NameSlot::Whole(names) = &mut self.names {
-            names.insert(namespace, registry)?;
+            add_name(alloc, names, namespace, registry)?;
             return Ok(());
         }
         let mut names = IndexMap::new(alloc);
-        names.insert(namespace, registry)?;
+        add_name(alloc, &mut names, namespace, registry)?;
         self.names = NameSlot::Whole(names);
         Ok(())
     }

@@ -11,8 +11,8 @@ ghost use Rattle.warg_store.specs.Memory.{held_in, schedule_in, IsAfterStore, Is
 use crate::after::After;
 use crate::error::{EntryKind, StoreError};
 use crate::registry::RegistryStorage;
-use crate::schedule::StoreSchedule;
 use crate::resets::{reset_packages, reset_registries};
+use crate::schedule::StoreSchedule;
 use crate::slots::SlotMap;
 use crate::sound::Sound;
 use std::alloc::Global;

@@ -15,9 +15,7 @@ pub fn reset_registries<T: Stored>(slots: &mut SlotMap<Option<RegistryDomain>, T
     ensures { SameEntries (entries_in is_registry T.seen slots.new)
         (without_entries (is_reset all) (entries_in is_registry T.seen slots.old)) }
 {
-    slots
-        .slots
-        .retain(|registry, _| !all && registry.is_some());
+    slots.slots.retain(|registry, _| !all && registry.is_some());
 }
 
 /// Takes away the slots of the packages of the home registry, or of all packages.
@@ -28,7 +26,5 @@ pub fn reset_packages<T: Stored>(
     ensures { SameEntries (entries_in is_package T.seen slots.new)
         (without_entries (λ p. is_reset all p.0) (entries_in is_package T.seen slots.old)) }
 {
-    slots
-        .slots
-        .retain(|package, _| !all && package.0.is_some());
+    slots.slots.retain(|package, _| !all && package.0.is_some());
 }

@@ -75,7 +75,11 @@ impl StoreSchedule {
     }
 
     /// Counts a call that changes entries, and tells its answer, by what was planned and whether there was memory for it.
-    pub fn finish(&mut self, failing: Option<After>, done: Result<(), Memory>) -> Result<(), StoreError>
+    pub fn finish(
+        &mut self,
+        failing: Option<After>,
+        done: Result<(), Memory>,
+    ) -> Result<(), StoreError>
         ensures never_falls { (schedule_of self.old).faults ≤ (schedule_of self.new).faults }
         ensures answer { result ≡ answer_of failing done }
         ensures counted { schedule_of self.new ≡ after_call (schedule_of self.old) (has_store_failed result) }
