@@ -1,5 +1,5 @@
 -- What a refused store of a content leaves.
-use Rattle.std.proofs.Common.{◌≡◌, ◌-◌, ℕ, List, length, take, Option, Some, None, Result, Ok, Err, OnOk, OnErr, refl, inl, inr, ap, arith}
+use Rattle.std.proofs.Common.{◌-◌, ℕ, List, length, take, Option, Some, None, Result, Ok, Err, OnOk, OnErr, refl, inl, inr, arith}
 use Rattle.std.proofs.lemmas.List.{take_all}
 use Rattle.sha2.specs.Sha256.{sha256}
 use Rattle.warg_store.specs.declared.after.After.{After}

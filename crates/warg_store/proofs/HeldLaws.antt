@@ -1,5 +1,5 @@
 -- What is held after an entry changed.
-use Rattle.std.proofs.Common.{◌≡◌, Bool, true, false, true≢false, Option, Some, None, option_map, is_some, IsSome, Result, Ok, Err, IfOk, IsErrOf, refl, sym, ap, ◌∙◌}
+use Rattle.std.proofs.Common.{◌≡◌, Bool, false, true≢false, Option, Some, None, option_map, is_some, IsSome, Result, Ok, Err, IfOk, IsErrOf, sym, ap, ◌∙◌}
 use Rattle.warg_exchange.specs.declared.checkpoint.SignedCheckpoint.{SignedCheckpoint}
 use Rattle.warg_store.specs.declared.error.StoreError.{StoreError}
 use Rattle.warg_store.specs.declared.error.StoreError.TheVariants as error

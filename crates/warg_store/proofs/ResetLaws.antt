@@ -1,9 +1,9 @@
 -- What is left of slots after a reset.
-use Rattle.std.proofs.Common.{◌≡◌, ◌&&◌, ◌||◌, not, Bool, true, false, true≢false, cond, List, filter, Option, Some, None, is_some, refl, sym, ap, ◌∙◌}
+use Rattle.std.proofs.Common.{◌≡◌, ◌&&◌, not, Bool, true, false, true≢false, cond, List, filter, Option, Some, None, is_some, refl, sym, ap, ◌∙◌}
 use Rattle.std.specs.Map.{lookup}
 use Rattle.std.proofs.lemmas.Map.Entries.{lookup-filter-keys}
 use Rattle.warg_store.specs.declared.slots.Slot.{Slot}
-use Rattle.warg_store.specs.Entry.{Entry, Absent}
+use Rattle.warg_store.specs.Entry.{Absent}
 use Rattle.warg_store.specs.Held.{Registry, Package, is_registry, is_package, is_reset}
 use Rattle.warg_store.specs.Slots.{slot_entry}
 

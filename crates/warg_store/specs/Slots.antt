@@ -1,7 +1,6 @@
 -- What slots in memory hold.
 use Rattle.std.specs.Prelude.{Bool, Option, Some, None}
-use Rattle.std.specs.Map.{lookup}
-use Rattle.indexmap.specs.IndexMap.{IndexMap, get}
+use Rattle.indexmap.specs.IndexMap.{get}
 use Rattle.warg_store.specs.declared.after.After.{After}
 use Rattle.warg_store.specs.declared.after.After.TheVariants as after
 use Rattle.warg_store.specs.declared.slots.Slot.{Slot}

@@ -1,4 +1,3 @@
-use Rattle.std.proofs.Common.{rules}
 use Rattle.warg_store.proofs.ContentLaws.{left_by_store, on_err_too}
 use Rattle.warg_store.proofs.memory_content.MemoryContentContentStorage.store_content.Goals as goal
 
