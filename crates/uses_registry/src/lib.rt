@@ -15,6 +15,7 @@ pub mod record;
 pub mod recorded;
 pub mod registry_url;
 pub mod request;
+pub mod store;
 pub mod update;
 pub mod values;
 pub mod verify;

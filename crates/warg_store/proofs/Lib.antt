@@ -1,0 +1,5 @@
+mod ContentLaws
+mod CopyLaws
+mod HeldLaws
+mod ResetLaws
+mod TellingLaws

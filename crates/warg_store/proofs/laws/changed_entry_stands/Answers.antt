@@ -1,0 +1,11 @@
+use Rattle.warg_store.proofs.TellingLaws.{checkpoint_stands, operator_stands, package_stands}
+use Rattle.warg_store.proofs.laws.changed_entry_stands.Goals as goal
+
+pub returns-clause-checkpoint : goal.returns-clause-checkpoint
+returns-clause-checkpoint c = checkpoint_stands
+
+pub returns-clause-operator : goal.returns-clause-operator
+returns-clause-operator c = operator_stands
+
+pub returns-clause-package : goal.returns-clause-package
+returns-clause-package c = package_stands

@@ -1,0 +1,19 @@
+use Rattle.std.proofs.Common.{sym, ap, ◌∙◌}
+use Rattle.warg_store.specs.Faults.{after_call}
+use Rattle.warg_store.proofs.HeldLaws.{found_as_it_is, is_no_failure, is_not_planned}
+use Rattle.warg_store.proofs.memory_registry.MemoryRegistryRegistryStorage.load_checkpoint.Goals as goal
+
+pub returns-clause-found : goal.returns-clause-found
+returns-clause-found c = rw (← c.in_ok-key.ensures) (found_as_it_is c.load.result _ c.load.ensures.found)
+
+pub returns-clause-fault : goal.returns-clause-fault
+returns-clause-fault c = rw (← c.in_ok-key.ensures) (c.load.ensures.fault _ _)
+
+pub returns-clause-failed : goal.returns-clause-failed
+returns-clause-failed c = (
+  λ failed. absurd (is_no_failure c.load.result c.load.ensures.no_failure failed),
+  λ planned. absurd (is_not_planned _ c.fails_now.result c.if-fails_now.false c.fails_now.ensures.planned planned),
+)
+
+pub returns-clause-scheduled : goal.returns-clause-scheduled
+returns-clause-scheduled c = c.fails_now.ensures.counted ∙ ap (after_call _) (c.if-fails_now.false ∙ sym c.load.ensures.no_failure)

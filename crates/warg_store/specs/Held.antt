@@ -1,0 +1,100 @@
+-- What is held of registries.
+use Rattle.std.specs.Prelude.{◌≡◌, ◌⊎◌, ◌||◌, ◌&&◌, not, ℕ, Bool, List, bytes_eq, Option, Some, is_some}
+use Rattle.std.specs.Option.{option_eq}
+use Rattle.warg_exchange.specs.declared.checkpoint.Checkpoint.{Checkpoint}
+use Rattle.warg_exchange.specs.declared.checkpoint.SignedCheckpoint.{SignedCheckpoint}
+use Rattle.warg_info.specs.declared.operator.OperatorInfo.{OperatorInfo}
+use Rattle.warg_info.specs.declared.package.PackageInfo.{PackageInfo}
+use Rattle.warg_info.specs.Info.{operator_log, package_log}
+use Rattle.warg_info.specs.Kept.{Kept}
+use Rattle.warg_store.specs.Entry.{Entry, Absent, Whole, Unreadable, SameEntries, with_entry, without_entries, ArePartlyGone}
+
+-- ---- keys
+
+-- a registry by its name, which the home registry has not
+abbrev pub Registry : Type 0
+Registry = Option (List ℕ)
+
+-- a registry, and the name of a package
+abbrev pub Package : Type 0
+Package = Registry × List ℕ
+
+abbrev pub is_registry : Registry → Registry → Bool
+is_registry r s = option_eq bytes_eq r s
+
+abbrev pub is_package : Package → Package → Bool
+is_package p q = is_registry p.0 q.0 && bytes_eq p.1 q.1
+
+-- ---- values
+
+-- what is kept of a log: the registry that has it, the checkpoint under which it was proved last, and the records
+pub record Info : Type 0 where
+  pub registry : Registry
+  pub checkpoint : Option Checkpoint
+  pub log : List Kept
+
+abbrev pub operator_info : OperatorInfo → Info
+operator_info info = record { registry = info.registry; checkpoint = info.checkpoint; log = operator_log info }
+
+abbrev pub package_info : PackageInfo → Info
+package_info info = record { registry = info.registry; checkpoint = info.checkpoint; log = package_log info }
+
+-- ---- what is held
+
+pub record Held : Type 0 where
+  pub checkpoints : Registry → Entry SignedCheckpoint
+  pub operators : Registry → Entry Info
+  pub packages : Package → Entry Info
+
+abbrev pub nothing : Held
+nothing = record { checkpoints = λ _. Absent; operators = λ _. Absent; packages = λ _. Absent }
+
+-- the same entries
+pub record SameHeld (now held : Held) : Type 0 where
+  pub checkpoints : SameEntries now.checkpoints held.checkpoints
+  pub operators : SameEntries now.operators held.operators
+  pub packages : SameEntries now.packages held.packages
+
+abbrev pub with_checkpoint : Held → Registry → Entry SignedCheckpoint → Held
+with_checkpoint held r entry = record held { checkpoints = with_entry is_registry held.checkpoints r entry }
+
+abbrev pub with_operator : Held → Registry → Entry Info → Held
+with_operator held r entry = record held { operators = with_entry is_registry held.operators r entry }
+
+abbrev pub with_package : Held → Package → Entry Info → Held
+with_package held p entry = record held { packages = with_entry is_package held.packages p entry }
+
+-- ---- resets
+
+-- whether a reset, of all registries or of the home registry alone, takes away what is held of a registry
+abbrev pub is_reset : Bool → Registry → Bool
+is_reset all r = all || not (is_some r)
+
+abbrev pub after_reset : Bool → Held → Held
+after_reset all held = record {
+  checkpoints = without_entries (is_reset all) held.checkpoints;
+  operators = without_entries (is_reset all) held.operators;
+  packages = without_entries (λ p. is_reset all p.0) held.packages;
+}
+
+-- what a refused reset leaves
+pub record IsPartlyReset (all : Bool) (held now : Held) : Type 0 where
+  pub checkpoints : ArePartlyGone (is_reset all) held.checkpoints now.checkpoints
+  pub operators : ArePartlyGone (is_reset all) held.operators now.operators
+  pub packages : ArePartlyGone (λ p. is_reset all p.0) held.packages now.packages
+
+-- ---- what a store tells
+
+-- the store tells that it holds just this
+pub record Tells (told : Option Held) (held : Held) : Type 0 where
+  pub now : Held
+  pub tells : told ≡ Some now
+  pub same : SameHeld now held
+
+-- a refused store of a value leaves what was held; or in the entry the value; or in the entry what can't be read
+abbrev pub LeavesStore : {X : Type 0} → Option Held → Held → (Entry X → Held) → X → Type 0
+LeavesStore told held with_it x = Tells told held ⊎ Tells told (with_it (Whole x)) ⊎ Tells told (with_it Unreadable)
+
+-- what a refused reset leaves
+abbrev pub LeavesReset : Option Held → Bool → Held → Type 0
+LeavesReset told all held = (now : Held) × (told ≡ Some now) × IsPartlyReset all held now

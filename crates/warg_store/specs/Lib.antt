@@ -1,0 +1,10 @@
+pub mod Contents
+pub mod Entry
+pub mod Faults
+pub mod Held
+pub mod Memory
+pub mod MemoryContents
+pub mod MemoryNames
+pub mod Namespaces
+pub mod Schedules
+pub mod Slots

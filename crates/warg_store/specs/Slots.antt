@@ -1,0 +1,26 @@
+-- What slots in memory hold.
+use Rattle.std.specs.Prelude.{Bool, Option, Some, None}
+use Rattle.indexmap.specs.IndexMap.{get}
+use Rattle.warg_store.specs.declared.after.After.{After}
+use Rattle.warg_store.specs.declared.after.After.TheVariants as after
+use Rattle.warg_store.specs.declared.slots.Slot.{Slot}
+use Rattle.warg_store.specs.declared.slots.Slot.TheVariants as slot
+use Rattle.warg_store.specs.declared.slots.SlotMap.{SlotMap}
+use Rattle.warg_store.specs.Entry.{Entry, Absent, Whole, Unreadable, SameEntries, with_entry}
+
+-- the entry that a slot is, where a value is seen by view
+abbrev pub slot_entry : {T X : Type 0} → (T → X) → Option (Slot T) → Entry X
+slot_entry view None = Absent
+slot_entry view (Some (slot.Whole value)) = Whole (view value)
+slot_entry view (Some slot.Unreadable) = Unreadable
+
+-- the entries that slots are
+abbrev pub entries_in : {K T X : Type 0} → (K → K → Bool) → (T → X) → SlotMap K T → K → Entry X
+entries_in is_key view slots k = slot_entry view (get is_key slots.slots k)
+
+-- the entries after a store of a value under a key, which may be to fail
+abbrev pub AreAfterStore : {K X : Type 0} → (K → K → Bool) → Option After → (K → Entry X) → K → X → (K → Entry X) → Type 0
+AreAfterStore is_key None held key x now = SameEntries now (with_entry is_key held key (Whole x))
+AreAfterStore is_key (Some after.Old) held key x now = SameEntries now held
+AreAfterStore is_key (Some after.New) held key x now = SameEntries now (with_entry is_key held key (Whole x))
+AreAfterStore is_key (Some after.Unreadable) held key x now = SameEntries now (with_entry is_key held key Unreadable)

@@ -1,0 +1,27 @@
+//! What a client keeps of registries: checkpoints, logs, contents and the registries of namespaces, in stores that tell
+//! what they hold.
+#![tactic(auto)]
+
+mod after;
+mod content;
+mod error;
+pub mod laws;
+mod memory_content;
+mod memory_namespaces;
+mod memory_registry;
+mod namespaces;
+mod registry;
+mod resets;
+mod schedule;
+mod slots;
+mod sound;
+mod stored;
+
+pub use after::After;
+pub use content::ContentStorage;
+pub use error::{EntryKind, StoreError};
+pub use memory_content::MemoryContent;
+pub use memory_namespaces::MemoryNamespaces;
+pub use memory_registry::MemoryRegistry;
+pub use namespaces::NamespaceMapStorage;
+pub use registry::RegistryStorage;

@@ -1,0 +1,338 @@
+//! What a client keeps of registries, in memory.
+
+ghost use Rattle.std.specs.Prelude.{◌≡◌, ◌≤◌, ◌++◌, ◌∷◌, ◌↔◌, [], ℕ, false, Some, None, IfOk, IfErr, IfSome, IsSomeAnd, IsSome, IsErrOf, OnOk, OnErr, option_copied, option_map};
+ghost use Rattle.warg_info.specs.Info.{IsSoundOperator, IsSoundPackage};
+ghost use Rattle.warg_store.specs.Entry.{Whole, entry_of, IsLoadFault, IsStoreFault};
+ghost use Rattle.warg_store.specs.Faults.{planned, after_call, has_store_failed};
+ghost use Rattle.warg_store.specs.Held.{Tells, SameHeld, nothing, LeavesStore, LeavesReset, after_reset, is_package, operator_info, package_info, with_checkpoint, with_operator, with_package};
+ghost use Rattle.warg_store.specs.Slots.{entries_in};
+ghost use Rattle.warg_store.specs.Memory.{held_in, schedule_in, IsAfterStore, IsAfterReset};
+
+use crate::after::After;
+use crate::error::{EntryKind, StoreError};
+use crate::registry::RegistryStorage;
+use crate::resets::{reset_packages, reset_registries};
+use crate::schedule::StoreSchedule;
+use crate::slots::SlotMap;
+use crate::sound::Sound;
+use std::alloc::Global;
+use warg_exchange::SignedCheckpoint;
+use warg_hash::PackageName;
+use warg_info::{OperatorInfo, PackageInfo};
+use warg_url::RegistryDomain;
+use warg_values::Memory;
+
+/// What a client keeps of registries, in memory. It tells what it holds.
+#[derive(Debug, Drop)]
+pub struct MemoryRegistry {
+    checkpoints: SlotMap<Option<RegistryDomain>, SignedCheckpoint>,
+    operators: SlotMap<Option<RegistryDomain>, OperatorInfo>,
+    packages: SlotMap<(Option<RegistryDomain>, PackageName), PackageInfo>,
+    schedule: StoreSchedule,
+}
+
+/// A registry's name as a key.
+fn key_of(
+    alloc: Global,
+    registry: Option<&RegistryDomain>,
+) -> Result<Option<RegistryDomain>, Memory>
+    ensures { IfOk result (λ key. key ≡ option_copied registry.entry) }
+{
+    match registry {
+        Some(name) => Ok(Some(name.try_clone(alloc)?)),
+        None => Ok(None),
+    }
+}
+
+/// A registry's name and a package's as a key.
+fn package_key(
+    alloc: Global,
+    registry: Option<&RegistryDomain>,
+    name: &PackageName,
+) -> Result<(Option<RegistryDomain>, PackageName), Memory>
+    ensures { IfOk result (λ key. key ≡ (option_copied registry.entry, name.now)) }
+{
+    Ok((key_of(alloc, registry)?, name.try_clone(alloc)?))
+}
+
+/// A copy of the log of a package, under its name.
+fn load_named(
+    alloc: Global,
+    packages: &SlotMap<(Option<RegistryDomain>, PackageName), PackageInfo>,
+    key: &(Option<RegistryDomain>, PackageName),
+    name: &PackageName,
+) -> Result<Option<PackageInfo>, StoreError>
+    ensures found { IfOk result (λ o. entries_in is_package package_info packages.now key.now
+        ≡ entry_of (option_map package_info o)) }
+    ensures sound { IfOk result (λ o. IfSome o IsSoundPackage) }
+    ensures name { IfOk result (λ o. IfSome o (λ info. info.name ≡ name.now)) }
+    ensures fault { (before after : ℕ) → IfErr result (λ e. IsLoadFault e EntryKind.Package before after
+        (Some (entries_in is_package package_info packages.now key.now))) }
+    ensures no_failure { has_store_failed result ≡ false }
+{
+    let Some(info) = packages.load(alloc, EntryKind::Package, key)? else {
+        return Ok(None);
+    };
+    let name = name.try_clone(alloc)?;
+    Ok(Some(PackageInfo { name, ..info }))
+}
+
+impl MemoryRegistry {
+    /// No entries, and no call that is to fail.
+    pub fn new(alloc: Global) -> Self
+        ensures empty { SameHeld (held_in result) nothing }
+        ensures schedule { schedule_in result ≡ record { calls = 0; failing = []; faults = 0 } }
+    {
+        MemoryRegistry {
+            checkpoints: SlotMap::new(alloc),
+            operators: SlotMap::new(alloc),
+            packages: SlotMap::new(alloc),
+            schedule: StoreSchedule::new(alloc),
+        }
+    }
+
+    /// Has the call of this number fail, counted from 1 over all calls, and leave this. A refusal changes nothing.
+    pub fn fail_at(&mut self, call: u64, after: After) -> Result<(), Memory>
+        ensures listed { OnOk result (schedule_in self.new
+            ≡ record (schedule_in self.old) { failing = (schedule_in self.old).failing ++ (call, after) ∷ [] }) }
+        ensures unchanged { OnErr result (schedule_in self.new ≡ schedule_in self.old) }
+        ensures same { SameHeld (held_in self.new) (held_in self.old) }
+    {
+        self.schedule.fail_at(call, after)
+    }
+
+    /// Takes entries away, or leaves what a call that is to fail leaves.
+    fn take_away(&mut self, all_registries: bool, failing: Option<After>)
+        ensures reset { IsAfterReset failing all_registries (held_in self.old) (held_in self.new) }
+        ensures schedule { schedule_in self.new ≡ schedule_in self.old }
+    {
+        match failing {
+            None | Some(After::New) => {
+                reset_registries(&mut self.checkpoints, all_registries);
+                reset_registries(&mut self.operators, all_registries);
+                reset_packages(&mut self.packages, all_registries);
+            }
+            Some(After::Old | After::Unreadable) => {}
+        }
+    }
+
+    /// Keeps a checkpoint, or leaves what a call that is to fail leaves. A refusal changes nothing.
+    fn put_checkpoint(
+        &mut self,
+        alloc: Global,
+        registry: Option<&RegistryDomain>,
+        checkpoint: &SignedCheckpoint,
+        failing: Option<After>,
+    ) -> Result<(), Memory>
+        ensures put { OnOk result (IsAfterStore failing (held_in self.old)
+            (with_checkpoint (held_in self.old) (option_copied registry.entry)) checkpoint.now (held_in self.new)) }
+        ensures unchanged { OnErr result (SameHeld (held_in self.new) (held_in self.old)) }
+        ensures schedule { schedule_in self.new ≡ schedule_in self.old }
+    {
+        let key = key_of(alloc, registry)?;
+        let checkpoint = Sound::copy_of(alloc, checkpoint)?;
+        self.checkpoints.put(key, checkpoint, failing)
+    }
+
+    /// Keeps the log of a registry's operator, or leaves what a call that is to fail leaves. A refusal changes nothing.
+    fn put_operator(
+        &mut self,
+        alloc: Global,
+        registry: Option<&RegistryDomain>,
+        info: &OperatorInfo,
+        failing: Option<After>,
+    ) -> Result<(), Memory>
+        requires { IsSoundOperator info.now }
+        ensures put { OnOk result (IsAfterStore failing (held_in self.old)
+            (with_operator (held_in self.old) (option_copied registry.entry)) (operator_info info.now) (held_in self.new)) }
+        ensures unchanged { OnErr result (SameHeld (held_in self.new) (held_in self.old)) }
+        ensures schedule { schedule_in self.new ≡ schedule_in self.old }
+    {
+        let key = key_of(alloc, registry)?;
+        let info = Sound::copy_of(alloc, info)?;
+        self.operators.put(key, info, failing)
+    }
+
+    /// Keeps the log of a package, or leaves what a call that is to fail leaves. A refusal changes nothing.
+    fn put_package(
+        &mut self,
+        alloc: Global,
+        registry: Option<&RegistryDomain>,
+        info: &PackageInfo,
+        failing: Option<After>,
+    ) -> Result<(), Memory>
+        requires { IsSoundPackage info.now }
+        ensures put { OnOk result (IsAfterStore failing (held_in self.old)
+            (with_package (held_in self.old) (option_copied registry.entry, info.now.name)) (package_info info.now) (held_in self.new)) }
+        ensures unchanged { OnErr result (SameHeld (held_in self.new) (held_in self.old)) }
+        ensures schedule { schedule_in self.new ≡ schedule_in self.old }
+    {
+        let key = package_key(alloc, registry, &info.name)?;
+        let info = Sound::copy_of(alloc, info)?;
+        self.packages.put(key, info, failing)
+    }
+}
+
+impl RegistryStorage for MemoryRegistry {
+    ghost faults = { λ m. (schedule_in m).faults };
+
+    ghost told = { λ m. Some (held_in m) };
+
+    fn reset(&mut self, _alloc: Global, all_registries: bool) -> Result<(), StoreError>
+        ensures never_falls { (schedule_in self.old).faults ≤ (schedule_in self.new).faults }
+        ensures reset { OnOk result (Tells (Some (held_in self.new)) (after_reset all_registries (held_in self.old))) }
+        ensures refused { OnErr result (LeavesReset (Some (held_in self.new)) all_registries (held_in self.old)) }
+        ensures fault { IfErr result (λ e. IsStoreFault e (schedule_in self.old).faults (schedule_in self.new).faults) }
+        ensures left { IsErrOf result StoreError.Failed → IsSomeAnd (planned (schedule_in self.old)) (λ after.
+            IsAfterReset (Some after) all_registries (held_in self.old) (held_in self.new)) }
+        ensures failed { IsErrOf result StoreError.Failed ↔ IsSome (planned (schedule_in self.old)) }
+        ensures scheduled { schedule_in self.new ≡ after_call (schedule_in self.old) (has_store_failed result) }
+    {
+        let failing = self.schedule.planned();
+        self.take_away(all_registries, failing);
+        self.schedule.finish(failing, Ok(()))
+    }
+
+    fn load_checkpoint(
+        &mut self,
+        alloc: Global,
+        registry: Option<&RegistryDomain>,
+    ) -> Result<Option<SignedCheckpoint>, StoreError>
+        ensures never_falls { (schedule_in self.old).faults ≤ (schedule_in self.new).faults }
+        ensures kept { Tells (Some (held_in self.new)) (held_in self.old) }
+        ensures found { IfOk result (λ o. (held_in self.old).checkpoints (option_copied registry.entry) ≡ entry_of o) }
+        ensures fault { IfErr result (λ e. IsLoadFault e EntryKind.Checkpoint (schedule_in self.old).faults
+            (schedule_in self.new).faults (Some ((held_in self.old).checkpoints (option_copied registry.entry)))) }
+        ensures failed { IsErrOf result StoreError.Failed ↔ IsSome (planned (schedule_in self.old)) }
+        ensures scheduled { schedule_in self.new ≡ after_call (schedule_in self.old) (has_store_failed result) }
+    {
+        if self.schedule.fails_now() {
+            return Err(StoreError::Failed);
+        }
+        let key = key_of(alloc, registry)?;
+        self.checkpoints.load(alloc, EntryKind::Checkpoint, &key)
+    }
+
+    fn store_checkpoint(
+        &mut self,
+        alloc: Global,
+        registry: Option<&RegistryDomain>,
+        checkpoint: &SignedCheckpoint,
+    ) -> Result<(), StoreError>
+        ensures never_falls { (schedule_in self.old).faults ≤ (schedule_in self.new).faults }
+        ensures stored { OnOk result (Tells (Some (held_in self.new))
+            (with_checkpoint (held_in self.old) (option_copied registry.entry) (Whole checkpoint.now))) }
+        ensures refused { OnErr result (LeavesStore (Some (held_in self.new)) (held_in self.old)
+            (with_checkpoint (held_in self.old) (option_copied registry.entry)) checkpoint.now) }
+        ensures fault { IfErr result (λ e. IsStoreFault e (schedule_in self.old).faults (schedule_in self.new).faults) }
+        ensures left { IsErrOf result StoreError.Failed → IsSomeAnd (planned (schedule_in self.old)) (λ after.
+            IsAfterStore (Some after) (held_in self.old)
+            (with_checkpoint (held_in self.old) (option_copied registry.entry)) checkpoint.now (held_in self.new)) }
+        ensures unchanged { IsErrOf result StoreError.Memory → SameHeld (held_in self.new) (held_in self.old) }
+        ensures unplanned { OnOk result (planned (schedule_in self.old) ≡ None) }
+        ensures scheduled { schedule_in self.new ≡ after_call (schedule_in self.old) (has_store_failed result) }
+    {
+        let failing = self.schedule.planned();
+        let done = self.put_checkpoint(alloc, registry, checkpoint, failing);
+        self.schedule.finish(failing, done)
+    }
+
+    fn load_operator(
+        &mut self,
+        alloc: Global,
+        registry: Option<&RegistryDomain>,
+    ) -> Result<Option<OperatorInfo>, StoreError>
+        ensures never_falls { (schedule_in self.old).faults ≤ (schedule_in self.new).faults }
+        ensures kept { Tells (Some (held_in self.new)) (held_in self.old) }
+        ensures found { IfOk result (λ o.
+            (held_in self.old).operators (option_copied registry.entry) ≡ entry_of (option_map operator_info o)) }
+        ensures sound { IfOk result (λ o. IfSome o IsSoundOperator) }
+        ensures fault { IfErr result (λ e. IsLoadFault e EntryKind.Operator (schedule_in self.old).faults
+            (schedule_in self.new).faults (Some ((held_in self.old).operators (option_copied registry.entry)))) }
+        ensures failed { IsErrOf result StoreError.Failed ↔ IsSome (planned (schedule_in self.old)) }
+        ensures scheduled { schedule_in self.new ≡ after_call (schedule_in self.old) (has_store_failed result) }
+    {
+        if self.schedule.fails_now() {
+            return Err(StoreError::Failed);
+        }
+        let key = key_of(alloc, registry)?;
+        self.operators.load(alloc, EntryKind::Operator, &key)
+    }
+
+    fn store_operator(
+        &mut self,
+        alloc: Global,
+        registry: Option<&RegistryDomain>,
+        info: &OperatorInfo,
+    ) -> Result<(), StoreError>
+        requires { IsSoundOperator info.now }
+        ensures never_falls { (schedule_in self.old).faults ≤ (schedule_in self.new).faults }
+        ensures stored { OnOk result (Tells (Some (held_in self.new))
+            (with_operator (held_in self.old) (option_copied registry.entry) (Whole (operator_info info.now)))) }
+        ensures refused { OnErr result (LeavesStore (Some (held_in self.new)) (held_in self.old)
+            (with_operator (held_in self.old) (option_copied registry.entry)) (operator_info info.now)) }
+        ensures fault { IfErr result (λ e. IsStoreFault e (schedule_in self.old).faults (schedule_in self.new).faults) }
+        ensures left { IsErrOf result StoreError.Failed → IsSomeAnd (planned (schedule_in self.old)) (λ after.
+            IsAfterStore (Some after) (held_in self.old)
+            (with_operator (held_in self.old) (option_copied registry.entry)) (operator_info info.now)
+            (held_in self.new)) }
+        ensures unchanged { IsErrOf result StoreError.Memory → SameHeld (held_in self.new) (held_in self.old) }
+        ensures unplanned { OnOk result (planned (schedule_in self.old) ≡ None) }
+        ensures scheduled { schedule_in self.new ≡ after_call (schedule_in self.old) (has_store_failed result) }
+    {
+        let failing = self.schedule.planned();
+        let done = self.put_operator(alloc, registry, info, failing);
+        self.schedule.finish(failing, done)
+    }
+
+    fn load_package(
+        &mut self,
+        alloc: Global,
+        registry: Option<&RegistryDomain>,
+        name: &PackageName,
+    ) -> Result<Option<PackageInfo>, StoreError>
+        ensures never_falls { (schedule_in self.old).faults ≤ (schedule_in self.new).faults }
+        ensures kept { Tells (Some (held_in self.new)) (held_in self.old) }
+        ensures found { IfOk result (λ o. (held_in self.old).packages (option_copied registry.entry, name.now)
+            ≡ entry_of (option_map package_info o)) }
+        ensures sound { IfOk result (λ o. IfSome o IsSoundPackage) }
+        ensures name { IfOk result (λ o. IfSome o (λ info. info.name ≡ name.now)) }
+        ensures fault { IfErr result (λ e. IsLoadFault e EntryKind.Package (schedule_in self.old).faults
+            (schedule_in self.new).faults
+            (Some ((held_in self.old).packages (option_copied registry.entry, name.now)))) }
+        ensures failed { IsErrOf result StoreError.Failed ↔ IsSome (planned (schedule_in self.old)) }
+        ensures scheduled { schedule_in self.new ≡ after_call (schedule_in self.old) (has_store_failed result) }
+    {
+        if self.schedule.fails_now() {
+            return Err(StoreError::Failed);
+        }
+        let key = package_key(alloc, registry, name)?;
+        load_named(alloc, &self.packages, &key, name)
+    }
+
+    fn store_package(
+        &mut self,
+        alloc: Global,
+        registry: Option<&RegistryDomain>,
+        info: &PackageInfo,
+    ) -> Result<(), StoreError>
+        requires { IsSoundPackage info.now }
+        ensures never_falls { (schedule_in self.old).faults ≤ (schedule_in self.new).faults }
+        ensures stored { OnOk result (Tells (Some (held_in self.new)) (with_package (held_in self.old)
+            (option_copied registry.entry, info.now.name) (Whole (package_info info.now)))) }
+        ensures refused { OnErr result (LeavesStore (Some (held_in self.new)) (held_in self.old)
+            (with_package (held_in self.old) (option_copied registry.entry, info.now.name)) (package_info info.now)) }
+        ensures fault { IfErr result (λ e. IsStoreFault e (schedule_in self.old).faults (schedule_in self.new).faults) }
+        ensures left { IsErrOf result StoreError.Failed → IsSomeAnd (planned (schedule_in self.old)) (λ after.
+            IsAfterStore (Some after) (held_in self.old)
+            (with_package (held_in self.old) (option_copied registry.entry, info.now.name)) (package_info info.now)
+            (held_in self.new)) }
+        ensures unchanged { IsErrOf result StoreError.Memory → SameHeld (held_in self.new) (held_in self.old) }
+        ensures unplanned { OnOk result (planned (schedule_in self.old) ≡ None) }
+        ensures scheduled { schedule_in self.new ≡ after_call (schedule_in self.old) (has_store_failed result) }
+    {
+        let failing = self.schedule.planned();
+        let done = self.put_package(alloc, registry, info, failing);
+        self.schedule.finish(failing, done)
+    }
+}

@@ -1,0 +1,121 @@
+//! What a client keeps of registries, as stores give and take it.
+
+ghost use Rattle.std.specs.Prelude.{◌≡◌, ◌≤◌, ℕ, Option, IfOk, IfErr, IfSome, OnOk, OnErr, option_copied, option_map};
+ghost use Rattle.warg_info.specs.Info.{IsSoundOperator, IsSoundPackage};
+ghost use Rattle.warg_store.specs.Entry.{Whole, entry_of, IsLoadFault, IsStoreFault};
+ghost use Rattle.warg_store.specs.Held.{Held, Tells, LeavesStore, LeavesReset, after_reset, operator_info, package_info, with_checkpoint, with_operator, with_package};
+
+use crate::error::{EntryKind, StoreError};
+use std::alloc::Global;
+use warg_exchange::SignedCheckpoint;
+use warg_hash::PackageName;
+use warg_info::{OperatorInfo, PackageInfo};
+use warg_url::RegistryDomain;
+
+/// Keeps checkpoints and logs of registries. The home registry is the one without a name.
+///
+/// An implementation in memory tells which entries there are, and each has a count of faults, by which a caller knows that
+/// the outside failed.
+pub trait RegistryStorage: Drop {
+    /// How many calls failed so far.
+    ghost faults: { Self → ℕ };
+
+    /// What is held, where the object tells it.
+    ghost told: { Self → Option Held };
+
+    /// Takes away what is kept of the home registry, or of all registries. A refusal leaves each of these entries as it
+    /// was, or none.
+    fn reset(&mut self, alloc: Global, all_registries: bool) -> Result<(), StoreError>
+        ensures never_falls { faults self.old ≤ faults self.new }
+        ensures reset { OnOk result (IfSome (told self.old) (λ held.
+            Tells (told self.new) (after_reset all_registries held))) }
+        ensures refused { OnErr result (IfSome (told self.old) (LeavesReset (told self.new) all_registries)) }
+        ensures fault { IfErr result (λ e. IsStoreFault e (faults self.old) (faults self.new)) };
+
+    /// The checkpoint that is kept of a registry.
+    fn load_checkpoint(
+        &mut self,
+        alloc: Global,
+        registry: Option<&RegistryDomain>,
+    ) -> Result<Option<SignedCheckpoint>, StoreError>
+        ensures never_falls { faults self.old ≤ faults self.new }
+        ensures kept { IfSome (told self.old) (Tells (told self.new)) }
+        ensures found { IfOk result (λ o. IfSome (told self.old) (λ held.
+            held.checkpoints (option_copied registry.entry) ≡ entry_of o)) }
+        ensures fault { IfErr result (λ e. IsLoadFault e EntryKind.Checkpoint (faults self.old) (faults self.new)
+            (option_map (λ held. held.checkpoints (option_copied registry.entry)) (told self.old))) };
+
+    /// Keeps a checkpoint of a registry. A refusal leaves the old one, the new one, or what can't be read.
+    fn store_checkpoint(
+        &mut self,
+        alloc: Global,
+        registry: Option<&RegistryDomain>,
+        checkpoint: &SignedCheckpoint,
+    ) -> Result<(), StoreError>
+        ensures never_falls { faults self.old ≤ faults self.new }
+        ensures stored { OnOk result (IfSome (told self.old) (λ held.
+            Tells (told self.new) (with_checkpoint held (option_copied registry.entry) (Whole checkpoint.now)))) }
+        ensures refused { OnErr result (IfSome (told self.old) (λ held.
+            LeavesStore (told self.new) held (with_checkpoint held (option_copied registry.entry)) checkpoint.now)) }
+        ensures fault { IfErr result (λ e. IsStoreFault e (faults self.old) (faults self.new)) };
+
+    /// What is kept of the log of a registry's operator. It is sound.
+    fn load_operator(
+        &mut self,
+        alloc: Global,
+        registry: Option<&RegistryDomain>,
+    ) -> Result<Option<OperatorInfo>, StoreError>
+        ensures never_falls { faults self.old ≤ faults self.new }
+        ensures kept { IfSome (told self.old) (Tells (told self.new)) }
+        ensures found { IfOk result (λ o. IfSome (told self.old) (λ held.
+            held.operators (option_copied registry.entry) ≡ entry_of (option_map operator_info o))) }
+        ensures sound { IfOk result (λ o. IfSome o IsSoundOperator) }
+        ensures fault { IfErr result (λ e. IsLoadFault e EntryKind.Operator (faults self.old) (faults self.new)
+            (option_map (λ held. held.operators (option_copied registry.entry)) (told self.old))) };
+
+    /// Keeps the log of a registry's operator. A refusal leaves the old one, the new one, or what can't be read.
+    fn store_operator(
+        &mut self,
+        alloc: Global,
+        registry: Option<&RegistryDomain>,
+        info: &OperatorInfo,
+    ) -> Result<(), StoreError>
+        requires { IsSoundOperator info.now }
+        ensures never_falls { faults self.old ≤ faults self.new }
+        ensures stored { OnOk result (IfSome (told self.old) (λ held. Tells (told self.new)
+            (with_operator held (option_copied registry.entry) (Whole (operator_info info.now))))) }
+        ensures refused { OnErr result (IfSome (told self.old) (λ held. LeavesStore (told self.new) held
+            (with_operator held (option_copied registry.entry)) (operator_info info.now))) }
+        ensures fault { IfErr result (λ e. IsStoreFault e (faults self.old) (faults self.new)) };
+
+    /// What is kept of the log of a package in a registry. It is sound, and has the package's name.
+    fn load_package(
+        &mut self,
+        alloc: Global,
+        registry: Option<&RegistryDomain>,
+        name: &PackageName,
+    ) -> Result<Option<PackageInfo>, StoreError>
+        ensures never_falls { faults self.old ≤ faults self.new }
+        ensures kept { IfSome (told self.old) (Tells (told self.new)) }
+        ensures found { IfOk result (λ o. IfSome (told self.old) (λ held.
+            held.packages (option_copied registry.entry, name.now) ≡ entry_of (option_map package_info o))) }
+        ensures sound { IfOk result (λ o. IfSome o IsSoundPackage) }
+        ensures name { IfOk result (λ o. IfSome o (λ info. info.name ≡ name.now)) }
+        ensures fault { IfErr result (λ e. IsLoadFault e EntryKind.Package (faults self.old) (faults self.new)
+            (option_map (λ held. held.packages (option_copied registry.entry, name.now)) (told self.old))) };
+
+    /// Keeps the log of a package in a registry. A refusal leaves the old one, the new one, or what can't be read.
+    fn store_package(
+        &mut self,
+        alloc: Global,
+        registry: Option<&RegistryDomain>,
+        info: &PackageInfo,
+    ) -> Result<(), StoreError>
+        requires { IsSoundPackage info.now }
+        ensures never_falls { faults self.old ≤ faults self.new }
+        ensures stored { OnOk result (IfSome (told self.old) (λ held. Tells (told self.new)
+            (with_package held (option_copied registry.entry, info.now.name) (Whole (package_info info.now))))) }
+        ensures refused { OnErr result (IfSome (told self.old) (λ held. LeavesStore (told self.new) held
+            (with_package held (option_copied registry.entry, info.now.name)) (package_info info.now))) }
+        ensures fault { IfErr result (λ e. IsStoreFault e (faults self.old) (faults self.new)) };
+}
