@@ -1,5 +1,5 @@
 -- How a step advances with the reply of each stage, and which fault a reply has.
-use Rattle.std.proofs.Common.{◌≡◌, ◌<◌, ◌+◌, ◌⊎◌, arith, ◌++◌, ◌∷◌, [], inl, inr, List, ℕ, zero, suc, Bool, true, false, Option, Some, None, Ok, refl, sym, ◌∙◌, ap, subst}
+use Rattle.std.proofs.Common.{◌≡◌, ◌<◌, ◌+◌, ◌⊎◌, arith, ◌++◌, ◌∷◌, [], inl, inr, List, ℕ, true, Option, Some, None, Ok, refl, sym, ◌∙◌, subst}
 use Rattle.std.specs.Prelude.{Result, Err, IfOk, IfSome}
 use Rattle.warg_log.specs.Rules.{Accepts}
 use Rattle.warg_exchange.specs.declared.exchange.Exchange.{Exchange}
@@ -11,7 +11,7 @@ use Rattle.warg_exchange.specs.Requests.{Asker, checkpoint_request, inclusion_re
 use Rattle.warg_exchange.specs.Replies.{says, checkpoint_in}
 use Rattle.warg_update.specs.Logs.{Logs, indices_of}
 use Rattle.warg_update.specs.declared.error.AskError.{AskError}
-use Rattle.warg_update.specs.Proved.{page_request, Turns, Start, Asks, Opens, Shows, Proves, AsksCheckpoint, AsksInclusion, AsksConsistency}
+use Rattle.warg_update.specs.Proved.{page_request, Turns, Start, Asks, Opens, Proves, AsksCheckpoint, AsksInclusion, AsksConsistency}
 use Rattle.warg_update.specs.declared.error.UpdateError.{UpdateError}
 use Rattle.warg_update.specs.declared.stage.Stage.{Stage}
 use Rattle.warg_update.specs.declared.stage.Stage.TheVariants as stage
@@ -20,7 +20,7 @@ use Rattle.warg_info.specs.declared.operator.OperatorInfo.{OperatorInfo}
 use Rattle.warg_info.specs.declared.package.PackageInfo.{PackageInfo}
 use Rattle.warg_update.specs.Steps.{AreGood, IsGoodOperator}
 use Rattle.warg_update.specs.Views.{AreSound}
-use Rattle.warg_update.specs.Standing.{turns_in, request_in, request_at, logs_of, Reached, AreTrusted, IsReady, Stands, KeepsOn, Advances}
+use Rattle.warg_update.specs.Standing.{turns_in, request_in, request_at, logs_of, Reached, IsReady, Stands, KeepsOn, Advances}
 use Rattle.warg_update.specs.Stages.{IsTurned, AreShown, FollowsHeads, IsContinued}
 use Rattle.warg_update.specs.FeedFaults.{IsFaultIn, IsFeedFault}
 use Rattle.warg_update.proofs.PagesLaws.{opens-first, proves-continued}

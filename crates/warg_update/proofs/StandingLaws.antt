@@ -1,5 +1,5 @@
 -- What a step asks where it stands, and where it stands with the reply.
-use Rattle.std.proofs.Common.{◌≡◌, ◌<◌, ◌≤◌, arith, ◌++◌, ◌∷◌, [], ◌⊎◌, inl, inr, List, ℕ, zero, suc, Bool, true, false, Option, Some, None, refl, sym, ◌∙◌, ap, subst}
+use Rattle.std.proofs.Common.{◌≡◌, ◌<◌, ◌≤◌, arith, ◌++◌, ◌∷◌, [], ◌⊎◌, inl, inr, List, ℕ, Bool, true, false, Option, Some, None, refl, sym, ◌∙◌, ap, subst}
 use Rattle.std.specs.Prelude.{nat_lt, if◌then◌else◌}
 use Rattle.std.proofs.lemmas.Bool.{ltb-false}
 use Rattle.warg_log.specs.Rules.{Accepts}
@@ -10,15 +10,15 @@ use Rattle.warg_exchange.specs.declared.checkpoint.Checkpoint.{Checkpoint}
 use Rattle.warg_exchange.specs.declared.checkpoint.SignedCheckpoint.{SignedCheckpoint}
 use Rattle.warg_exchange.specs.Requests.{Asker, consistency_request}
 use Rattle.warg_update.specs.Logs.{Logs}
-use Rattle.warg_update.specs.Proved.{Turns, Start, Opens, Asks, for_checkpoint, for_page, for_inclusion, for_consistency, AsksInclusion, AsksConsistency, Succeeds}
+use Rattle.warg_update.specs.Proved.{Turns, Start, Opens, Asks, for_checkpoint, for_page, for_inclusion, for_consistency, AsksInclusion, Succeeds}
 use Rattle.warg_update.specs.Succession.{StandsTo}
 use Rattle.warg_update.specs.declared.succession.Succession.TheVariants as how
 use Rattle.warg_update.specs.declared.stage.Stage.{Stage}
 use Rattle.warg_update.specs.declared.stage.Stage.TheVariants as stage
 use Rattle.warg_update.specs.declared.step.UpdateStep.{UpdateStep}
-use Rattle.warg_update.specs.Standing.{request_in, request_at, logs_of, Reached, AreTrusted, IsReady, Stands, KeepsOn, Advances}
+use Rattle.warg_update.specs.Standing.{request_in, request_at, logs_of, Reached, AreTrusted, Stands, KeepsOn, Advances}
 use Rattle.warg_update.specs.Stages.{FollowsPage, FollowsHeads}
-use Rattle.warg_update.proofs.PagesLaws.{opens-first, opens-push, proves-all, proves-continued}
+use Rattle.warg_update.proofs.PagesLaws.{opens-push, proves-all}
 use Rattle.warg_update.proofs.AskedLaws.{asked-push}
 
 pub some-same : {A : Type 0} (x y : A) → Some x ≡ Some y → y ≡ x

@@ -1,6 +1,6 @@
 -- Why a reply that is fed to a step is refused: by the stage, the first fault in the order of the checks, and want of
 -- memory.
-use Rattle.std.specs.Prelude.{◌≡◌, ◌⊎◌, List, true, false, Option, Some, None, Ok}
+use Rattle.std.specs.Prelude.{◌≡◌, ◌⊎◌, false, Option, Some, None, Ok}
 use Rattle.warg_log.specs.Rules.{Accepts}
 use Rattle.warg_proof.specs.declared.fault.ProofFault.{ProofFault}
 use Rattle.warg_exchange.specs.declared.exchange.Reply.{Reply}

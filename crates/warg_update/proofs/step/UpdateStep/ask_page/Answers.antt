@@ -1,4 +1,4 @@
-use Rattle.std.proofs.Common.{◌≡◌, List, ℕ, Some, Option, refl, sym, ◌∙◌, ap, subst, map}
+use Rattle.std.proofs.Common.{◌≡◌, List, ℕ, Some, Option, sym, ◌∙◌, ap, subst, map}
 use Rattle.warg_exchange.specs.declared.exchange.Request.{Request}
 use Rattle.warg_exchange.specs.Requests.{logs_request}
 use Rattle.warg_request.specs.Asking.{asker_view}

@@ -1,8 +1,6 @@
 use Rattle.std.proofs.Common.{List, Option, refl, sym, subst}
-use Rattle.std.specs.List.{All}
 use Rattle.warg_exchange.specs.declared.checkpoint.SignedCheckpoint.{SignedCheckpoint}
 use Rattle.warg_info.specs.declared.package.PackageInfo.{PackageInfo}
-use Rattle.warg_info.specs.Info.{IsSoundPackage}
 use Rattle.warg_update.specs.Stages.{AreShown, FollowsHeads}
 use Rattle.warg_update.specs.Standing.{KeepsOn}
 use Rattle.warg_update.specs.Steps.{AreGood}

@@ -4,7 +4,7 @@ use Rattle.std.proofs.lemmas.Result.{IfOk-weaker}
 use Rattle.warg_exchange.specs.Requests.{Asker}
 use Rattle.url.specs.Parts.{serialize}
 use Rattle.warg_api.specs.declared.client.Client.{Client}
-use Rattle.warg_update.specs.Standing.{asker_of, request_at}
+use Rattle.warg_update.specs.Standing.{asker_of}
 use Rattle.warg_update.proofs.AdvanceLaws.{sound-of, asks-if-ok}
 use Rattle.warg_update.proofs.step.UpdateStep.next_request.Goals as goal
 
