@@ -1,6 +1,6 @@
 -- Why a reply that is fed to a step is refused: by the stage, the first fault in the order of the checks, and want of
 -- memory.
-use Rattle.std.specs.Prelude.{◌≡◌, ◌⊎◌, false, Option, Some, None, Ok}
+use Rattle.std.specs.Prelude.{◌≡◌, ◌⊎◌, Bool, true, false, Option, Some, None, Ok}
 use Rattle.warg_log.specs.Rules.{Accepts}
 use Rattle.warg_proof.specs.declared.fault.ProofFault.{ProofFault}
 use Rattle.warg_exchange.specs.declared.exchange.Reply.{Reply}
@@ -18,7 +18,8 @@ use Rattle.warg_api.specs.Errors.{fetch_error, logs_error, proof_error, inclusio
 use Rattle.warg_update.specs.Logs.{Logs, Brings, indices_of, leafs_of}
 use Rattle.warg_update.specs.Proved.{AreLawful}
 use Rattle.warg_update.specs.PageFaults.{IsPageFault}
-use Rattle.warg_update.specs.Presence.{IsPresenceFault}
+use Rattle.warg_update.specs.Presence.{IsPresenceFault, IsListedEmpty}
+use Rattle.warg_update.specs.declared.presence.PresenceError.{PresenceError}
 use Rattle.warg_update.specs.Signature.{IsSignatureFault}
 use Rattle.warg_update.specs.Succession.{StandsTo}
 use Rattle.warg_update.specs.declared.succession.Succession.TheVariants as how
@@ -41,23 +42,29 @@ IsCheckpointFault other reply = ⊥
 
 -- ---- a page
 
--- the reply gives a page, with which no more is to come, and it leaves these logs
-pub record EndsPages (before : Logs) (reply : Reply) (after : Logs) : Type 0 where
+-- the reply gives a page, which leaves these logs; whether more is to come
+pub record Leaves (before : Logs) (reply : Reply) (more : Bool) (after : Logs) : Type 0 where
   pub page : Page
   pub came : says page_in reply ≡ Ok page
-  pub last : page.more ≡ false
+  pub said : page.more ≡ more
   pub brings : Brings before page after
 
--- the reply gives no page; or it gives one with a fault; or it is the last page, and it leaves a log without a record; or
--- it leaves lawful logs, and no key of the operator's signed the checkpoint
+-- more is to come, and a package whose log the page lists is left without a record; or no more is, and a log is
+abbrev pub LeavesEmpty : PresenceError → Logs → Reply → Logs → Type 0
+LeavesEmpty e before reply after =
+    ((left : Leaves before reply true after) × IsListedEmpty e after.packages left.page.packages)
+    ⊎ (Leaves before reply false after × IsPresenceFault e after)
+
+-- the reply gives no page; or it gives one with a fault; or the page leaves a log without a record; or it is the last page
+-- and leaves lawful logs, and no key of the operator's signed the checkpoint
 abbrev pub IsTurnFault : UpdateError → Accepts → Logs → SignedCheckpoint → Reply → Type 0
 IsTurnFault (error.Api e) accepts logs c reply = (call_wants_memory e ≡ false) × IsReplyFault logs_error e reply page_in
 IsTurnFault (error.Page e) accepts logs c reply =
     (page_wants_memory e ≡ false) × (page : Page) × (says page_in reply ≡ Ok page) × IsPageFault e accepts logs page
 IsTurnFault (error.Presence e) accepts logs c reply =
-    (presence_wants_memory e ≡ false) × (after : Logs) × EndsPages logs reply after × IsPresenceFault e after
+    (presence_wants_memory e ≡ false) × (after : Logs) × LeavesEmpty e logs reply after
 IsTurnFault (error.Signature e) accepts logs c reply =
-    (signature_wants_memory e ≡ false) × (after : Logs) × EndsPages logs reply after × AreLawful accepts after
+    (signature_wants_memory e ≡ false) × (after : Logs) × Leaves logs reply false after × AreLawful accepts after
     × IsSignatureFault e accepts after.operator c
 IsTurnFault error.Memory accepts logs c reply = Unit {0}
 IsTurnFault other accepts logs c reply = ⊥

@@ -8,6 +8,7 @@ ghost use Rattle.warg_update.specs.Steps.{HaveIds, AreGood, IsGoodOperator};
 ghost use Rattle.warg_update.specs.Views.{logs_view};
 
 use crate::error::UpdateError;
+use crate::listed::check_listed;
 use crate::page::take_page;
 use crate::presence::check_presence;
 use crate::signature::check_signature;
@@ -22,7 +23,8 @@ use warg_log::Verifier;
 
 /// Takes the page that a reply gives, and answers the stage behind it.
 ///
-/// With the last page each log has to have a record, and a key of the operator's log has to have signed the checkpoint.
+/// Each package that the page lists has to have a record, with the last page each log, and then a key of the operator's
+/// log has to have signed the checkpoint.
 pub fn turn_page<V: Verifier>(
     alloc: Global,
     verifier: &V,
@@ -50,10 +52,12 @@ pub fn turn_page<V: Verifier>(
 {
     let page = read_logs(alloc, reply)?;
     take_page(alloc, verifier, ids, operator, packages, &page)?;
+    let kept = packages.as_slice();
     if page.more {
+        check_listed(alloc, kept, &page.packages)?;
         return Ok(Stage::Page);
     }
-    check_presence(alloc, operator, packages)?;
+    check_presence(alloc, operator, kept)?;
     check_signature(alloc, verifier, operator, checkpoint)?;
     Ok(Stage::Inclusion)
 }
