@@ -15,9 +15,7 @@ use std::alloc::Global;
 use warg_exchange::{Reply, SignedCheckpoint};
 use warg_info::OperatorInfo;
 use warg_log::Verifier;
-use warg_update::{
-    SignatureError, Succession, UpdateError, UpdateStep, check_signature, compare,
-};
+use warg_update::{SignatureError, Succession, UpdateError, UpdateStep, check_signature, compare};
 
 /// How a registry's checkpoint stands to the stored one, where a key of its operator signed it.
 pub fn believe<V: Verifier>(
