@@ -18,29 +18,29 @@ abbrev pub Asks : {T : Type 0} → (T → Asked → T → Type 0) → T → Requ
     → (Reply → Type 0) → Type 0
 Asks Steps old request new Is = (reply : Reply) × Steps old (answered request reply) new × Is reply
 
--- the error is what the registry answered in place of what was asked, as this call tells it
-abbrev pub IsAnswer : {T Y : Type 0} → (Reply → ServiceError → ClientError) → ClientError
-    → (T → Asked → T → Type 0) → T → Request → T → (Data → Meaning Y) → Type 0
-IsAnswer told e Steps old request new f =
-    Asks Steps old request new
-    (λ reply. (x : ServiceError) × (says f reply ≡ Err (Refused x)) × (e ≡ told reply x))
+-- a reply that is read by f has no meaning, as this error tells it; or memory ran out
+abbrev pub IsMeaningless : {Y : Type 0} → ClientError → Reply → (Data → Meaning Y) → Type 0
+IsMeaningless (error.UnexpectedResponse status message) reply f =
+    (reply.status ≡ status) × (says f reply ≡ Err (NoMeaning Unexpected))
+IsMeaningless (error.Hash text) reply f = says f reply ≡ Err (NoMeaning (NoHash text))
+IsMeaningless error.Memory reply f = Unit {0}
+IsMeaningless other reply f = ⊥
 
--- there was no reply; or it has no meaning; or memory ran out, before the request was sent or after it was answered
-abbrev pub IsNoMeaning : {T Y : Type 0} → ClientError → (T → Asked → T → Type 0) → T → Request → T
+-- why a reply that is read by f gives no value: the registry answered an error in place of what was asked, as this call
+-- tells it; or the reply has no meaning
+abbrev pub IsReplyFault : {Y : Type 0} → (Reply → ServiceError → ClientError) → ClientError → Reply
     → (Data → Meaning Y) → Type 0
-IsNoMeaning error.LinkFault Steps old request new f = Steps old (unanswered request) new
-IsNoMeaning (error.UnexpectedResponse status message) Steps old request new f =
-    Asks Steps old request new (λ reply. (reply.status ≡ status) × (says f reply ≡ Err (NoMeaning Unexpected)))
-IsNoMeaning (error.Hash text) Steps old request new f =
-    Asks Steps old request new (λ reply. says f reply ≡ Err (NoMeaning (NoHash text)))
-IsNoMeaning error.Memory Steps old request new f = (new ≡ old) ⊎ Asks Steps old request new (λ reply. Unit {0})
-IsNoMeaning other Steps old request new f = ⊥
+IsReplyFault told e reply f =
+    ((x : ServiceError) × (says f reply ≡ Err (Refused x)) × (e ≡ told reply x)) ⊎ IsMeaningless e reply f
 
--- why a call that sends this request, whose reply is read by f, gives no value
+-- why a call that sends this request, whose reply is read by f, gives no value: there was no reply; or memory ran out
+-- before the request was sent; or it was answered, and the reply gives none
 abbrev pub IsAskFault : {T Y : Type 0} → (Reply → ServiceError → ClientError) → ClientError
     → (T → Asked → T → Type 0) → T → Request → T → (Data → Meaning Y) → Type 0
 IsAskFault told e Steps old request new f =
-    IsAnswer told e Steps old request new f ⊎ IsNoMeaning e Steps old request new f
+    ((e ≡ error.LinkFault) × Steps old (unanswered request) new)
+    ⊎ ((e ≡ error.Memory) × (new ≡ old))
+    ⊎ Asks Steps old request new (λ reply. IsReplyFault told e reply f)
 
 -- the same of a client's call, which sends nothing where the registry's name or the token can't be sent
 abbrev pub IsCallFault : {T Y : Type 0} → Asker → (Reply → ServiceError → ClientError) → ClientError

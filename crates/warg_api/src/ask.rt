@@ -12,17 +12,13 @@ ghost use Rattle.warg_api.specs.declared.error.ClientError.TheVariants.{LinkFaul
 
 use crate::error::{ClientError, Other};
 use crate::link::Link;
+use crate::reply::read_as;
 use crate::service::Service;
 use std::alloc::Global;
 use warg_body::LinkError;
 use warg_exchange::Request;
-use warg_json::{BodyError, FromBody, ReplyError, read_reply};
+use warg_json::FromBody;
 use warg_url::HeaderError;
-use warg_values::Memory;
-
-/// What is wrong with a reply that is not of the form that is asked.
-pub const UNEXPECTED: &str =
-    "the reply is not the JSON that was asked for: check that this is the URL of a registry";
 
 /// Sends a request, and reads what its reply says.
 fn ask<L: Link, T: FromBody, S: Service>(
@@ -42,19 +38,7 @@ fn ask<L: Link, T: FromBody, S: Service>(
         Err(LinkError::Failed) => return Err(ClientError::LinkFault),
         Err(LinkError::Memory) => return Err(ClientError::Memory),
     };
-    match read_reply(alloc, &reply) {
-        Ok(value) => Ok(value),
-        Err(ReplyError::NoMeaning(BodyError::Memory)) => Err(ClientError::Memory),
-        Err(ReplyError::NoMeaning(BodyError::NoHash(text))) => Err(ClientError::Hash(text)),
-        Err(ReplyError::NoMeaning(BodyError::Unexpected)) => Err(ClientError::UnexpectedResponse {
-            status: reply.status,
-            message: UNEXPECTED,
-        }),
-        Err(ReplyError::Refused(error)) => match S::client_error(error, &reply) {
-            Ok(error) => Err(error),
-            Err(Memory) => Err(ClientError::Memory),
-        },
-    }
+    read_as::<T, S>(alloc, &reply)
 }
 
 /// Sends the request of a call, where it could be built, and reads what its reply says.

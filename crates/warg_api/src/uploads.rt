@@ -8,10 +8,10 @@ ghost use Rattle.warg_api.specs.Calls.{Asks};
 ghost use Rattle.warg_api.specs.Uploads.{upload, Sends, IsUnsendable, IsUnacknowledged, IsUntaken, IsUploadFailure};
 ghost use Rattle.warg_api.specs.declared.error.ClientError.TheVariants.{LinkFault as Faulted};
 
-use crate::ask::UNEXPECTED;
 use crate::client::Client;
 use crate::error::ClientError;
 use crate::link::Link;
+use crate::reply::UNEXPECTED;
 use indexmap::IndexMap;
 use std::alloc::Global;
 use warg_body::LinkError;

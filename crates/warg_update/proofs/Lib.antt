@@ -6,3 +6,8 @@ pub mod PlaceLaws
 pub mod PageLaws
 pub mod PresenceLaws
 pub mod Rows
+pub mod ToldLaws
+pub mod AskedLaws
+pub mod StandingLaws
+pub mod DistinctLaws
+pub mod AdvanceLaws

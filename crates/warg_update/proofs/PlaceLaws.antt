@@ -44,7 +44,7 @@ new_key t (x ∷ xs) k sound absent = by_test (t x) refl (new_key t xs k sound (
 pub goes-last : (t : List ℕ → Bool) (keys news : List (List ℕ)) (k : List ℕ) → ((x : List ℕ) → t x ≡ true → k ≡ x) → ((i : ℕ) → slice_get keys i ≢ Some k) → news ≡ cond (list_any t keys) keys (keys ++ k ∷ []) → news ≡ keys ++ k ∷ []
 goes-last t keys news k sound absent is = is ∙ rw (new_key t keys k sound absent) refl
 
-in-front : (xs : List (List ℕ)) (n i : ℕ) (x : List ℕ) → slice_get (take n xs) i ≡ Some x → (i < n) × (slice_get xs i ≡ Some x)
+pub in-front : (xs : List (List ℕ)) (n i : ℕ) (x : List ℕ) → slice_get (take n xs) i ≡ Some x → (i < n) × (slice_get xs i ≡ Some x)
 in-front xs zero i x there = absurd cc
 in-front [] (suc n) i x there = absurd cc
 in-front (y ∷ xs) (suc n) zero x there = (omega arith, there)

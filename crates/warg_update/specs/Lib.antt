@@ -6,3 +6,8 @@ pub mod Views
 pub mod Steps
 pub mod PageFaults
 pub mod Presence
+pub mod Errors
+pub mod Standing
+pub mod Stages
+pub mod FeedFaults
+pub mod IdFaults

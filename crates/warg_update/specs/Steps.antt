@@ -1,5 +1,5 @@
 -- The packages of an update, and where they are found by the ids of their logs.
-use Rattle.std.specs.Prelude.{◌≡◌, ℕ, List, map, Some, slice_get}
+use Rattle.std.specs.Prelude.{◌≡◌, ◌<◌, ℕ, List, map, Some, slice_get}
 use Rattle.std.specs.List.{All}
 use Rattle.warg_hash.specs.Hash.{package_log_id}
 use Rattle.warg_record.specs.Record.{Package, Operator}
@@ -14,6 +14,10 @@ id_of info = package_log_id info.name
 -- no two are the same
 abbrev pub AreDistinct : List (List ℕ) → Type 0
 AreDistinct ids = (i j : ℕ) (id : List ℕ) → slice_get ids i ≡ Some id → slice_get ids j ≡ Some id → i ≡ j
+
+-- an id stands at two places
+abbrev pub IsTwice : List (List ℕ) → List ℕ → Type 0
+IsTwice ids id = (i j : ℕ) × (i < j) × (slice_get ids i ≡ Some id) × (slice_get ids j ≡ Some id)
 
 -- these are the ids of the packages' logs, in order, and no two are the same
 pub record HaveIds (ids : List (List ℕ)) (infos : List PackageInfo) : Type 0 where

@@ -31,7 +31,7 @@ pub enum PresenceError {
 }
 
 /// That a package's log has no record.
-fn empty_log(alloc: Global, info: &PackageInfo) -> PresenceError
+pub fn empty_log(alloc: Global, info: &PackageInfo) -> PresenceError
     ensures { (result ≡ WantsMemory) ⊎ (result ≡ LogEmpty info.now.name) }
 {
     match info.name.try_clone(alloc) {

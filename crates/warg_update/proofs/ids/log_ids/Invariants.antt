@@ -3,4 +3,4 @@ use Rattle.warg_update.specs.Steps.{id_of, AreDistinct}
 use Rattle.warg_update.proofs.ids.log_ids.Given as goal
 
 abbrev pub invariant-loop-package : goal.invariant-loop-package
-invariant-loop-package l = AreDistinct (map id_of l.packages) → l.ids.keys ≡ map id_of (take l.package-index l.packages)
+invariant-loop-package l = record { in_order : l.ids.keys ≡ map id_of (take l.package-index l.packages); distinct : AreDistinct l.ids.keys }
