@@ -46,7 +46,8 @@ abbrev pub IsContentFault : StoreError → List ℕ → ℕ → ℕ → Option (
 IsContentFault error.Failed digest before after held = Rose before after
 IsContentFault (error.Damaged kind) digest before after held = ⊥
 IsContentFault (error.IncorrectContent found expected) digest before after held =
-    (expected ≡ digest) × (found ≢ digest) × IfSome held (λ o. (bytes : List ℕ) × (o ≡ Some bytes) × (found ≡ sha256 bytes))
+    (expected ≡ digest) × (found ≢ digest)
+    × IfSome held (λ o. (bytes : List ℕ) × (o ≡ Some bytes) × (found ≡ sha256 bytes))
 IsContentFault error.Memory digest before after held = Unit {0}
 
 -- why a store of a content is refused: the store failed, or the bytes have not the digest that is expected
@@ -59,8 +60,8 @@ IsStoreContentFault error.Memory bytes wanted before after = Unit {0}
 
 -- ---- calls that are to fail
 
--- the contents after a store of bytes, which may be to fail and leave this: what can't be read are the bytes without the
--- last one
+-- the contents after a store of bytes, which may be to fail and leave this: what can't be read are the bytes without
+-- the last one
 abbrev pub AreContentsAfter : Option After → Contents → List ℕ → List ℕ → Contents → Type 0
 AreContentsAfter None held digest bytes now = SameContents now (with_content held digest bytes)
 AreContentsAfter (Some after.Old) held digest bytes now = SameContents now held

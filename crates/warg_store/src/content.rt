@@ -13,8 +13,8 @@ use warg_values::Text;
 
 /// Keeps contents by their digests.
 ///
-/// A content whose bytes have another digest can't be read. An implementation in memory tells which bytes there are, and
-/// each has a count of faults, by which a caller knows that the outside failed.
+/// A content whose bytes have another digest can't be read. An implementation in memory tells which bytes there are,
+/// and each has a count of faults, by which a caller knows that the outside failed.
 pub trait ContentStorage: Drop {
     /// How many calls failed so far.
     ghost faults: { Self → ℕ };

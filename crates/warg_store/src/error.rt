@@ -28,7 +28,7 @@ pub enum StoreError {
     #[error("the store could not be read or written: check its permissions and the disk")]
     Failed,
     /// An entry of this kind can't be read.
-    #[error("an entry of the store is damaged: reset the stored state of this registry")]
+    #[error("an entry of the store can't be read: reset what is stored")]
     Damaged(EntryKind),
     /// A content has not the digest that was asked.
     #[error("a content has the digest {digest} where {expected} was asked: clear the stored contents and try again")]

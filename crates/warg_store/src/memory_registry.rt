@@ -144,7 +144,8 @@ impl MemoryRegistry {
     ) -> Result<(), Memory>
         requires { IsSoundOperator info.now }
         ensures put { OnOk result (IsAfterStore failing (held_in self.old)
-            (with_operator (held_in self.old) (option_copied registry.entry)) (operator_info info.now) (held_in self.new)) }
+            (with_operator (held_in self.old) (option_copied registry.entry)) (operator_info info.now)
+            (held_in self.new)) }
         ensures unchanged { OnErr result (SameHeld (held_in self.new) (held_in self.old)) }
         ensures schedule { schedule_in self.new ≡ schedule_in self.old }
     {
@@ -163,7 +164,8 @@ impl MemoryRegistry {
     ) -> Result<(), Memory>
         requires { IsSoundPackage info.now }
         ensures put { OnOk result (IsAfterStore failing (held_in self.old)
-            (with_package (held_in self.old) (option_copied registry.entry, info.now.name)) (package_info info.now) (held_in self.new)) }
+            (with_package (held_in self.old) (option_copied registry.entry, info.now.name)) (package_info info.now)
+            (held_in self.new)) }
         ensures unchanged { OnErr result (SameHeld (held_in self.new) (held_in self.old)) }
         ensures schedule { schedule_in self.new ≡ schedule_in self.old }
     {

@@ -41,8 +41,8 @@ pub trait NamespaceMapStorage: Drop {
         ensures refused { OnErr result (IfSome (told self.old) (LeavesNamesReset (told self.new))) }
         ensures fault { IfErr result (λ e. IsStoreFault e (faults self.old) (faults self.new)) };
 
-    /// Keeps the registry of a namespace. Where what is held can't be read the answer is `Damaged`, and nothing changes.
-    /// Another refusal leaves what was held, the names with this one, or what can't be read.
+    /// Keeps the registry of a namespace. Where what is held can't be read the answer is `Damaged`, and nothing
+    /// changes. Another refusal leaves what was held, the names with this one, or what can't be read.
     fn store_namespace(
         &mut self,
         alloc: Global,

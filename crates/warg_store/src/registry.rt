@@ -14,8 +14,8 @@ use warg_url::RegistryDomain;
 
 /// Keeps checkpoints and logs of registries. The home registry is the one without a name.
 ///
-/// An implementation in memory tells which entries there are, and each has a count of faults, by which a caller knows that
-/// the outside failed.
+/// An implementation in memory tells which entries there are, and each has a count of faults, by which a caller knows
+/// that the outside failed.
 pub trait RegistryStorage: Drop {
     /// How many calls failed so far.
     ghost faults: { Self → ℕ };

@@ -1,6 +1,5 @@
 //! Resets of slots in memory.
 
-ghost use Rattle.std.specs.Prelude.{◌≡◌, filter, not};
 ghost use Rattle.warg_store.specs.Entry.{SameEntries, without_entries};
 ghost use Rattle.warg_store.specs.Held.{is_registry, is_package, is_reset};
 ghost use Rattle.warg_store.specs.Slots.{entries_in};

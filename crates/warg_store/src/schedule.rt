@@ -74,7 +74,8 @@ impl StoreSchedule {
         fails
     }
 
-    /// Counts a call that changes entries, and tells its answer, by what was planned and whether there was memory for it.
+    /// Counts a call that changes entries, and tells its answer, by what was planned and whether there was memory for
+    /// it.
     pub fn finish(
         &mut self,
         failing: Option<After>,
