@@ -22,25 +22,67 @@ const FRESH: [(&[&str], &str); 13] = [
     (&[CHECKPOINT, PAGE, INCLUSION], "proved 1 2"),
     (&[CHECKPOINT, FRONT, REST, INCLUSION], "proved 1 2"),
     (&[INCLUSION], "the reply"),
-    (&[CHECKPOINT, DAMAGED], "the log of a:b: a published record has not the form of a signed record"),
+    (
+        &[CHECKPOINT, DAMAGED],
+        "the log of a:b: a published record has not the form of a signed record",
+    ),
     (&[CHECKPOINT, UNLAWFUL], "the log of a:b: "),
     (&[CHECKPOINT, OTHER_LOG], "the registry sends the log"),
-    (&[CHECKPOINT, NO_OPERATOR], "the registry sends no record of its operator's log"),
-    (&[CHECKPOINT, NO_PACKAGE], "the registry sends no record of a:b"),
+    (
+        &[CHECKPOINT, NO_OPERATOR],
+        "the registry sends no record of its operator's log",
+    ),
+    (
+        &[CHECKPOINT, NO_PACKAGE],
+        "the registry sends no record of a:b",
+    ),
     (&[OTHER_KEY, PAGE], "the checkpoint is signed with the key"),
-    (&[UNSIGNED, PAGE], "the checkpoint's signature is not its key's"),
+    (
+        &[UNSIGNED, PAGE],
+        "the checkpoint's signature is not its key's",
+    ),
     (&[OTHER_ROOT, PAGE, INCLUSION], "a proof gives the root"),
-    (&[CHECKPOINT, PAGE, HALF], "the bundle does not hold the proofs"),
-    (&[CHECKPOINT, FRONT, FRONT, FRONT], "the registry sends more pages than the limit allows"),
+    (
+        &[CHECKPOINT, PAGE, HALF],
+        "the bundle does not hold the proofs",
+    ),
+    (
+        &[CHECKPOINT, FRONT, FRONT, FRONT],
+        "the registry sends more pages than the limit allows",
+    ),
 ];
 
 /// The length and the roots of a stored checkpoint, the bodies that come, and what becomes of the update.
 const STORED: [(u64, &str, &str, &[&str], &str); 5] = [
     (3, ROOT, MAP, &[CHECKPOINT, PAGE, INCLUSION], "proved 1 2"),
-    (1, FIRST_ROOT, FIRST_MAP, &[CHECKPOINT, PAGE, INCLUSION, CONTINUES], "proved 1 2"),
-    (1, FIRST_ROOT, FIRST_MAP, &[CHECKPOINT, PAGE, INCLUSION, FORKED], "a proof gives the root"),
-    (4, ROOT, MAP, &[CHECKPOINT, PAGE, INCLUSION], "the registry's log has 3 records, and had 4"),
-    (3, FIRST_ROOT, MAP, &[CHECKPOINT, PAGE, INCLUSION], "the registry's log of 3 records is another"),
+    (
+        1,
+        FIRST_ROOT,
+        FIRST_MAP,
+        &[CHECKPOINT, PAGE, INCLUSION, CONTINUES],
+        "proved 1 2",
+    ),
+    (
+        1,
+        FIRST_ROOT,
+        FIRST_MAP,
+        &[CHECKPOINT, PAGE, INCLUSION, FORKED],
+        "a proof gives the root",
+    ),
+    (
+        4,
+        ROOT,
+        MAP,
+        &[CHECKPOINT, PAGE, INCLUSION],
+        "the registry's log has 3 records, and had 4",
+    ),
+    (
+        3,
+        FIRST_ROOT,
+        MAP,
+        &[CHECKPOINT, PAGE, INCLUSION],
+        "the registry's log of 3 records is another",
+    ),
 ];
 
 /// The update of the package `a:b` and of its registry's operator, of which nothing is kept.
@@ -100,7 +142,10 @@ fn run(
             return Ok(format!(in alloc; "{error}")?);
         }
     }
-    proved(alloc, step)
+    match ask(alloc, step, client) {
+        Ok(_) => proved(alloc, step),
+        Err(error) => Ok(format!(in alloc; "{error}")?),
+    }
 }
 
 /// A file of replies with these bodies.
@@ -119,7 +164,11 @@ fn file(alloc: Global, bodies: &[&str]) -> Result<String, Fail> {
 }
 
 /// What becomes of an update over replies with these bodies, behind a stored checkpoint.
-fn outcome(alloc: Global, stored: Option<SignedCheckpoint>, bodies: &[&str]) -> Result<String, Fail> {
+fn outcome(
+    alloc: Global,
+    stored: Option<SignedCheckpoint>,
+    bodies: &[&str],
+) -> Result<String, Fail> {
     let client = Client::new(alloc, "https://home.test", None)?;
     let verifier = read_checked(alloc, CHECKED.as_bytes())?;
     let replies = read_replies(alloc, file(alloc, bodies)?.as_bytes())?;
@@ -128,7 +177,12 @@ fn outcome(alloc: Global, stored: Option<SignedCheckpoint>, bodies: &[&str]) -> 
 }
 
 /// A checkpoint that was stored.
-fn checkpoint(alloc: Global, log_length: u64, log_root: &str, map_root: &str) -> Result<SignedCheckpoint, Fail> {
+fn checkpoint(
+    alloc: Global,
+    log_length: u64,
+    log_root: &str,
+    map_root: &str,
+) -> Result<SignedCheckpoint, Fail> {
     Ok(SignedCheckpoint {
         contents: Checkpoint {
             log_length,
@@ -145,7 +199,10 @@ fn checkpoint(alloc: Global, log_length: u64, log_root: &str, map_root: &str) ->
 fn an_update_proves_logs_or_tells_the_first_fault(rt: HostRuntime) -> Result<(), Fail> {
     for (bodies, expected) in FRESH.as_slice() {
         let found = outcome(rt.alloc(), None, bodies)?;
-        assert!(rt; found.starts_with(*expected), "{found} where {expected} was to come");
+        assert!(rt;
+            found.starts_with(*expected),
+            "{found} where {expected} was to come"
+        );
     }
     Ok(())
 }
@@ -155,7 +212,10 @@ fn an_update_continues_the_stored_checkpoint_or_is_refused(rt: HostRuntime) -> R
     for (length, log_root, map_root, bodies, expected) in STORED.as_slice() {
         let stored = checkpoint(rt.alloc(), *length, log_root, map_root)?;
         let found = outcome(rt.alloc(), Some(stored), bodies)?;
-        assert!(rt; found.starts_with(*expected), "{found} where {expected} was to come");
+        assert!(rt;
+            found.starts_with(*expected),
+            "{found} where {expected} was to come"
+        );
     }
     Ok(())
 }

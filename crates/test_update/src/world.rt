@@ -180,10 +180,12 @@ pub const CHECKED: &str =
     r#"[{"key":"k:AA==","signature":"s:AA==","text":"a92e20c65019fcc292833d838f060127d81d86c602b8020ae340e8efbbb346d6"},{"key":"k:AA==","signature":"s:AA==","text":"cebf39bae8deb0363d3a98dff1c47f9ae9cd0f12d9d8919211d2ec3daf788bbb"},{"key":"k:AA==","signature":"s:AA==","text":"5bd67597700aeb3bef7b2451b463c25c00eb462ca6fe886a400c7def3333c1ea"},{"key":"k:AA==","signature":"s:AA==","text":"53e25b4e8fe2a8fa3c51a8eea40ffb37b9c3e95e778742e0296f098acecb928e"},{"key":"k:AA==","signature":"s:AA==","text":"dbf1344b4983086a9bd5617749a4bc3dd23d9b8a10123e6845f231efe6a979ee"},{"key":"k:AA==","signature":"s:AA==","text":"53e25b4e8fe2a8fa3c51a8eea40ffb37b9c3e95e778742e0296f098acecb928e"}]"#;
 
 /// The root of the log of one record.
-pub const FIRST_ROOT: &str = "sha256:19ead370a9369e574e51bc4849beb17de6941ef0a39b69c58a08a102f6b9952b";
+pub const FIRST_ROOT: &str =
+    "sha256:19ead370a9369e574e51bc4849beb17de6941ef0a39b69c58a08a102f6b9952b";
 
 /// The root of the map of one record.
-pub const FIRST_MAP: &str = "sha256:ef2b7ba899c14c3330d039e653843d0b59c81c497419a72bddeb1e98a20f3d94";
+pub const FIRST_MAP: &str =
+    "sha256:ef2b7ba899c14c3330d039e653843d0b59c81c497419a72bddeb1e98a20f3d94";
 
 /// The root of the log of three records.
 pub const ROOT: &str = "sha256:cc38ce08027bd03e9779f3181782452bb5468e76a5a4e169d4db1459b0abf646";
