@@ -210,16 +210,23 @@ def checked_lines():
     return f"/// The signatures that are accepted.\npub const CHECKED: &str =\n    r#\"[{rows}]\"#;\n"
 
 
+def constant(name, what, value):
+    line = f"pub const {name}: &str = \"{value}\";"
+    if len(line) > 100:
+        line = f"pub const {name}: &str =\n    \"{value}\";"
+    return f"/// {what}\n{line}\n"
+
+
 def main():
     told = contents(1)
     parts = ["//! What a small registry replies in updates: `world.py` wrote this file.\n"]
     parts += [lines(name, what, body(value)) for name, what, value in REPLIES]
     parts.append(checked_lines())
-    parts.append(f"/// The root of the log of one record.\npub const FIRST_ROOT: &str = \"{told['logRoot']}\";\n")
-    parts.append(f"/// The root of the map of one record.\npub const FIRST_MAP: &str = \"{told['mapRoot']}\";\n")
-    parts.append(f"/// The root of the log of three records.\npub const ROOT: &str = \"{contents(3)['logRoot']}\";\n")
-    parts.append(f"/// The root of the map of three records.\npub const MAP: &str = \"{contents(3)['mapRoot']}\";\n")
-    parts.append(f"/// The id of the key that signs.\npub const KEY_ID: &str = \"{text(sha(KEY.encode()))}\";\n")
+    parts.append(constant("FIRST_ROOT", "The root of the log of one record.", told['logRoot']))
+    parts.append(constant("FIRST_MAP", "The root of the map of one record.", told['mapRoot']))
+    parts.append(constant("ROOT", "The root of the log of three records.", contents(3)['logRoot']))
+    parts.append(constant("MAP", "The root of the map of three records.", contents(3)['mapRoot']))
+    parts.append(constant("KEY_ID", "The id of the key that signs.", text(sha(KEY.encode()))))
     with open(os.path.join(os.path.dirname(os.path.abspath(__file__)), "src", "world.rt"), "w") as out:
         out.write("\n".join(parts))
 
