@@ -38,6 +38,11 @@ pub fn can_be_given_loosely(
     let asked = table.intern(alloc, asked)?;
     let loose_given = loosened(table, alloc, given.0)?;
     let loose_asked = loosened(table, alloc, asked.0)?;
-    let answer = fits_loosely(table, alloc, TypeNumber(loose_given), TypeNumber(loose_asked))?;
+    let answer = fits_loosely(
+        table,
+        alloc,
+        TypeNumber(loose_given),
+        TypeNumber(loose_asked),
+    )?;
     Ok(answer)
 }
