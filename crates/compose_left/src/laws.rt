@@ -3,9 +3,12 @@
 //! Origins, and the numbers for them, are those of `specs/Origins`.
 
 ghost use Rattle.std.specs.Prelude.{◌≡◌, ℕ};
-ghost use Rattle.compose_left.specs.Numbers.{HasNumber, OriginList};
-ghost use Rattle.compose_left.specs.Origins.{follow, number_in, origin, step_from};
+ghost use Rattle.comp_entity.specs.Names.{changing};
+ghost use Rattle.compose_left.specs.Numbers.{AreOrigins, HasNumber, OriginList};
+ghost use Rattle.compose_left.specs.Origins.{follow, number_in, of_resource, of_type, origin, step_from};
+ghost use Rattle.compose_left.specs.Renaming.{placed_resource, placed_type};
 ghost use Rattle.compose_left.specs.Wiring.{HasNoCircle, Wiring};
+ghost use Rattle.compose_left.specs.declared.known.Origins.{Origins};
 ghost use Rattle.compose_left.specs.declared.origin.Held.{Held};
 ghost use Rattle.compose_left.specs.declared.origin.Origin.{Origin};
 
@@ -18,4 +21,10 @@ pub fn origins_pass_along_wires()
 pub fn no_two_origins_have_one_number()
     ensures { (instances : ℕ) (table : OriginList) (a b : Origin) → HasNumber instances table a
         → HasNumber instances table b → number_in instances table a ≡ number_in instances table b → a ≡ b }
+{}
+
+/// What `Origins` call the things of an instance, one by one, is what they are called in a placed entity.
+pub fn origins_call_things_as_placed()
+    ensures { (o : Origins) (w : Wiring) (at : ℕ) → AreOrigins o w → HasNoCircle w
+        → changing (placed_resource o at) (placed_type o at) ≡ changing (of_resource w at) (of_type w at) }
 {}

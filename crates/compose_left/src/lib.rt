@@ -24,4 +24,4 @@ pub use known::Origins;
 pub use merge::MergedImport;
 pub use origin::Origin;
 pub use path::Path;
-pub use wiring::{Wire, follows_order};
+pub use wiring::{Input, Wire, follows_order, wires_by_import};
