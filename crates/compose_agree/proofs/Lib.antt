@@ -1,3 +1,4 @@
-mod TurnLaws
-mod OrderLaws
-mod CaseLaws
+pub mod OrderLaws
+pub mod LeftLaws
+pub mod TurnLaws
+pub mod CaseLaws

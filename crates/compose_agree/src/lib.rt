@@ -6,6 +6,7 @@
 pub mod laws;
 mod letter_case;
 mod order;
+mod turns;
 
 pub use letter_case::{CaseClash, Named, case_clash};
 pub use order::{Order, order_of};

@@ -10,6 +10,7 @@ pub mod RenameLaws
 pub mod CopyLaws
 pub mod PlacedLaws
 pub mod OnceLaws
+pub mod ImportLaws
 pub mod MergeLaws
 pub mod OrderLaws
 pub mod Rows

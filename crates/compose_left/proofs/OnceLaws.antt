@@ -27,7 +27,7 @@ of_key k (origins.Left n x) = cond k.is_given (origins.Given k.instance k.path) 
 of_key k (origins.Given i x) = cond k.is_given (origins.Given k.instance k.path) (origins.Made 0 0)
 of_key k (origins.Made i n) = origins.Made i n
 
-same_is : (a b : Origin) → is_made a ≡ false → is_made b ≡ false → same_origin a b ≡ true → a ≡ b
+pub same_is : (a b : Origin) → is_made a ≡ false → is_made b ≡ false → same_origin a b ≡ true → a ≡ b
 same_is (origins.Left n x) (origins.Left m y) p q e = ap (λ (k : OriginKey). of_key k (origins.Left n x)) (key_is (origin_key (origins.Left n x)) (origin_key (origins.Left m y)) (key_alike (origins.Left n x) (origins.Left m y) q ∙ e))
 same_is (origins.Left n x) (origins.Given j y) p q e = absurd cc
 same_is (origins.Left n x) (origins.Made j m) p q e = absurd cc

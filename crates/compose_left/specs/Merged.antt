@@ -10,6 +10,7 @@ use Rattle.comp_entity.specs.Entity.{EntityTree, IsInstance}
 use Rattle.comp_entity.specs.declared.entity.Entity.{Entity}
 use Rattle.comp_entity.specs.Views.{entity_tree, entries_of, named_entities}
 use Rattle.compose_left.specs.declared.merge.MergedImport.{MergedImport}
+use Rattle.compose_left.specs.declared.spots.Spot.{Spot}
 
 -- an entity under a name, and some
 abbrev pub NamedEntity : Type 0
@@ -43,6 +44,10 @@ merged_of (Some e) es = entity_tree e
 
 abbrev pub merged : MergedImport → EntityTree
 merged m = merged_of m.other (named_entities m.exports.items)
+
+-- what those that need a left import name as resources and as types, in the order in which they were merged
+abbrev pub calls : MergedImport → List Spot
+calls m = m.called.items
 
 -- the exports are found by their names
 abbrev pub IsOther : Option Entity → Type 0

@@ -1,6 +1,6 @@
 -- Origin: where a resource or a named type of an instance comes from. At a path of an import that is wired, it is what
 -- the source of the wire exports there; of an import that is left open, it is the import's.
-use Rattle.std.specs.Prelude.{ℕ, zero, suc, ◌+◌, ◌*◌, Bool, true, false, ◌&&◌, ◌||◌, List, [], ◌∷◌, ◌++◌, length, map, find, fold, Option, Some, None, option_map, slice_get, ◌==◌, if◌then◌else◌, bytes_eq}
+use Rattle.std.specs.Prelude.{ℕ, zero, suc, ◌+◌, ◌*◌, Bool, true, false, ◌&&◌, ◌||◌, List, [], ◌∷◌, ◌++◌, length, map, find, fold, Option, Some, None, option_map, option_and_then, slice_get, ◌/◌, ◌%◌, ◌==◌, if◌then◌else◌, bytes_eq}
 use Rattle.std.specs.List.{list_any}
 use Rattle.std.specs.Cmp.Lexicographic.{pointwise}
 use Rattle.comp_entity.specs.Entity.{Name, made, EntityTree, ShapeTree}
@@ -133,3 +133,11 @@ of_type w i n = made (number_of w (record { instance = i; thing = named_type n }
 -- an entity of an instance, with the numbers of origins in place
 abbrev pub placed : Wiring → ℕ → EntityTree → EntityTree
 placed w i e = entity_by (changing (of_resource w i) (of_type w i)) 0 e
+
+-- the left import of an origin, and that of the origin of a number
+abbrev pub import_of : Origin → Option (List ℕ)
+import_of (origins.Left n x) = Some n
+import_of _ = None
+
+abbrev pub import_at : ℕ → List Origin → ℕ → Option (List ℕ)
+import_at instances os n = if n % suc instances == instances then option_and_then import_of (slice_get os (n / suc instances)) else None

@@ -23,9 +23,16 @@ no_change = record { resource = λ depth n. n; place = λ depth n. Some n; mark 
 abbrev pub number_at : Origins → ℕ → Thing → Name
 number_at o at t = made (number_held o (record { instance = at; thing = t }))
 
+-- what a resource, and a place that named a type, of an instance are called by the numbers of their origins
+abbrev pub placed_resource : Origins → ℕ → Name → Name
+placed_resource o at n = number_at o at (resource n)
+
+abbrev pub placed_type : Origins → ℕ → Name → Name
+placed_type o at n = number_at o at (named_type n)
+
 abbrev pub change_of : Renaming → Change
 change_of renaming.Same = no_change
-change_of (renaming.Placed origins at) = changing (λ n. number_at origins.now at (resource n)) (λ n. number_at origins.now at (named_type n))
+change_of (renaming.Placed origins at) = changing (placed_resource origins.now at) (placed_type origins.now at)
 
 abbrev pub boxed_trees : Option (Box ValueShape Global) → Option ValueTree
 boxed_trees held = option_map (λ (t : Box ValueShape Global). value_tree t.value) held

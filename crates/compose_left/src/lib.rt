@@ -24,4 +24,5 @@ pub use known::Origins;
 pub use merge::MergedImport;
 pub use origin::Origin;
 pub use path::Path;
-pub use wiring::{Wire, follows_order};
+pub use spots::{Spot, Thing};
+pub use wiring::{Input, Wire, follows_order, wires_by_import};

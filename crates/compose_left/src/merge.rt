@@ -6,11 +6,15 @@ ghost use Rattle.comp_entity.specs.Views.{entity_tree, entries_of, named_entitie
 ghost use Rattle.compose_left.specs.Merging.{agree, equal_on_both, equal_or_absent, union};
 ghost use Rattle.compose_left.specs.Merged.{Bytes, FindsNames, IsDisagreement, Named, NamedEntity, absent_from, if_absent, is_instance, name_cmp};
 ghost use Rattle.comp_entity.specs.Fits.{under};
+ghost use Rattle.compose_left.specs.Merged.{IsMerged, calls, import_name, merged};
+ghost use Rattle.compose_left.specs.Spots.{spots_in};
 ghost use Rattle.comp_entity.specs.Entity.{IsInstance};
 
 use crate::copies::entity_in;
 use crate::error::MergeError;
+use crate::path::Path;
 use crate::renaming::Renaming;
+use crate::spots::{Spot, push_spots};
 use comp_entity::{Entity, InstanceShape, equal};
 use std::alloc::Global;
 use std::collections::BTreeMap;
@@ -27,6 +31,8 @@ pub struct MergedImport {
     pub(crate) exports: Vec<(Text, Entity)>,
     /// The place of the first export of each name.
     pub(crate) names: BTreeMap<Text, usize>,
+    /// What those that need it name, in the order in which they were merged.
+    pub(crate) called: Vec<Spot>,
 }
 
 /// Notes the place of an export of this name, where none is noted.
@@ -221,36 +227,89 @@ fn merge_other(
     }
 }
 
+/// What an entity names that is asked under this name.
+fn called_in(alloc: Global, name: &Text, entity: &Entity) -> Result<Vec<Spot>, Memory>
+    ensures { IfOk result (λ called. called.items ≡ spots_in 0 name.now [] (entity_tree entity.now)) }
+{
+    let path = Path::new(alloc);
+    let mut called = Vec::new(alloc);
+    push_spots(alloc, 0, name, &path, entity, &mut called)?;
+    Ok(called)
+}
+
+/// A left import of this name, of which one instance asks this, and names so much.
+fn import_with(
+    alloc: Global,
+    name: Text,
+    entity: Entity,
+    called: Vec<Spot>,
+) -> Result<MergedImport, Memory>
+    ensures name { IfOk result (λ import. import_name import ≡ name) }
+    ensures entity { IfOk result (λ import. merged import ≡ entity_tree entity) }
+    ensures calls { IfOk result (λ import. calls import ≡ called.items) }
+    ensures made { IfOk result (λ import. IsMerged import) }
+{
+    let mut names = BTreeMap::new(alloc);
+    match entity {
+        Entity::Instance(InstanceShape { exports }) => {
+            note_names(alloc, &mut names, &exports, 0)?;
+            Ok(MergedImport {
+                name,
+                other: None,
+                exports,
+                names,
+                called,
+            })
+        }
+        Entity::Func(_) | Entity::Component(_) | Entity::Module(_) | Entity::Ty(_) => {
+            Ok(MergedImport {
+                name,
+                other: Some(entity),
+                exports: Vec::new(alloc),
+                names,
+                called,
+            })
+        }
+    }
+}
+
+/// Merges what one more instance asks.
+fn merge_asked(import: &mut MergedImport, alloc: Global, entity: &Entity) -> Result<(), MergeError>
+    requires { IsMerged import.old }
+    ensures made { OnOk result (IsMerged import.new) }
+    ensures agree { OnOk result (agree (merged import.old) (entity_tree entity.now) ≡ true) }
+    ensures merged { OnOk result (merged import.new ≡ union (merged import.old) (entity_tree entity.now)) }
+    ensures disagree { (n : Bytes) → result ≡ Err (MergeError.Disagree n)
+        → IsDisagreement (import_name import.old) n (agree (merged import.old) (entity_tree entity.now)) }
+    ensures name { import_name import.new ≡ import_name import.old }
+    ensures calls { calls import.new ≡ calls import.old }
+{
+    match &import.other {
+        None => merge_instance(
+            alloc,
+            &import.name,
+            &mut import.exports,
+            &mut import.names,
+            entity,
+        ),
+        Some(other) => merge_other(alloc, &import.name, other, entity),
+    }
+}
+
 impl MergedImport {
-    ghost use Rattle.compose_left.specs.Merged.{IsMerged, import_name, merged};
+    ghost use Rattle.compose_left.specs.Merged.{IsMerged, calls, import_name, merged};
 
     /// A left import of this name, of which one instance asks this. The resources and the places that named types are
     /// numbers of origins, as `Origins::place` gives them.
     pub fn new(alloc: Global, name: Text, entity: Entity) -> Result<Self, Memory>
         ensures name { IfOk result (λ import. import_name import ≡ name) }
         ensures entity { IfOk result (λ import. merged import ≡ entity_tree entity) }
+        ensures calls { IfOk result (λ import. calls import ≡ spots_in 0 name [] (entity_tree entity)) }
         ensures made { IfOk result (λ import. IsMerged import) }
     {
-        let mut names = BTreeMap::new(alloc);
-        match entity {
-            Entity::Instance(InstanceShape { exports }) => {
-                note_names(alloc, &mut names, &exports, 0)?;
-                Ok(MergedImport {
-                    name,
-                    other: None,
-                    exports,
-                    names,
-                })
-            }
-            Entity::Func(_) | Entity::Component(_) | Entity::Module(_) | Entity::Ty(_) => {
-                Ok(MergedImport {
-                    name,
-                    other: Some(entity),
-                    exports: Vec::new(alloc),
-                    names,
-                })
-            }
-        }
+        let called = called_in(alloc, &name, &entity)?;
+        let import = import_with(alloc, name, entity, called)?;
+        Ok(import)
     }
 
     /// Merges what one more instance asks under this name: instances are equal on the export names that both have, and
@@ -265,17 +324,21 @@ impl MergedImport {
         ensures disagree { (n : Bytes) → result ≡ Err (MergeError.Disagree n)
             → IsDisagreement (import_name self.old) n (agree (merged self.old) (entity_tree entity.now)) }
         ensures name { import_name self.new ≡ import_name self.old }
+        ensures calls { OnOk result (calls self.new
+            ≡ calls self.old ++ spots_in 0 (import_name self.old) [] (entity_tree entity.now)) }
     {
-        match &self.other {
-            None => merge_instance(
-                alloc,
-                &self.name,
-                &mut self.exports,
-                &mut self.names,
-                entity,
-            ),
-            Some(other) => merge_other(alloc, &self.name, other, entity),
-        }
+        merge_asked(self, alloc, entity)?;
+        let path = Path::new(alloc);
+        push_spots(alloc, 0, &self.name, &path, entity, &mut self.called)?;
+        Ok(())
+    }
+
+    /// What those that need it name as resources and as types, each by its path, in the order in which they were merged:
+    /// what stands at one path may have as many numbers as there are origins by which they call it.
+    pub fn calls(&self) -> &[Spot]
+        ensures { result.now ≡ calls self.now }
+    {
+        &self.called
     }
 
     /// Its name, and the merged entity.
@@ -288,6 +351,7 @@ impl MergedImport {
             other,
             exports,
             names: _names,
+            called: _called,
         } = self;
         match other {
             Some(entity) => (name, entity),

@@ -1,15 +1,18 @@
 //! Entities with the numbers of origins in place.
 
-ghost use Rattle.std.specs.Prelude.{◌≡◌, IfOk};
+ghost use Rattle.std.specs.Prelude.{◌≡◌, IfOk, IfSome};
 ghost use Rattle.comp_entity.specs.Views.{entity_tree};
 ghost use Rattle.compose_left.specs.Numbers.{AreOrigins};
 ghost use Rattle.compose_left.specs.Origins.{placed};
+ghost use Rattle.compose_left.specs.Renaming.{placed_resource, placed_type};
 ghost use Rattle.compose_left.specs.Wiring.{HasNoCircle, Wiring};
 
 use crate::copies::entity_in;
 use crate::known::Origins;
-use crate::renaming::Renaming;
-use comp_entity::Entity;
+use crate::origin::Held;
+use crate::renaming::{Renaming, number_held};
+use crate::spots::{named_type, resource};
+use comp_entity::{Entity, ResourceNo, TypeNo};
 use std::alloc::Global;
 use warg_values::Memory;
 
@@ -23,5 +26,30 @@ impl Origins {
     {
         let renaming = Renaming::Placed { origins: self, at };
         entity_in(alloc, &renaming, 0, entity)
+    }
+
+    /// A resource of an instance, called by the number of its origin. `None` where no name holds that number.
+    pub fn resource(&self, at: usize, name: ResourceNo) -> Option<ResourceNo>
+        ensures { IfSome result (λ called. called ≡ placed_resource self.now at name) }
+    {
+        let held = Held {
+            instance: at,
+            thing: resource(name),
+        };
+        let number = number_held(self, held).ok()?;
+        ResourceNo::new(0, number)
+    }
+
+    /// The place that named a type of an instance, called by the number of its origin. `None` where no name holds that
+    /// number.
+    pub fn type_place(&self, at: usize, name: TypeNo) -> Option<TypeNo>
+        ensures { IfSome result (λ called. called ≡ placed_type self.now at name) }
+    {
+        let held = Held {
+            instance: at,
+            thing: named_type(name),
+        };
+        let number = number_held(self, held).ok()?;
+        TypeNo::new(0, number)
     }
 }

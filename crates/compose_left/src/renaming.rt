@@ -23,7 +23,7 @@ pub enum Renaming<'a> {
 }
 
 /// The number of the origin of a thing of an instance.
-fn number_held(origins: &Origins, held: Held) -> Result<usize, Memory>
+pub fn number_held(origins: &Origins, held: Held) -> Result<usize, Memory>
     ensures { IfOk result (λ n. n ≡ number_held origins.now held) }
 {
     match origins.numbers.get(&held) {

@@ -108,7 +108,7 @@ fn push_leaf(
 
 /// Adds the spots of an entity that stands at a path of an import or export.
 #[cycle(walking)]
-fn push_spots(
+pub fn push_spots(
     alloc: Global,
     number: usize,
     name: &Text,

@@ -68,7 +68,7 @@ pub fn follows_order(shapes: &[Shape], wires: &[Wire]) -> bool
 }
 
 /// The first wire into each import.
-fn wires_by_import(alloc: Global, wires: &[Wire]) -> Result<BTreeMap<Input, Wire>, Memory>
+pub fn wires_by_import(alloc: Global, wires: &[Wire]) -> Result<BTreeMap<Input, Wire>, Memory>
     ensures { IfOk result (λ found. FindsWires found wires.now) }
 {
     let mut left = Vec::from_slice(alloc, wires)?;

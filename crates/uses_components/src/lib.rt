@@ -24,6 +24,7 @@ mod typed_reads;
 mod types;
 mod values;
 mod views;
+mod wires;
 
 pub use agree::instance_order;
 pub use completions::emitted_events_begin_a_document;
@@ -47,3 +48,4 @@ pub use typed_reads::port;
 pub use types::{are_equal, list_of};
 pub use values::saved;
 pub use views::put_in_and_taken_out;
+pub use wires::unfit_wire;

@@ -1,0 +1,95 @@
+-- Laws of exports by number, and of the first under each name, as far as a loop has come.
+use Rattle.std.specs.Prelude.{◌≡◌, ℕ, zero, suc, ◌+◌, ◌<◌, Bool, true, false, List, [], ◌∷◌, map, drop, length, slice_index_or, Option, Some, None, refl, cond}
+use Rattle.std.specs.BTreeMap.{BTreeMap, get, Updates, is_at}
+use Rattle.std.specs.Cmp.Lexicographic.{slice_cmp, nat_list_eq_equiv}
+use Rattle.std.specs.Map.{lookup}
+use Rattle.std.specs.Option.{option_map_or}
+use Rattle.std.specs.Ordering.{nat_cmp}
+use Rattle.std.specs.Str.{bytes_eq}
+use Rattle.std.proofs.Common.{sym, ◌∙◌, ap, subst, arith}
+use Rattle.std.proofs.lemmas.Map.Text.{is_eq-slice_cmp}
+use Rattle.comp_entity.specs.Entity.{EntityTree, Entries, no_entry, entry}
+use Rattle.comp_entity.specs.Fits.{fits_with, same_name, under}
+use Rattle.comp_fit.specs.Known.{IsUnder, AreNames}
+use Rattle.comp_table.specs.declared.head.Head.TheVariants as head
+use Rattle.comp_table.specs.Codes.{first_tree}
+use Rattle.comp_table.specs.Plain.{around, plain_entity, plain_entries}
+use Rattle.comp_table.specs.Trees.{PlainTree, PlainTrees, none, more, tree_at, trees_of, Stands}
+
+unfoldable pub other_trees : PlainTrees → PlainTrees
+other_trees none = none
+other_trees (more t ts) = ts
+
+-- numbers of which the first stands for an entry
+pub record IsNext (ts : List PlainTree) (p : ℕ) (ps : List ℕ) (es : Entries) : Type 0 where
+  pub name : List ℕ
+  pub mark : Bool
+  pub item : EntityTree
+  pub rest : Entries
+  pub is : es ≡ entry name item mark rest
+  pub here : tree_at ts p ≡ around (head.Entry mark name) (plain_entity item)
+  pub later : trees_of (map (tree_at ts) ps) ≡ plain_entries rest
+
+module _ (ts : List PlainTree) where
+  pub next : (p : ℕ) (ps : List ℕ) (es : Entries) → trees_of (map (tree_at ts) (p ∷ ps)) ≡ plain_entries es → IsNext ts p ps es
+  unfolding other_trees
+  next p ps no_entry e = absurd cc
+  next p ps (entry name item mark rest) e = record { name = name; mark = mark; item = item; rest = rest; is = refl; here = ap first_tree e; later = ap other_trees e }
+
+  pub none_left : (es : Entries) → none ≡ plain_entries es → es ≡ no_entry
+  none_left no_entry e = refl
+  none_left (entry name item mark rest) e = absurd cc
+
+  pub found_is : (n : ℕ) (u : Option (EntityTree × Bool)) → IsUnder ts (Some n) u → (e : EntityTree) × Stands ts n (plain_entity e)
+  found_is n None h = absurd h
+  found_is n (Some e) h = (e.0, h)
+
+  pub found_fits : (n : ℕ) (u : Option (EntityTree × Bool)) (item : EntityTree) (answer : Bool) → IsUnder ts (Some n) u → ((e : EntityTree) → Stands ts n (plain_entity e) → answer ≡ fits_with same_name e item) → answer ≡ option_map_or (λ (e : EntityTree × Bool). fits_with same_name e.0 item) u false
+  found_fits n None item answer h f = absurd h
+  found_fits n (Some e) item answer h f = f e.0 h
+
+  -- names
+  pub no_names : (names : BTreeMap (List ℕ) ℕ) → names.entries ≡ [] → (es : Entries) → none ≡ plain_entries es → AreNames ts es names
+  no_names names empty es e = subst (λ es. AreNames ts es names) (sym (none_left es e)) (λ name.
+      let absent : get (slice_cmp nat_cmp) names name ≡ None = ap (λ xs. lookup (is_at (slice_cmp nat_cmp name)) xs) empty in
+      subst (λ o. IsUnder ts o None) (sym absent) tt)
+
+  pub one_name : (es : Entries) (old new : BTreeMap (List ℕ) ℕ) (name : List ℕ) (item : EntityTree) (mark : Bool) (n : ℕ) → AreNames ts es old → Stands ts n (plain_entity item) → Updates (slice_cmp nat_cmp) old new name (Some n) → AreNames ts (entry name item mark es) new
+  one_name es old new name item mark n names s updates q =
+      let same = is_eq-slice_cmp name q ∙ nat_list_eq_equiv.symm name q in
+      subst (λ o. IsUnder ts o (under q (entry name item mark es))) (sym (updates.0 q ∙ ap (λ b. cond b (Some n) (get (slice_cmp nat_cmp) old q)) same)) (of (bytes_eq q name) (names q))
+    where
+      of : (b : Bool) → IsUnder ts (get (slice_cmp nat_cmp) old q) (under q es) → IsUnder ts (cond b (Some n) (get (slice_cmp nat_cmp) old q)) (cond b (Some (item, mark)) (under q es))
+      of true h = s
+      of false h = h
+
+  -- names of what is left, one more being noted from behind
+  pub names_more : (p : ℕ) (ps : List ℕ) (es : Entries) (old new : BTreeMap (List ℕ) ℕ) (name : List ℕ) (n : ℕ) →
+      ((rest : Entries) → trees_of (map (tree_at ts) ps) ≡ plain_entries rest → AreNames ts rest old) →
+      ((m : List ℕ) (mark : Bool) (t : PlainTree) → tree_at ts p ≡ around (head.Entry mark m) t → (name ≡ m) × Stands ts n t) →
+      Updates (slice_cmp nat_cmp) old new name (Some n) → trees_of (map (tree_at ts) (p ∷ ps)) ≡ plain_entries es → AreNames ts es new
+  names_more p ps es old new name n names noted updates e =
+      let x = next p ps es e in
+      let y = noted x.name x.mark (plain_entity x.item) x.here in
+      subst (λ es. AreNames ts es new) (sym x.is)
+      (one_name x.rest old new x.name x.item x.mark n (names x.rest x.later) y.1 (subst (λ m. Updates (slice_cmp nat_cmp) old new m (Some n)) y.0 updates))
+
+  -- an entry among some numbers
+  pub entry_among : (ps : List ℕ) (es : Entries) (i d : ℕ) → i < length ps → trees_of (map (tree_at ts) ps) ≡ plain_entries es → (name : List ℕ) × (mark : Bool) × (t : PlainTree) × (tree_at ts (slice_index_or ps i d) ≡ around (head.Entry mark name) t)
+  entry_among [] es i d lt e = absurd (omega (arith, lt))
+  entry_among (p ∷ ps) es zero d lt e = let x = next p ps es e in (x.name, x.mark, plain_entity x.item, x.here)
+  entry_among (p ∷ ps) es (suc i) d lt e = let x = next p ps es e in entry_among ps x.rest i d (omega (arith, lt)) x.later
+
+dropped_at : (ps : List ℕ) (i d : ℕ) → i < length ps → drop i ps ≡ slice_index_or ps i d ∷ drop (suc i) ps
+dropped_at [] i d lt = absurd (omega (arith, lt))
+dropped_at (p ∷ ps) zero d lt = refl
+dropped_at (p ∷ ps) (suc i) d lt = dropped_at ps i d (omega (arith, lt))
+
+pub dropped : (ps : List ℕ) (i d : ℕ) → i < length ps → drop i ps ≡ slice_index_or ps i d ∷ drop (i + 1) ps
+dropped ps i d lt = let later : suc i ≡ i + 1 = omega arith in dropped_at ps i d lt ∙ ap (λ j. slice_index_or ps i d ∷ drop j ps) later
+
+pub nothing_left : (ps : List ℕ) (i : ℕ) → i ≡ length ps → drop i ps ≡ []
+nothing_left [] zero e = refl
+nothing_left [] (suc i) e = absurd (omega (arith, e))
+nothing_left (p ∷ ps) zero e = absurd (omega (arith, e))
+nothing_left (p ∷ ps) (suc i) e = nothing_left ps i (omega (arith, e))

@@ -1,0 +1,9 @@
+pub mod ExportLaws
+pub mod EntryLaws
+pub mod CauseLaws
+pub mod SeenLaws
+pub mod RowLaws
+pub mod LoopLaws
+pub mod KindLaws
+pub mod FirstLaws
+pub mod PassLaws

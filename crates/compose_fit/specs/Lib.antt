@@ -1,0 +1,4 @@
+pub mod Wires
+pub mod Fit
+pub mod Seen
+pub mod KeptLaws
