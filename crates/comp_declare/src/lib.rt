@@ -1,0 +1,12 @@
+//! What declarations bring into the scopes of a WebAssembly component: descriptions, imports and exports, aliases, and
+//! types that are scopes of their own, with numbers of a table of types in place of trees.
+//!
+//! The terms are those of the Component Model's `Explainer.md`.
+#![tactic(auto)]
+
+mod counting;
+mod descriptions;
+mod new_names;
+
+pub use descriptions::{described, described_instance, described_type};
+pub use new_names::NewNames;
