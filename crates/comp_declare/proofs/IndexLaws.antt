@@ -1,6 +1,7 @@
 -- Laws of what is read at an index.
 use Rattle.std.specs.Prelude.{◌≡◌, ℕ, ◌<◌, List, length, Result, Ok, Err, IsErrAnd, refl}
 use Rattle.std.proofs.Common.{sym, subst}
+use Rattle.warg_values.specs.Answers.{Gives}
 use Rattle.warg_values.specs.Reading.{◌>>=◌}
 use Rattle.comp_entity.specs.Bounds.{ShapeFault}
 use Rattle.comp_entity.specs.Entity.{EntityTree}
@@ -8,7 +9,7 @@ use Rattle.comp_scope.specs.Spaces as scope
 use Rattle.comp_scope.specs.Spaces.{at_index}
 use Rattle.comp_space.specs.declared.error.ScopeError.{ScopeError}
 use Rattle.comp_space.specs.declared.standing.Standing.{Standing}
-use Rattle.comp_space.specs.Faults.{Fails, Finds, Found}
+use Rattle.comp_space.specs.Faults.{Fails, Finds, Found, fault_of}
 use Rattle.comp_space.specs.Standings.{AllShow, Shows}
 use Rattle.comp_space.specs.StandingLaws.{at_fails, at_found, fails_bind, fails_same, found_bind, passed_on}
 use Rattle.comp_table.specs.Plain.{plain_entity}
@@ -25,3 +26,8 @@ module _ {X Y : Type 0} (R : X → Y → Type 0) (ts : List PlainTree) (xs : Lis
       let f = at_found ts xs es i x show is in
       found_bind (Shows plain_entity ts) R x (at_index es i) next answer f
       (subst (λ b. Finds R answer (next (f.value.0, b))) f.shown.named_is (h f.value.0 f.shown.stands))
+
+-- what stands at an index itself
+pub item_found : (ts : List PlainTree) (xs : List Standing) (es : List scope.Standing) (i : ℕ) (answer : Result Standing ScopeError) → AllShow ts xs es → Gives fault_of (λ x. x) answer (at_index xs i) → Finds (Shows plain_entity ts) answer (at_index es i)
+item_found ts xs es i (Ok x) show is = at_found ts xs es i x show is
+item_found ts xs es i (Err error) show is = fails_same (at_index xs i) (at_index es i) error (λ fault. at_fails ts xs es i fault show) is

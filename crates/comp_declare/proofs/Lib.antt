@@ -1,3 +1,7 @@
 mod CountLaws
 mod DescribedLaws
+mod EntryLaws
 mod IndexLaws
+mod ScopeLaws
+mod MentionLaws
+mod OuterLaws

@@ -1,2 +1,5 @@
 pub mod Naming
 pub mod Heads
+pub mod Scopes
+pub mod Mentioned
+pub mod Outer

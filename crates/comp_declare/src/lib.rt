@@ -6,7 +6,14 @@
 
 mod counting;
 mod descriptions;
+mod entries;
+mod mentions;
 mod new_names;
+mod outer;
+mod scope;
 
 pub use descriptions::{described, described_instance, described_type};
+pub use entries::Entries;
 pub use new_names::NewNames;
+pub use outer::{item_at, item_outside};
+pub use scope::Scope;
