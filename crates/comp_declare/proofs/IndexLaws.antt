@@ -6,12 +6,14 @@ use Rattle.warg_values.specs.Reading.{◌>>=◌}
 use Rattle.comp_entity.specs.Bounds.{ShapeFault}
 use Rattle.comp_entity.specs.Entity.{EntityTree}
 use Rattle.comp_scope.specs.Spaces as scope
-use Rattle.comp_scope.specs.Spaces.{at_index}
+use Rattle.comp_scope.specs.Spaces.{KnownCoreType, at_index}
+use Rattle.comp_space.specs.declared.core_types.CoreStanding.{CoreStanding}
+use Rattle.comp_space.specs.CoreStandings.{AllShowCore, ShowsCore}
 use Rattle.comp_space.specs.declared.error.ScopeError.{ScopeError}
 use Rattle.comp_space.specs.declared.standing.Standing.{Standing}
 use Rattle.comp_space.specs.Faults.{Fails, Finds, Found, fault_of}
 use Rattle.comp_space.specs.Standings.{AllShow, Shows}
-use Rattle.comp_space.specs.StandingLaws.{at_fails, at_found, fails_bind, fails_same, found_bind, passed_on}
+use Rattle.comp_space.specs.StandingLaws.{at_fails, at_found, fails_bind, fails_same, found_bind, pairwise_at, pairwise_fails, passed_on}
 use Rattle.comp_table.specs.Plain.{plain_entity}
 use Rattle.comp_table.specs.Trees.{PlainTree, Stands}
 
@@ -31,3 +33,8 @@ module _ {X Y : Type 0} (R : X → Y → Type 0) (ts : List PlainTree) (xs : Lis
 pub item_found : (ts : List PlainTree) (xs : List Standing) (es : List scope.Standing) (i : ℕ) (answer : Result Standing ScopeError) → AllShow ts xs es → Gives fault_of (λ x. x) answer (at_index xs i) → Finds (Shows plain_entity ts) answer (at_index es i)
 item_found ts xs es i (Ok x) show is = at_found ts xs es i x show is
 item_found ts xs es i (Err error) show is = fails_same (at_index xs i) (at_index es i) error (λ fault. at_fails ts xs es i fault show) is
+
+-- the core type of an index itself
+pub core_found : (ts : List PlainTree) (xs : List CoreStanding) (known : List KnownCoreType) (i : ℕ) (answer : Result CoreStanding ScopeError) → AllShowCore ts xs known → Gives fault_of (λ x. x) answer (at_index xs i) → Finds (ShowsCore ts) answer (at_index known i)
+core_found ts xs known i (Ok x) show is = pairwise_at (ShowsCore ts) xs known i x show is
+core_found ts xs known i (Err error) show is = fails_same (at_index xs i) (at_index known i) error (λ fault. pairwise_fails (ShowsCore ts) xs known i fault show) is

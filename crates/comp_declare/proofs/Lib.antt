@@ -5,3 +5,6 @@ mod IndexLaws
 mod ScopeLaws
 mod MentionLaws
 mod OuterLaws
+mod ExportLaws
+mod AliasLaws
+mod OuterAliasLaws

@@ -3,3 +3,4 @@ pub mod Heads
 pub mod Scopes
 pub mod Mentioned
 pub mod Outer
+pub mod Exported

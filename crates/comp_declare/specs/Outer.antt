@@ -1,7 +1,9 @@
 -- What stands in a scope further out, before it is put into the index spaces of the scope within.
-use Rattle.std.specs.Prelude.{◌≡◌, ℕ, List, Result, Ok, Err, if◌then◌else◌}
+use Rattle.std.specs.Prelude.{◌≡◌, ℕ, Bool, true, false, List, Result, Ok, Err, if◌then◌else◌}
 use Rattle.warg_values.specs.Reading.{◌>>=◌}
+use Rattle.comp_format.specs.declared.types.CoreSort.TheVariants as core
 use Rattle.comp_format.specs.declared.types.Sort.{Sort}
+use Rattle.comp_format.specs.declared.types.Sort.TheVariants as sort
 use Rattle.comp_entity.specs.Bounds.{ShapeFault, Index}
 use Rattle.comp_scope.specs.Aliases as scope
 use Rattle.comp_scope.specs.Aliases.{outer_scope, may_pass, from_outside}
@@ -35,3 +37,8 @@ abbrev pub standing_outside : List Spaces → Sort → ℕ → ℕ → Result St
 standing_outside scopes kind count index =
     outer_scope scopes count >>= λ outer. standing outer.spaces kind index >>= λ e.
     if may_pass outer.leaves_component e.0 then Ok (from_outside outer.distance e.0, e.1) else Err Index
+
+-- core types are of this sort
+abbrev pub is_core_type : Sort → Bool
+is_core_type (sort.Core core.Ty) = true
+is_core_type _ = false

@@ -110,7 +110,7 @@ fn leaves_component(scopes: &[&Space]) -> bool
 }
 
 /// The scope that is so many scopes further out: `scopes` are those that are open, from the innermost.
-fn outer_scope<'a>(scopes: &[&'a Space], count: u32) -> Result<Outer<'a>, ScopeError>
+pub fn outer_scope<'a>(scopes: &[&'a Space], count: u32) -> Result<Outer<'a>, ScopeError>
     ensures { (table : List PlainTree) (ss : List Spaces) → AllShowSpaces table (map (λ s. s.now) scopes.now) ss
         → Finds (ShowsOuter table) result (outer_scope ss count) }
 {
