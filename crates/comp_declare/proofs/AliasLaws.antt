@@ -1,10 +1,10 @@
 -- Laws of aliases of what instances and core instances export.
-use Rattle.std.specs.Prelude.{◌≡◌, ℕ, ◌<◌, ◌≤◌, nat_lt, Bool, true, false, cond, List, [], ◌∷◌, ◌++◌, Option, Some, None, Result, Ok, Err, Vec, ◌==◌, refl}
+use Rattle.std.specs.Prelude.{◌≡◌, ℕ, ◌<◌, ◌≤◌, nat_lt, Bool, true, false, cond, List, [], ◌∷◌, ◌++◌, Option, Some, None, Ok, Err, Vec, ◌==◌, refl}
 use Rattle.std.specs.Global.{Global}
-use Rattle.std.proofs.Common.{sym, ◌∙◌, ap, subst}
+use Rattle.std.proofs.Common.{sym, ◌∙◌, ap}
 use Rattle.std.proofs.lemmas.Bool.{lt-ltb, le-ltb}
 use Rattle.warg_values.specs.Reading.{◌>>=◌}
-use Rattle.comp_entity.specs.Bounds.{ShapeFault, Index, bounded}
+use Rattle.comp_entity.specs.Bounds.{Index, bounded}
 use Rattle.comp_entity.specs.Entity.{ValueTree, Primitive, TupleOf, RecordOf, VariantOf, ListOf, FlagsOf, EnumOf, OptionOf, ResultOf, Own, Borrow, Value, Resource, Func, Instance, Component, Entries, EntityTree, IsType, IsFunc, IsInstance, IsComponent, IsModule, IsOwnModule}
 use Rattle.comp_entity.specs.Fits.{under}
 use Rattle.comp_format.specs.declared.types.Sort.{Sort}
@@ -21,14 +21,13 @@ use Rattle.comp_space.specs.declared.space.CoreCounts.{CoreCounts}
 use Rattle.comp_space.specs.declared.space.Space.{Space}
 use Rattle.comp_space.specs.declared.standing.Standing.{Standing}
 use Rattle.comp_space.specs.CoreStandings.{ShowsCore}
-use Rattle.comp_space.specs.Faults.{Finds, Found}
+use Rattle.comp_space.specs.Faults.{Found}
 use Rattle.comp_space.specs.SpaceViews.{ShowsSpaces, core_counts}
 use Rattle.comp_space.specs.Standings.{Shows}
 use Rattle.comp_space.specs.StandingLaws.{pairwise_push, then_first}
-use Rattle.comp_table.specs.declared.head.Head.{Head}
 use Rattle.comp_table.specs.declared.head.Head.TheVariants as head
 use Rattle.comp_table.specs.Plain.{leaf, plain_value, plain_entity, plain_entries}
-use Rattle.comp_table.specs.Trees.{PlainTree, PlainTrees, Stands, tree_at, root, below_root}
+use Rattle.comp_table.specs.Trees.{PlainTree, Stands, tree_at, root, below_root}
 
 value_is_none : (v : ValueTree) → is_instance (root (plain_value v)) ≡ false
 value_is_none (Primitive p) = refl

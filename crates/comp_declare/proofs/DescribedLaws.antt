@@ -3,24 +3,21 @@ use Rattle.std.specs.Prelude.{◌≡◌, ℕ, Bool, true, false, ◌||◌, List,
 use Rattle.std.proofs.Common.{sym, ◌∙◌, ap}
 use Rattle.comp_entity.specs.Bounds.{Index}
 use Rattle.comp_entity.specs.Entity.{Name, ValueTree, Primitive, TupleOf, RecordOf, VariantOf, ListOf, FlagsOf, EnumOf, OptionOf, ResultOf, Own, Borrow, TypeShapeTree, Value, Resource, Func, Instance, Component, EntityTree, IsType, IsFunc, IsInstance, IsComponent, IsModule, IsOwnModule}
-use Rattle.comp_entity.specs.Names.{Change, counts_at, in_entity, in_entries, entity_by, entries_by}
+use Rattle.comp_entity.specs.Names.{counts_at, in_entity, in_entries, entity_by, entries_by}
 use Rattle.comp_format.specs.declared.types.Sort.TheVariants as sort
 use Rattle.comp_scope.specs.Descriptions.{NewNames, named_by, names_a_place, is_named_by, opening, described_type, described_instance}
 use Rattle.comp_scope.specs.Spaces.{sort_of}
-use Rattle.comp_space.specs.declared.descriptions.Described.{Described}
 use Rattle.comp_space.specs.declared.space.Counts.{Counts}
 use Rattle.comp_space.specs.Descriptions.{ShowsDescribed}
 use Rattle.comp_space.specs.Faults.{Found}
-use Rattle.comp_space.specs.Heads.{is_value_head}
 use Rattle.comp_space.specs.SpaceViews.{counts}
-use Rattle.comp_space.specs.StandingLaws.{is_value_at}
 use Rattle.comp_declare.specs.Heads.{named_head, is_resource, is_instance_type}
 use Rattle.comp_table.specs.declared.head.Head.{Head}
 use Rattle.comp_table.specs.declared.head.Head.TheVariants as head
 use Rattle.comp_table.specs.Changes.{tree_by}
-use Rattle.comp_table.specs.Plain.{plain_value, plain_type, plain_entity, plain_entries}
-use Rattle.comp_table.specs.StandLaws.{same_stands, stands_kept}
-use Rattle.comp_table.specs.Trees.{PlainTree, tree, Stands, Extends, tree_at, root, below_root}
+use Rattle.comp_table.specs.Plain.{plain_value, plain_type, plain_entity}
+use Rattle.comp_table.specs.StandLaws.{same_stands}
+use Rattle.comp_table.specs.Trees.{PlainTree, tree, Stands, tree_at, root, below_root}
 
 abbrev some_head : Head → Option Head
 some_head h = Some h

@@ -1,5 +1,5 @@
 -- Laws of imports and exports by number.
-use Rattle.std.specs.Prelude.{◌≡◌, ℕ, zero, suc, ◌+◌, ◌-◌, Bool, true, false, cond, ◌||◌, List, [], ◌∷◌, ◌++◌, map, length, take, bytes_eq, refl}
+use Rattle.std.specs.Prelude.{◌≡◌, ℕ, zero, suc, ◌-◌, false, cond, ◌||◌, List, [], ◌∷◌, ◌++◌, map, length, take, bytes_eq, refl}
 use Rattle.std.specs.List.{list_any}
 use Rattle.std.specs.Str.{str_to_ascii_lowercase}
 use Rattle.std.proofs.Common.{sym, ◌∙◌, ap, subst, arith, length-append}

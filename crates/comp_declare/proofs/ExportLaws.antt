@@ -6,11 +6,10 @@ use Rattle.comp_declare.specs.Exported.{ShowsExport}
 use Rattle.comp_entity.specs.Entity.{Entries, no_entry, entry, EntityTree}
 use Rattle.comp_entity.specs.Fits.{under}
 use Rattle.comp_space.specs.declared.standing.Standing.{Standing}
-use Rattle.comp_space.specs.Standings.{Shows}
 use Rattle.comp_table.specs.declared.head.Head.{Head}
 use Rattle.comp_table.specs.declared.head.Head.TheVariants as head
 use Rattle.comp_table.specs.Plain.{around, plain_entity, plain_entries}
-use Rattle.comp_table.specs.Trees.{PlainTree, tree, PlainTrees, none, more, Stands, IsBelow, trees_of, tree_at, root, below_root}
+use Rattle.comp_table.specs.Trees.{PlainTree, PlainTrees, none, more, Stands, IsBelow, trees_of, tree_at, root, below_root}
 
 abbrev one : PlainTree → PlainTrees → PlainTrees
 one t ts = more t ts

@@ -1,6 +1,6 @@
 -- Laws of what is read at an index.
-use Rattle.std.specs.Prelude.{◌≡◌, ℕ, ◌<◌, List, length, Result, Ok, Err, IsErrAnd, refl}
-use Rattle.std.proofs.Common.{sym, subst}
+use Rattle.std.specs.Prelude.{◌≡◌, ℕ, List, Result, Ok, Err, IsErrAnd}
+use Rattle.std.proofs.Common.{subst}
 use Rattle.warg_values.specs.Answers.{Gives}
 use Rattle.warg_values.specs.Reading.{◌>>=◌}
 use Rattle.comp_entity.specs.Bounds.{ShapeFault}
@@ -11,7 +11,7 @@ use Rattle.comp_space.specs.declared.core_types.CoreStanding.{CoreStanding}
 use Rattle.comp_space.specs.CoreStandings.{AllShowCore, ShowsCore}
 use Rattle.comp_space.specs.declared.error.ScopeError.{ScopeError}
 use Rattle.comp_space.specs.declared.standing.Standing.{Standing}
-use Rattle.comp_space.specs.Faults.{Fails, Finds, Found, fault_of}
+use Rattle.comp_space.specs.Faults.{Fails, Finds, fault_of}
 use Rattle.comp_space.specs.Standings.{AllShow, Shows}
 use Rattle.comp_space.specs.StandingLaws.{at_fails, at_found, fails_bind, fails_same, found_bind, pairwise_at, pairwise_fails, passed_on}
 use Rattle.comp_table.specs.Plain.{plain_entity}

@@ -1,12 +1,12 @@
 -- Laws of trees that mention resources.
-use Rattle.std.specs.Prelude.{◌≡◌, ℕ, zero, suc, ◌+◌, ◌<◌, Bool, true, false, cond, ◌||◌, ◌==◌, nat_eq, List, [], ◌∷◌, ◌++◌, map, length, take, slice_index_or, Option, Some, None, option_to_list, refl}
-use Rattle.std.specs.List.{AllByRecursion, list_any}
+use Rattle.std.specs.Prelude.{◌≡◌, ℕ, zero, suc, ◌+◌, ◌<◌, Bool, true, false, cond, ◌||◌, nat_eq, List, [], ◌∷◌, ◌++◌, map, length, take, slice_index_or, Option, Some, None, refl}
+use Rattle.std.specs.List.{list_any}
 use Rattle.std.proofs.Common.{ap, sym, subst, ◌∙◌, arith}
 use Rattle.std.proofs.lemmas.Bool.{eqb-true}
 use Rattle.std.proofs.lemmas.List.{map-append, take_more}
 use Rattle.indexmap.specs.IndexSet.{insert_key}
 use Rattle.comp_entity.specs.Entity.{Name, TypeShapeTree, EntityTree, IsType}
-use Rattle.comp_entity.specs.Names.{Mention, OfResource, OfPlace, at_place, in_entity, is_resource, mentions_resource}
+use Rattle.comp_entity.specs.Names.{Mention, at_place, in_entity, is_resource, mentions_resource}
 use Rattle.comp_mention.specs.Mentions.{head_mentions, is_func_type, tree_mentions, trees_mentions, func_mentions}
 use Rattle.comp_declare.specs.Mentioned.{names_resource, has_resource, any_has_resource, AreWithout}
 use Rattle.comp_table.specs.declared.head.Head.{Head}

@@ -2,7 +2,7 @@
 use Rattle.std.specs.Prelude.{◌≡◌, ℕ, zero, suc, Bool, true, false, cond, List, [], ◌∷◌, ◌++◌, map, take, Result, Ok, Err, Vec, refl, sum}
 use Rattle.std.specs.Global.{Global}
 use Rattle.std.specs.List.{list_any}
-use Rattle.std.proofs.Common.{sym, ◌∙◌, ap, subst}
+use Rattle.std.proofs.Common.{◌∙◌, ap}
 use Rattle.warg_values.specs.Reading.{◌>>=◌}
 use Rattle.warg_values.specs.ReadingLaws.{bind_ok, ok_is}
 use Rattle.comp_entity.specs.Bounds.{ShapeFault, Index, bounded}
@@ -27,8 +27,8 @@ pub outer_item_is : (ss : List Spaces) (s : Spaces) (kind : Sort) (count index :
 unfolding outer_item
 outer_item_is ss s kind count index =
     then_first (outer_scope (s ∷ ss) count) _ (λ outer. standing outer.spaces kind index >>= λ e. cond (may_pass outer.leaves_component e.0) (Ok (from_outside outer.distance e.0, e.1)) (Err Index)) (λ e. added bounded s e.0 e.1) (λ outer.
-      then_first (standing outer.spaces kind index) _ (λ e. cond (may_pass outer.leaves_component e.0) (Ok (from_outside outer.distance e.0, e.1)) (Err Index)) (λ e. added bounded s e.0 e.1) (λ e.
-        last (may_pass outer.leaves_component e.0) (from_outside outer.distance e.0, e.1)))
+    then_first (standing outer.spaces kind index) _ (λ e. cond (may_pass outer.leaves_component e.0) (Ok (from_outside outer.distance e.0, e.1)) (Err Index)) (λ e. added bounded s e.0 e.1) (λ e.
+    last (may_pass outer.leaves_component e.0) (from_outside outer.distance e.0, e.1)))
   where
     last : (c : Bool) (e : spaces.Standing) → cond c (added bounded s e.0 e.1) (Err Index) ≡ (cond c (Ok e) (Err Index) >>= λ e. added bounded s e.0 e.1)
     last true e = refl

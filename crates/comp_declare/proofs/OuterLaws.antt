@@ -1,9 +1,9 @@
 -- Laws of scopes further out.
-use Rattle.std.specs.Prelude.{◌≡◌, ℕ, zero, suc, ◌+◌, ◌<◌, ◌≤◌, Bool, true, false, cond, not, ◌||◌, ◌&&◌, List, [], ◌∷◌, map, length, take, slice_index_or, Result, Ok, Err, refl, sum}
+use Rattle.std.specs.Prelude.{◌≡◌, ℕ, zero, suc, ◌+◌, ◌<◌, ◌≤◌, Bool, true, false, cond, not, ◌||◌, ◌&&◌, List, [], ◌∷◌, map, length, take, slice_index_or, Ok, Err, refl, sum}
 use Rattle.std.specs.List.{list_any, sum_by, fold}
-use Rattle.std.proofs.Common.{sym, ◌∙◌, ap, subst, arith}
+use Rattle.std.proofs.Common.{sym, ◌∙◌, ap, arith}
 use Rattle.warg_values.specs.Reading.{◌>>=◌}
-use Rattle.comp_entity.specs.Bounds.{ShapeFault, Index}
+use Rattle.comp_entity.specs.Bounds.{Index}
 use Rattle.comp_entity.specs.Entity.{EntityTree, IsType, IsFunc, IsInstance, IsComponent, IsModule, IsOwnModule, TypeShapeTree}
 use Rattle.comp_entity.specs.Names.{changing, deeper, entity_by, mentions_resource}
 use Rattle.comp_format.specs.declared.types.Sort.{Sort}

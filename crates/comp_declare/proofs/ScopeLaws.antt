@@ -1,11 +1,11 @@
 -- Laws of imports and declared exports.
 use Rattle.std.specs.Prelude.{◌≡◌, ℕ, Bool, true, false, cond, List, map, Result, Ok, Err, refl}
-use Rattle.std.proofs.Common.{sym, ◌∙◌, ap}
+use Rattle.std.proofs.Common.{ap}
 use Rattle.warg_values.specs.Reading.{◌>>=◌}
 use Rattle.comp_entity.specs.Bounds.{ShapeFault, Index, bounded}
 use Rattle.comp_entity.specs.Names as names
 use Rattle.comp_format.specs.declared.types.TypeRef.{TypeRef}
-use Rattle.comp_scope.specs.Descriptions.{Described, described, new_brought, new_made, imported, declared_export, with_brought, with_made, with_import, with_export}
+use Rattle.comp_scope.specs.Descriptions.{described, new_brought, new_made, imported, declared_export, with_brought, with_made, with_import, with_export}
 use Rattle.comp_scope.specs.Spaces as scope
 use Rattle.comp_scope.specs.Spaces.{Spaces, Known, is_taken, if_new}
 use Rattle.comp_space.specs.declared.space.Counts.{Counts}

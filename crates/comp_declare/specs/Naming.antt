@@ -1,5 +1,5 @@
 -- How what is new in a description is called, as the definitions have it.
-use Rattle.std.specs.Prelude.{ℕ, ◌+◌}
+use Rattle.std.specs.Prelude.{◌+◌}
 use Rattle.comp_scope.specs.Descriptions as scope
 use Rattle.comp_declare.specs.declared.new_names.NewNames.{NewNames}
 

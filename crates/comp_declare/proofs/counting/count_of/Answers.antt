@@ -1,6 +1,5 @@
-use Rattle.std.proofs.Common.{ap, ◌∙◌}
+use Rattle.std.proofs.Common.{◌∙◌}
 use Rattle.std.proofs.lemmas.Result.{IfOk-weaker}
-use Rattle.comp_entity.specs.Names.{beyond}
 use Rattle.comp_declare.proofs.CountLaws.{counted_once}
 use Rattle.comp_declare.proofs.counting.count_of.Goals as goal
 
