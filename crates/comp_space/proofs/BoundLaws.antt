@@ -4,7 +4,7 @@ use Rattle.std.proofs.Common.{sym, ◌∙◌, ap}
 use Rattle.comp_entity.specs.Entity.{Value, Resource, Func, Instance, Component, EntityTree, IsType, IsFunc, IsInstance, IsComponent, IsModule, IsOwnModule}
 use Rattle.comp_entity.specs.Bounds.{depth_of}
 use Rattle.comp_space.specs.Heads.{is_value_head}
-use Rattle.comp_space.proofs.StandingLaws.{is_value_at}
+use Rattle.comp_space.specs.StandingLaws.{is_value_at}
 use Rattle.comp_table.specs.declared.head.Head.{Head}
 use Rattle.comp_table.specs.Facts.{capped}
 use Rattle.comp_table.specs.Plain.{plain_entity}

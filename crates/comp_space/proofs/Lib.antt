@@ -1,9 +1,6 @@
 mod BoundLaws
 mod DescriptionLaws
-mod CoreLaws
 mod ModuleLaws
 mod RowLaws
-mod SpaceLaws
-mod StandingLaws
 mod TreeLaws
 mod ValueLaws

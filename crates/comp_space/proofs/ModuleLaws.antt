@@ -8,14 +8,7 @@ use Rattle.comp_entity.specs.Bounds.{ShapeFault, TooDeep, TooBig, Bounds, kept, 
 use Rattle.comp_entity.specs.Entity.{EntityTree}
 use Rattle.comp_scope.specs.CoreScopes.{ModuleScope, module_of, with_module_decl}
 use Rattle.comp_scope.specs.Spaces.{KnownCoreType}
-
-pub bind_end : {A F : Type 0} (r : Result A F) → (r >>= λ x. Ok x) ≡ r
-bind_end (Ok x) = refl
-bind_end (Err e) = refl
-
-pub then_first : {A B C F : Type 0} (r : Result A F) (g : A → Result C F) (h : A → Result B F) (k : B → Result C F) → ((x : A) → g x ≡ (h x >>= k)) → (r >>= g) ≡ ((r >>= h) >>= k)
-then_first (Ok x) g h k e = e x
-then_first (Err f) g h k e = refl
+use Rattle.comp_space.specs.StandingLaws.{bind_end, then_first}
 
 module _ {X : Type 0} (f : X → ModuleDeclTree) (b : Bounds) (scopes : List (List KnownCoreType)) where
   abbrev declares : ModuleScope → List X → Result ModuleScope ShapeFault

@@ -10,7 +10,7 @@ use Rattle.comp_space.specs.declared.standing.Standing.{Standing}
 use Rattle.comp_space.specs.Faults.{Fails, Found}
 use Rattle.comp_space.specs.Rows.{all_of, all_named, ShowsRows}
 use Rattle.comp_space.specs.Standings.{Shows}
-use Rattle.comp_space.proofs.StandingLaws.{fails_same}
+use Rattle.comp_space.specs.StandingLaws.{fails_same}
 use Rattle.comp_table.specs.StandLaws.{all_none, all_kept, all_push}
 use Rattle.comp_table.specs.Trees.{PlainTree, AllStand, Extends}
 

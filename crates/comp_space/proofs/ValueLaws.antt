@@ -17,7 +17,7 @@ use Rattle.comp_space.specs.declared.error.ScopeError.{ScopeError}
 use Rattle.comp_space.specs.Faults.{Fails, Found}
 use Rattle.comp_space.specs.Rows.{all_of, all_named, field_of, case_of, plain_case, ShowsRows}
 use Rattle.comp_space.specs.Standings.{Shows}
-use Rattle.comp_space.proofs.StandingLaws.{fails_bind, fails_same, same_fault}
+use Rattle.comp_space.specs.StandingLaws.{fails_bind, fails_same, same_fault}
 use Rattle.comp_table.specs.declared.head.Head.{Head}
 use Rattle.comp_table.specs.declared.head.Head.TheVariants as head
 use Rattle.comp_table.specs.Plain.{plain_value, plain_values, plain_cases, plain_payload, plain_param, plain_result, plain_func, leaf, around, around_two}

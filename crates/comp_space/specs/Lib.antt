@@ -5,3 +5,6 @@ pub mod Rows
 pub mod CoreStandings
 pub mod SpaceViews
 pub mod Descriptions
+pub mod StandingLaws
+pub mod CoreLaws
+pub mod SpaceLaws

@@ -5,6 +5,7 @@
 mod agree;
 mod completions;
 mod compose;
+mod declarations;
 mod documents;
 mod encoder;
 mod entities;
@@ -29,6 +30,7 @@ mod wires;
 pub use agree::instance_order;
 pub use completions::emitted_events_begin_a_document;
 pub use compose::link_bytes;
+pub use declarations::one_resource;
 pub use documents::{number_of, take_scalar};
 pub use encoder::import_resource;
 pub use entities::serves_both;

@@ -13,9 +13,9 @@ use Rattle.comp_space.specs.CoreStandings.{AllShowCore}
 use Rattle.comp_space.specs.Faults.{Fails}
 use Rattle.comp_table.specs.Plain.{plain_core}
 use Rattle.comp_table.specs.StandLaws.{all_none, grows_not, grows_on, same_stands}
-use Rattle.comp_space.proofs.CoreLaws.{cores_push, module_kept, module_there_kept, scopes_kept, scopes_there_kept, with_type}
+use Rattle.comp_space.specs.CoreLaws.{cores_push, module_kept, module_there_kept, scopes_kept, scopes_there_kept, with_type}
 use Rattle.comp_space.proofs.ModuleLaws.{declares_fails, declares_push, kept_is}
-use Rattle.comp_space.proofs.StandingLaws.{fails_bind, fails_same, passed_on}
+use Rattle.comp_space.specs.StandingLaws.{fails_bind, fails_same, passed_on}
 use Rattle.comp_space.proofs.TreeLaws.{core_func, module_is}
 use Rattle.comp_space.proofs.core_types.+core_reading.Goals as goal
 

@@ -4,8 +4,8 @@ use Rattle.comp_scope.specs.CoreScopes.{core_item, with_module_decl}
 use Rattle.comp_space.specs.CoreStandings.{AllShowCore}
 use Rattle.comp_table.specs.Plain.{under_label}
 use Rattle.comp_table.specs.StandLaws.{grows_on, same_stands}
-use Rattle.comp_space.proofs.CoreLaws.{module_kept, module_there_kept, with_import}
-use Rattle.comp_space.proofs.StandingLaws.{below_push, fails_bind, passed_on}
+use Rattle.comp_space.specs.CoreLaws.{module_kept, module_there_kept, with_import}
+use Rattle.comp_space.specs.StandingLaws.{below_push, fails_bind, passed_on}
 use Rattle.comp_space.proofs.core_types.add_import.Goals as goal
 
 pub returns-in_err-item-clause-found : goal.returns-in_err-item-clause-found

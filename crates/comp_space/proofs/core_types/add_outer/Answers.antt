@@ -2,8 +2,8 @@ use Rattle.std.proofs.Common.{ap, sym, ◌∷◌, ◌++◌, [], Ok, map, length}
 use Rattle.warg_values.specs.Reading.{◌>>=◌}
 use Rattle.comp_scope.specs.CoreScopes.{outer_core, with_module_decl}
 use Rattle.comp_space.specs.CoreStandings.{ScopesShow, standing_out}
-use Rattle.comp_space.proofs.CoreLaws.{cores_push, out_fails, out_found, out_there, with_type}
-use Rattle.comp_space.proofs.StandingLaws.{fails_bind, fails_same, passed_on}
+use Rattle.comp_space.specs.CoreLaws.{cores_push, out_fails, out_found, out_there, with_type}
+use Rattle.comp_space.specs.StandingLaws.{fails_bind, fails_same, passed_on}
 use Rattle.comp_space.proofs.core_types.add_outer.Goals as goal
 
 pub returns-in_err-known-clause-found : goal.returns-in_err-known-clause-found

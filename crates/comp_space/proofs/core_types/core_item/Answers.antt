@@ -6,8 +6,8 @@ use Rattle.comp_scope.specs.Spaces.{at_index}
 use Rattle.comp_space.specs.CoreStandings.{ShowsCore}
 use Rattle.comp_table.specs.Plain.{plain_core}
 use Rattle.comp_table.specs.Trees.{Stands}
-use Rattle.comp_space.proofs.CoreLaws.{core_there}
-use Rattle.comp_space.proofs.StandingLaws.{fails_bind, fails_same, found_bind, pairwise_at, pairwise_fails, passed_on}
+use Rattle.comp_space.specs.CoreLaws.{core_there}
+use Rattle.comp_space.specs.StandingLaws.{fails_bind, fails_same, found_bind, pairwise_at, pairwise_fails, passed_on}
 use Rattle.comp_space.proofs.core_types.core_item.Goals as goal
 
 pub returns-in_err-known-in-Func-clause-found : goal.returns-in_err-known-in-Func-clause-found

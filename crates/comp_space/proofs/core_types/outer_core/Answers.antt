@@ -1,7 +1,7 @@
 use Rattle.std.proofs.Common.{rules, arith, subst, sym}
 use Rattle.warg_values.specs.Answers.{Gives}
 use Rattle.comp_space.specs.Faults.{fault_of}
-use Rattle.comp_space.proofs.CoreLaws.{out_here, out_past}
+use Rattle.comp_space.specs.CoreLaws.{out_here, out_past}
 use Rattle.comp_space.proofs.core_types.outer_core.Goals as goal
 
 pub returns-then-outer-around : goal.returns-then-outer-around

@@ -5,7 +5,7 @@ use Rattle.comp_space.specs.Standings.{Shows}
 use Rattle.comp_space.specs.Rows.{case_of, plain_case}
 use Rattle.comp_table.specs.StandLaws.{grows_on}
 use Rattle.comp_space.proofs.RowLaws.{rows_fail, rows_step}
-use Rattle.comp_space.proofs.StandingLaws.{all_show_kept, below_push, numbers_kept, passed_on}
+use Rattle.comp_space.specs.StandingLaws.{all_show_kept, below_push, numbers_kept, passed_on}
 use Rattle.comp_space.proofs.parts.cases_of.Goals as goal
 
 pub returns-in_err-standing-clause-found : goal.returns-in_err-standing-clause-found

@@ -5,7 +5,7 @@ use Rattle.comp_entity.specs.Entity.{Primitive}
 use Rattle.comp_space.specs.Faults.{Finds}
 use Rattle.comp_space.specs.Standings.{Shows}
 use Rattle.comp_table.specs.Plain.{plain_entity, plain_value}
-use Rattle.comp_space.proofs.StandingLaws.{at_found, at_fails, fails_bind, fails_same, found_bind, number_there, passed_on}
+use Rattle.comp_space.specs.StandingLaws.{at_found, at_fails, fails_bind, fails_same, found_bind, number_there, passed_on}
 use Rattle.comp_space.proofs.parts.part_of.Goals as goal
 
 pub value_standing-requires : goal.value_standing-requires

@@ -3,7 +3,7 @@ use Rattle.comp_scope.specs.Values.{part_of, payload_of}
 use Rattle.comp_entity.specs.Entity.{absent, present}
 use Rattle.comp_space.specs.Standings.{Shows}
 use Rattle.comp_table.specs.Plain.{plain_payload, plain_value}
-use Rattle.comp_space.proofs.StandingLaws.{finds_map}
+use Rattle.comp_space.specs.StandingLaws.{finds_map}
 use Rattle.comp_space.proofs.parts.payload_of.Goals as goal
 
 pub returns-in-Some-clause-found : goal.returns-in-Some-clause-found

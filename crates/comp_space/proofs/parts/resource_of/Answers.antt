@@ -4,7 +4,7 @@ use Rattle.comp_scope.specs.Values.{as_resource, resource_of}
 use Rattle.comp_space.specs.Faults.{fault_of}
 use Rattle.warg_values.specs.Answers.{Gives}
 use Rattle.warg_values.specs.Reading.{◌>>=◌}
-use Rattle.comp_space.proofs.StandingLaws.{at_found, at_fails, fails_bind, fails_same, number_there, passed_on_as}
+use Rattle.comp_space.specs.StandingLaws.{at_found, at_fails, fails_bind, fails_same, number_there, passed_on_as}
 use Rattle.comp_space.proofs.parts.resource_of.Goals as goal
 
 pub resource_standing-requires : goal.resource_standing-requires

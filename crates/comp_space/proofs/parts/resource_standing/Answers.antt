@@ -1,4 +1,4 @@
-use Rattle.comp_space.proofs.StandingLaws.{resource_found}
+use Rattle.comp_space.specs.StandingLaws.{resource_found}
 use Rattle.comp_space.proofs.parts.resource_standing.Goals as goal
 
 pub returns-in-Resource : goal.returns-in-Resource

@@ -1,5 +1,5 @@
 use Rattle.std.proofs.Common.{sym, ◌∙◌}
-use Rattle.comp_space.proofs.SpaceLaws.{put_component, put_func, put_instance, put_module, put_type}
+use Rattle.comp_space.specs.SpaceLaws.{put_component, put_func, put_instance, put_module, put_type}
 use Rattle.comp_space.proofs.space.put.Goals as goal
 
 pub returns-in_ok-push-in-Core-clause-placed : goal.returns-in_ok-push-in-Core-clause-placed

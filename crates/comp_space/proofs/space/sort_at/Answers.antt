@@ -1,5 +1,5 @@
 use Rattle.std.proofs.Common.{◌∙◌}
-use Rattle.comp_space.proofs.SpaceLaws.{sort_is}
+use Rattle.comp_space.specs.SpaceLaws.{sort_is}
 use Rattle.comp_space.proofs.space.sort_at.Goals as goal
 
 pub returns : goal.returns

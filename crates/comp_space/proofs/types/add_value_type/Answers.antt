@@ -8,8 +8,8 @@ use Rattle.comp_space.specs.Faults.{Finds}
 use Rattle.comp_space.specs.SpaceViews.{ShowsSpaces}
 use Rattle.comp_space.specs.Standings.{AllShow, AreThere, Shows}
 use Rattle.comp_table.specs.Plain.{plain_value}
-use Rattle.comp_space.proofs.SpaceLaws.{space_is_there, space_kept}
-use Rattle.comp_space.proofs.StandingLaws.{fails_bind, found_bind, on_err_always, passed_on}
+use Rattle.comp_space.specs.SpaceLaws.{space_is_there, space_kept}
+use Rattle.comp_space.specs.StandingLaws.{fails_bind, found_bind, on_err_always, passed_on}
 use Rattle.comp_space.proofs.types.add_value_type.Goals as goal
 
 pub value_of-requires : goal.value_of-requires

@@ -4,7 +4,7 @@ use Rattle.comp_space.specs.Rows.{ShowsRows, all_of, field_of}
 use Rattle.comp_table.specs.Plain.{plain_param}
 use Rattle.comp_table.specs.declared.head.Head.TheVariants as head
 use Rattle.comp_table.specs.Trees.{IsBelow, Stands, node_tree}
-use Rattle.comp_space.proofs.StandingLaws.{all_show_kept, numbers_kept, passed_on, there_kept}
+use Rattle.comp_space.specs.StandingLaws.{all_show_kept, numbers_kept, passed_on, there_kept}
 use Rattle.comp_space.proofs.ValueLaws.{func_fails, func_found, func_result_fails}
 use Rattle.comp_space.proofs.values.func_of.Goals as goal
 

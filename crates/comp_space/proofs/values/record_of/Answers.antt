@@ -1,4 +1,4 @@
-use Rattle.comp_space.proofs.StandingLaws.{passed_on}
+use Rattle.comp_space.specs.StandingLaws.{passed_on}
 use Rattle.comp_space.proofs.ValueLaws.{record_fails, record_found}
 use Rattle.comp_space.proofs.values.record_of.Goals as goal
 

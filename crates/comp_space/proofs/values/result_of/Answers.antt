@@ -1,4 +1,4 @@
-use Rattle.comp_space.proofs.StandingLaws.{all_show_kept, number_kept, passed_on, there_kept}
+use Rattle.comp_space.specs.StandingLaws.{all_show_kept, number_kept, passed_on, there_kept}
 use Rattle.comp_space.proofs.ValueLaws.{second_side_fails, side_fails, sides_found}
 use Rattle.comp_space.proofs.values.result_of.Goals as goal
 

@@ -4,7 +4,7 @@ use Rattle.comp_entity.specs.Bounds.{bounded, kept}
 use Rattle.comp_scope.specs.Spaces.{added, placed}
 use Rattle.comp_space.specs.Faults.{Fails}
 use Rattle.comp_space.proofs.ModuleLaws.{kept_is}
-use Rattle.comp_space.proofs.StandingLaws.{fails_bind, passed_on}
+use Rattle.comp_space.specs.StandingLaws.{fails_bind, passed_on}
 use Rattle.comp_space.proofs.space.Space.add.Goals as goal
 
 pub returns-in_err-check_bounds-clause-found : goal.returns-in_err-check_bounds-clause-found

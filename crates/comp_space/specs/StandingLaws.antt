@@ -29,6 +29,15 @@ failed fault = Err fault
 pub same_fault : {A F : Type 0} (x y : F) → failed {A = A} x ≡ failed y → x ≡ y
 same_fault x y e = cc
 
+-- a reading that goes on
+pub bind_end : {A F : Type 0} (r : Result A F) → (r >>= λ x. Ok x) ≡ r
+bind_end (Ok x) = refl
+bind_end (Err e) = refl
+
+pub then_first : {A B C F : Type 0} (r : Result A F) (g : A → Result C F) (h : A → Result B F) (k : B → Result C F) → ((x : A) → g x ≡ (h x >>= k)) → (r >>= g) ≡ ((r >>= h) >>= k)
+then_first (Ok x) g h k e = e x
+then_first (Err f) g h k e = refl
+
 -- a fault ends a reading
 pub fails_bind : {A B : Type 0} (given : Result A ShapeFault) (next : A → Result B ShapeFault) (error : ScopeError) → Fails error given → Fails error (given >>= next)
 fails_bind given next errors.Index h = ap (λ r. r >>= next) h

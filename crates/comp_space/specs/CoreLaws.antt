@@ -16,7 +16,7 @@ use Rattle.comp_space.specs.declared.core_types.CoreStanding.TheVariants as by_n
 use Rattle.comp_space.specs.declared.core_types.ModuleScope.{ModuleScope}
 use Rattle.comp_space.specs.CoreStandings.{ShowsCore, AllShowCore, ScopesShow, IsCoreBelow, CoresAreThere, ScopesAreThere, ShowsModule, ModuleIsThere, standing_out}
 use Rattle.comp_space.specs.Faults.{Found}
-use Rattle.comp_space.proofs.StandingLaws.{pairwise_kept, pairwise_push, pairwise_at, pairwise_fails, number_kept, numbers_kept, same_fault}
+use Rattle.comp_space.specs.StandingLaws.{pairwise_kept, pairwise_push, pairwise_at, pairwise_fails, number_kept, numbers_kept, same_fault}
 use Rattle.std.specs.List.{AllByRecursion}
 use Rattle.comp_table.specs.Plain.{plain_core, plain_module, plain_import, plain_export}
 use Rattle.comp_table.specs.StandLaws.{stands_kept, all_kept, all_push}

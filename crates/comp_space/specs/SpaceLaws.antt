@@ -11,8 +11,8 @@ use Rattle.comp_space.specs.declared.standing.Standing.{Standing}
 use Rattle.comp_space.specs.Heads.{sort_of_head}
 use Rattle.comp_space.specs.SpaceViews.{ShowsSpaces, SpaceIsThere}
 use Rattle.comp_space.specs.Standings.{Shows}
-use Rattle.comp_space.proofs.CoreLaws.{cores_kept, cores_are_there}
-use Rattle.comp_space.proofs.StandingLaws.{all_show_kept, all_are_there, pairwise_push}
+use Rattle.comp_space.specs.CoreLaws.{cores_kept, cores_are_there}
+use Rattle.comp_space.specs.StandingLaws.{all_show_kept, all_are_there, pairwise_push}
 use Rattle.comp_table.specs.declared.head.Head.{Head}
 use Rattle.comp_table.specs.Plain.{plain_value, plain_entity}
 use Rattle.comp_table.specs.Trees.{PlainTree, Extends, Stands, tree_at, root}

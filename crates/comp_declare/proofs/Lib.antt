@@ -1,0 +1,10 @@
+mod CountLaws
+mod DescribedLaws
+mod EntryLaws
+mod IndexLaws
+mod ScopeLaws
+mod MentionLaws
+mod OuterLaws
+mod ExportLaws
+mod AliasLaws
+mod OuterAliasLaws
