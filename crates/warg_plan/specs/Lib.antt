@@ -1,0 +1,14 @@
+pub mod Cause
+pub mod CauseLaws
+pub mod EntryLaws
+pub mod FactLaws
+pub mod GoesOnLaws
+pub mod KeyLaws
+pub mod Keys
+pub mod Known
+pub mod OrderLaws
+pub mod Plan
+pub mod PlanLaws
+pub mod StopLaws
+pub mod Walk
+pub mod WalkLaws
