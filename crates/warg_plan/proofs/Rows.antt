@@ -2,7 +2,7 @@
 use Rattle.std.proofs.Common.{◌≡◌, ℕ, List, [], ◌∷◌, ◌++◌, Option, Some, None, Ok, Err, refl, codes}
 use Rattle.semver.specs.Parse.{Parts}
 use Rattle.compose_config.specs.Plan.{Settings, Argument, no_settings}
-use Rattle.warg_names.specs.Import.{ImportTree, Unlocked, import_of, dependency_import, unlocked_of, dependency_of, other_of, interface_of, interface, package_of}
+use Rattle.warg_names.specs.Import.{ImportTree, Unlocked, import_of, unlocked_of, dependency_of, other_of, interface_of, package_of}
 use Rattle.warg_names.specs.Cut.{behind, cut_first, cut_last, closed_by}
 use Rattle.warg_names.specs.Same.{same_import}
 use Rattle.warg_plan.specs.Keys.{Key, Named, Parsed, asked, choice_for}

@@ -1,5 +1,5 @@
 -- Each stop of the walk has its cause.
-use Rattle.std.proofs.Common.{◌≡◌, ℕ, Bool, true, false, ◌||◌, cond, List, [], ◌∷◌, Option, Some, None, Result, Ok, Err, refl, sym, ap, subst, ◌∙◌, inl, inr, bytes_eq}
+use Rattle.std.proofs.Common.{◌≡◌, ℕ, Bool, true, false, ◌||◌, cond, List, [], ◌∷◌, Option, Some, None, Result, Ok, Err, refl, sym, ap, subst, inl, inr, bytes_eq}
 use Rattle.std.specs.Prelude.{◌⊎◌}
 use Rattle.std.proofs.lemmas.Slice.Eq.{bytes_eq-Decides}
 use Rattle.semver.specs.Parse.{Parts}
@@ -7,10 +7,10 @@ use Rattle.warg_values.specs.Reading.{◌>>=◌}
 use Rattle.warg_names.specs.Import.{ImportTree, import_of}
 use Rattle.compose_config.specs.Plan.{Settings, Argument}
 use Rattle.warg_plan.specs.Keys.{Key, Release, asked, choice_for}
-use Rattle.warg_plan.specs.Walk.{Facts, Content, log_in, content_in, Stop, NeedsLog, NeedsContent, NoPackage, NoRelease, BadImportName, NoSuchImport, Cycle, TooDeep, Wire, Node, or_stop, given, wire_of, wires_of, is_among, stray, if_none, wires_at, node_with, node_of, walk}
+use Rattle.warg_plan.specs.Walk.{Facts, Content, log_in, content_in, Stop, NeedsLog, NeedsContent, NoPackage, NoRelease, BadImportName, NoSuchImport, Wire, Node, or_stop, given, wire_of, wires_of, is_among, stray, if_none, wires_at, node_with, node_of, walk}
 use Rattle.warg_plan.specs.Plan.{HasLog, Chooses}
-use Rattle.warg_plan.specs.Cause.{HasContent, names_of, IsNode, IsCauseAt, IsCause}
-use Rattle.warg_plan.specs.StopLaws.{err_is, ok_no_err, bind_err, StopsAt, Stops, walk_stops}
+use Rattle.warg_plan.specs.Cause.{HasContent, names_of, IsCauseAt, IsCause}
+use Rattle.warg_plan.specs.StopLaws.{err_is, ok_no_err, bind_err, StopsAt, walk_stops}
 
 or_stop_err : {X : Type 0} (t s : Stop) (o : Option X) → or_stop t o ≡ Err s → (o ≡ None) × (t ≡ s)
 or_stop_err {X} t s None e = (refl, err_is {A = X} t s e)

@@ -1,5 +1,5 @@
 -- An entry of a node is one in the words of a plan, and back.
-use Rattle.std.proofs.Common.{◌≡◌, ℕ, zero, suc, ◌+◌, Bool, true, false, ◌||◌, cond, List, [], ◌∷◌, ◌++◌, length, Option, Some, None, Result, Ok, Err, refl, sym, ap, subst, ◌∙◌, append_assoc, arith}
+use Rattle.std.proofs.Common.{◌≡◌, ℕ, zero, suc, ◌+◌, Bool, true, false, ◌||◌, cond, List, [], ◌∷◌, ◌++◌, length, Option, Some, None, Result, Ok, refl, sym, ap, subst, ◌∙◌, append_assoc, arith}
 use Rattle.std.specs.Prelude.{slice_get}
 use Rattle.std.specs.List.{AllByRecursion}
 use Rattle.std.proofs.lemmas.List.{length-append, length-map, map-append}
@@ -11,9 +11,9 @@ use Rattle.compose_config.specs.Plan.{Settings, Argument}
 use Rattle.warg_plan.specs.Keys.{Key, Release, same_key, asked, choice_for}
 use Rattle.warg_plan.specs.Walk.{Facts, Content, log_in, content_in, Stop, NeedsLog, NeedsContent, NoPackage, NoRelease, BadImportName, Wire, Open, To, Node, Arg, Left, OfEntry, Entry, keys, has_key, place_of, argument, arguments, entry_of, or_stop, given, wire_of, wires_of, is_among, stray, if_none, wires_at, node_with, node_of}
 use Rattle.warg_plan.specs.Plan.{IsFilled, AreFilled, HasLog, Chooses, IsEntry, EachAfter, wired_by, wired}
-use Rattle.warg_plan.specs.KeyLaws.{same_itself, same_is}
+use Rattle.warg_plan.specs.KeyLaws.{same_itself}
 use Rattle.warg_plan.specs.WalkLaws.{IsNodeEntry, or_false, each_after}
-use Rattle.warg_plan.specs.OrderLaws.{Found, found}
+use Rattle.warg_plan.specs.OrderLaws.{found}
 use Rattle.warg_plan.specs.CauseLaws.{or_stop_ok}
 
 -- ---- from nodes

@@ -1,13 +1,10 @@
 -- A walk over more that is known goes the same way, or goes on where something was asked for.
-use Rattle.std.proofs.Common.{◌≡◌, ℕ, zero, suc, Bool, true, false, cond, List, [], ◌∷◌, ◌++◌, map, Option, Some, None, Result, Ok, Err, refl, sym, ap, subst, ◌∙◌, inl, inr, bytes_eq}
-use Rattle.std.specs.Prelude.{◌⊎◌}
-use Rattle.std.specs.Map.{lookup}
+use Rattle.std.proofs.Common.{◌≡◌, ℕ, zero, suc, Bool, true, false, cond, List, [], ◌∷◌, Option, Some, None, Result, Ok, Err, refl, sym, ap, subst, ◌∙◌, inl, inr}
 use Rattle.warg_values.specs.Reading.{◌>>=◌}
 use Rattle.warg_values.specs.ReadingLaws.{never}
 use Rattle.compose_config.specs.Plan.{Settings}
-use Rattle.warg_names.specs.Import.{ImportTree}
-use Rattle.warg_plan.specs.Keys.{Key, Release, asked, choice_for}
-use Rattle.warg_plan.specs.Walk.{Content, Facts, Stop, NeedsLog, NeedsContent, NoPackage, NoRelease, TooDeep, Cycle, Wire, Open, To, Node, Entry, keys, has_key, entry_of, or_stop, given, log_in, content_in, node_of, along_one, along, visit, walk}
+use Rattle.warg_plan.specs.Keys.{Key, asked, choice_for}
+use Rattle.warg_plan.specs.Walk.{Facts, Stop, NeedsLog, NeedsContent, NoPackage, NoRelease, Cycle, Wire, Open, To, Node, Entry, keys, has_key, or_stop, log_in, content_in, node_of, along_one, along, visit}
 use Rattle.warg_plan.specs.Known.{IsNeed, IsBelow, Extends}
 
 module _ {X Y : Type 0} (all : Facts) where

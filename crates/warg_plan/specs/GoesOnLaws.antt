@@ -1,17 +1,16 @@
 -- Where there is a plan, the walk refuses nothing.
-use Rattle.std.proofs.Common.{◌≡◌, ℕ, zero, suc, ◌+◌, ◌<◌, ◌≤◌, Bool, true, false, ◌||◌, cond, List, [], ◌∷◌, ◌++◌, length, map, Option, Some, None, Result, Ok, Err, refl, sym, ap, subst, ◌∙◌, append_assoc, arith, inl, inr}
+use Rattle.std.proofs.Common.{◌≡◌, ℕ, zero, suc, ◌<◌, ◌≤◌, Bool, true, false, ◌||◌, cond, List, [], ◌∷◌, ◌++◌, length, Result, Ok, Err, refl, sym, ap, subst, ◌∙◌, append_assoc, arith, inl, inr}
 use Rattle.std.proofs.lemmas.List.{map-append, append-nil, length-append}
-use Rattle.std.proofs.lemmas.Bool.{cases_Bool}
 use Rattle.std.specs.Prelude.{◌⊎◌}
-use Rattle.std.specs.List.{AllByRecursion, list_any, flat_map}
+use Rattle.std.specs.List.{AllByRecursion}
 use Rattle.warg_values.specs.Reading.{◌>>=◌}
 use Rattle.warg_plan.specs.Keys.{Key, same_key}
 use Rattle.compose_config.specs.Plan.{Settings}
-use Rattle.warg_plan.specs.Walk.{Facts, node_of, Stop, TooDeep, Cycle, Wire, Open, To, Node, Entry, keys, has_key, entry_of, along_one, along, visit, walk}
+use Rattle.warg_plan.specs.Walk.{Facts, node_of, Stop, Cycle, Wire, Open, To, Node, Entry, keys, has_key, entry_of, along_one, along, visit, walk}
 use Rattle.warg_plan.specs.Known.{Extends, IsNeed, IsBelow}
 use Rattle.warg_plan.specs.Plan.{wired_by, wired, EachAfter}
 use Rattle.warg_plan.specs.KeyLaws.{same_itself, same_is}
-use Rattle.warg_plan.specs.WalkLaws.{IsNodeEntry, no_truth, or_false, has_none, keys_more}
+use Rattle.warg_plan.specs.WalkLaws.{IsNodeEntry, no_truth, or_false}
 use Rattle.warg_plan.specs.FactLaws.{node_below, visit_below}
 
 module _ (node : Key → Result Node Stop) where

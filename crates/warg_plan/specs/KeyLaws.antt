@@ -1,5 +1,5 @@
 -- Keys are the same exactly where they are equal.
-use Rattle.std.proofs.Common.{◌≡◌, Bool, true, refl, ap}
+use Rattle.std.proofs.Common.{◌≡◌, true, refl, ap}
 use Rattle.std.proofs.lemmas.Slice.Eq.{bytes_eq-Decides}
 use Rattle.warg_names.specs.SameLaws.{imports}
 use Rattle.warg_plan.specs.Keys.{Key, Named, Parsed, same_key}

@@ -2,6 +2,9 @@ pub mod Cause
 pub mod CauseLaws
 pub mod EntryLaws
 pub mod FactLaws
+pub mod Form
+pub mod FormLaws
+pub mod FormView
 pub mod GoesOnLaws
 pub mod KeyLaws
 pub mod Keys
@@ -10,5 +13,6 @@ pub mod OrderLaws
 pub mod Plan
 pub mod PlanLaws
 pub mod StopLaws
+pub mod View
 pub mod Walk
 pub mod WalkLaws

@@ -1,15 +1,15 @@
 -- What the walk finds is in order.
-use Rattle.std.proofs.Common.{◌≡◌, ℕ, zero, suc, ◌+◌, ◌<◌, ◌≤◌, Bool, true, false, ◌||◌, cond, List, [], ◌∷◌, ◌++◌, length, map, Option, Some, None, Result, Ok, Err, refl, sym, ap, subst, ◌∙◌, append_assoc, arith, inl, inr}
+use Rattle.std.proofs.Common.{◌≡◌, ℕ, zero, suc, ◌≤◌, Bool, true, false, ◌||◌, cond, List, [], ◌∷◌, ◌++◌, length, Option, Some, Result, Ok, Err, refl, sym, ap, subst, ◌∙◌, append_assoc, arith}
 use Rattle.std.proofs.lemmas.List.{map-append, append-nil, length-append}
 use Rattle.std.specs.Prelude.{slice_get}
-use Rattle.std.specs.List.{AllByRecursion, list_any, flat_map}
+use Rattle.std.specs.List.{AllByRecursion}
 use Rattle.warg_values.specs.Reading.{◌>>=◌}
 use Rattle.warg_values.specs.ReadingLaws.{bind_ok, ok_is, never}
 use Rattle.warg_plan.specs.Keys.{Key, same_key}
-use Rattle.warg_plan.specs.Walk.{Stop, TooDeep, Cycle, Wire, Open, To, Node, Arg, Left, OfEntry, Entry, keys, has_key, place_of, argument, arguments, entry_of, along_one, along, visit, walk}
-use Rattle.warg_plan.specs.Plan.{wired_by, wired, key_in, at_arg, arg_keys, EachAfter, post, post_all, taken_by}
+use Rattle.warg_plan.specs.Walk.{Stop, TooDeep, Cycle, Wire, Open, To, Node, OfEntry, Entry, keys, has_key, place_of, argument, arguments, entry_of, along_one, along, visit, walk}
+use Rattle.warg_plan.specs.Plan.{wired_by, wired, key_in, at_arg, arg_keys, post, post_all, taken_by}
 use Rattle.warg_plan.specs.KeyLaws.{same_itself, same_is}
-use Rattle.warg_plan.specs.WalkLaws.{IsNodeEntry, no_truth, or_false, Grew, Visits, along_grew, visit_grew, walk_each, keys_apart, has_none, keys_more}
+use Rattle.warg_plan.specs.WalkLaws.{no_truth, or_false, Visits, along_grew, visit_grew, keys_apart, has_none, keys_more}
 
 get_front : (a b : List Entry) (i : ℕ) (e : Entry) → slice_get a i ≡ Some e → slice_get (a ++ b) i ≡ Some e
 get_front [] b i e h = absurd cc

@@ -1,10 +1,10 @@
 -- Why the walk stops: at an entry, at a key that needs itself, or at its depth.
-use Rattle.std.proofs.Common.{◌≡◌, ℕ, zero, suc, ◌+◌, Bool, true, false, ◌||◌, cond, List, [], ◌∷◌, ◌++◌, length, Option, Some, None, Result, Ok, Err, refl, sym, ap, subst, ◌∙◌, append_assoc, inl, inr, arith}
+use Rattle.std.proofs.Common.{◌≡◌, ℕ, zero, suc, ◌+◌, Bool, true, false, ◌||◌, cond, List, [], ◌∷◌, ◌++◌, length, Result, Ok, Err, refl, sym, ap, subst, append_assoc, inl, inr, arith}
 use Rattle.std.specs.Prelude.{◌⊎◌}
 use Rattle.warg_values.specs.Reading.{◌>>=◌}
 use Rattle.warg_plan.specs.Keys.{Key, same_key}
 use Rattle.warg_plan.specs.Walk.{Stop, TooDeep, Cycle, Wire, Open, To, Node, Entry, keys, has_key, entry_of, along_one, along, visit, walk}
-use Rattle.warg_plan.specs.Plan.{wired_by, wired, IsIn, NeedsNext, IsTrail, Needs, NeedsItself}
+use Rattle.warg_plan.specs.Plan.{wired_by, wired, IsIn, IsTrail, Needs, NeedsItself}
 use Rattle.warg_plan.specs.KeyLaws.{same_is}
 use Rattle.warg_plan.specs.WalkLaws.{no_truth}
 

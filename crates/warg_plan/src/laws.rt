@@ -1,13 +1,14 @@
 //! What is known of plans and of the walk. Each law is the contract of a function that does nothing; as lemmas they
-//! stand in `specs/PlanLaws`, `specs/CauseLaws` and `specs/KeyLaws`.
+//! stand in `specs/PlanLaws`, `specs/CauseLaws`, `specs/KeyLaws` and `specs/FormLaws`.
 
-ghost use Rattle.std.specs.Prelude.{◌≡◌, ◌↔◌, ◌⊎◌, ◌≤◌, ℕ, List, length, Ok, Err, true};
+ghost use Rattle.std.specs.Prelude.{◌≡◌, ◌↔◌, ◌⊎◌, ◌≤◌, ℕ, List, length, None, Ok, Err, true};
 ghost use Rattle.compose_config.specs.Plan.{Settings};
 ghost use Rattle.warg_plan.specs.Keys.{Key, same_key};
 ghost use Rattle.warg_plan.specs.Walk.{Entry, Facts, Stop, node_of, walk};
 ghost use Rattle.warg_plan.specs.Plan.{IsPlan};
 ghost use Rattle.warg_plan.specs.Known.{Extends, IsNeed, IsBelow};
 ghost use Rattle.warg_plan.specs.Cause.{IsCause};
+ghost use Rattle.warg_plan.specs.Form.{IsPlanText, misfit_of};
 
 /// What the walk finds is a plan.
 pub fn the_walk_finds_a_plan()
@@ -45,4 +46,9 @@ pub fn a_plan_is_found()
 /// Keys are the same exactly where they are equal.
 pub fn the_same_keys_are_equal()
     ensures { (a b : Key) → (same_key a b ≡ true) ↔ (a ≡ b) }
+{}
+
+/// A text sets nothing that has no place in a plan exactly where a plan is made of it.
+pub fn a_text_has_no_misfit()
+    ensures { (s : Settings) → (misfit_of s ≡ None) ↔ IsPlanText s }
 {}
