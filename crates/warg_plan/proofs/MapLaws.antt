@@ -1,0 +1,74 @@
+-- Maps whose keys and values are seen in another way.
+use Rattle.std.proofs.Common.{◌≡◌, ℕ, Bool, true, false, ◌||◌, cond, List, [], ◌∷◌, ◌++◌, map, Some, option_map, is_some, refl, sym, ap, ◌∙◌, bytes_eq}
+use Rattle.std.specs.List.{list_any}
+use Rattle.std.specs.Map.{lookup, keys_of}
+use Rattle.std.proofs.lemmas.Slice.Eq.{bytes_eq-Decides}
+use Rattle.std.proofs.lemmas.Bool.{false≢true}
+use Rattle.indexmap.specs.IndexMap.{insert_entry}
+use Rattle.yaml_read.specs.Entries.{seen_entry}
+use Rattle.compose_config.specs.Plan.{Instance, instance_named}
+use Rattle.warg_plan.specs.Keys.{Release}
+use Rattle.warg_plan.specs.Walk.{Content, Facts}
+
+module _ {K V W : Type 0} (g : V → W) where
+  abbrev pub mapped : K × V → K × W
+  mapped e = (e.0, g e.1)
+
+  pub lookup_mapped : (t : K → Bool) (es : List (K × V)) → lookup t (map (λ (e : K × V). (e.0, g e.1)) es) ≡ option_map g (lookup t es)
+  lookup_mapped t [] = refl
+  lookup_mapped t (e ∷ es) = by (t e.0) (lookup_mapped t es)
+    where
+      by : (b : Bool) → lookup t (map (λ (e : K × V). (e.0, g e.1)) es) ≡ option_map g (lookup t es) → cond b (Some (g e.1)) (lookup t (map (λ (e : K × V). (e.0, g e.1)) es)) ≡ option_map g (cond b (Some e.1) (lookup t es))
+      by true later = refl
+      by false later = later
+
+  pub insert_mapped : (eq : K → K → Bool) (es : List (K × V)) (k : K) (v : V) → map (λ (e : K × V). (e.0, g e.1)) (insert_entry eq es k v) ≡ insert_entry eq (map (λ (e : K × V). (e.0, g e.1)) es) k (g v)
+  insert_mapped eq [] k v = refl
+  insert_mapped eq (e ∷ es) k v = by (eq k e.0) (insert_mapped eq es k v)
+    where
+      by : (b : Bool) → map (λ (e : K × V). (e.0, g e.1)) (insert_entry eq es k v) ≡ insert_entry eq (map (λ (e : K × V). (e.0, g e.1)) es) k (g v) → map (λ (e : K × V). (e.0, g e.1)) (cond b ((e.0, v) ∷ es) (e ∷ insert_entry eq es k v)) ≡ cond b ((e.0, g v) ∷ map (λ (e : K × V). (e.0, g e.1)) es) ((e.0, g e.1) ∷ insert_entry eq (map (λ (e : K × V). (e.0, g e.1)) es) k (g v))
+      by true later = refl
+      by false later = ap (λ l. (e.0, g e.1) ∷ l) later
+
+bytes_turned : (a b : List ℕ) → bytes_eq a b ≡ bytes_eq b a
+bytes_turned a b = by (bytes_eq a b) (bytes_eq b a) refl refl
+  where
+    by : (x y : Bool) → bytes_eq a b ≡ x → bytes_eq b a ≡ y → x ≡ y
+    by true true p q = refl
+    by false false p q = refl
+    by true false p q = absurd (false≢true (sym q ∙ ((bytes_eq-Decides b a).1 (sym ((bytes_eq-Decides a b).0 p)))))
+    by false true p q = absurd (false≢true (sym p ∙ ((bytes_eq-Decides a b).1 (sym ((bytes_eq-Decides b a).0 q)))))
+
+-- the instance of a name is what a map has at it
+pub instance_is : {V : Type 0} (f : V → Instance) (es : List (List ℕ × V)) (name : List ℕ) → instance_named (map (seen_entry f) es) name ≡ option_map f (lookup (bytes_eq name) es)
+instance_is f [] name = refl
+instance_is {V} f (e ∷ es) name = ap (λ b. cond b (Some (f e.1)) (instance_named (map (seen_entry f) es) name)) (bytes_turned e.0 name) ∙ by (bytes_eq name e.0) (instance_is f es name)
+  where
+    by : (b : Bool) → instance_named (map (seen_entry f) es) name ≡ option_map f (lookup (bytes_eq name) es) → cond b (Some (f e.1)) (instance_named (map (seen_entry f) es) name) ≡ option_map f (cond b (Some e.1) (lookup (bytes_eq name) es))
+    by true later = refl
+    by false later = later
+
+-- what is looked up is there where its key is
+pub lookup_there : {K V : Type 0} (t : K → Bool) (es : List (K × V)) → is_some (lookup t es) ≡ list_any t (keys_of es)
+lookup_there t [] = refl
+lookup_there {K} {V} t (e ∷ es) = by (t e.0) (lookup_there t es)
+  where
+    by : (b : Bool) → is_some (lookup t es) ≡ list_any t (keys_of es) → is_some (cond b (Some e.1) (lookup t es)) ≡ (b || list_any t (keys_of es))
+    by true later = refl
+    by false later = later
+
+-- a new key goes last
+pub insert_new : {K V : Type 0} (eq : K → K → Bool) (es : List (K × V)) (k : K) (v : V) → list_any (eq k) (keys_of es) ≡ false → insert_entry eq es k v ≡ es ++ (k, v) ∷ []
+insert_new eq [] k v h = refl
+insert_new {K} {V} eq (e ∷ es) k v h = by (eq k e.0) h (insert_new eq es k v)
+  where
+    by : (b : Bool) → (b || list_any (eq k) (keys_of es)) ≡ false → (list_any (eq k) (keys_of es) ≡ false → insert_entry eq es k v ≡ es ++ (k, v) ∷ []) → cond b ((e.0, v) ∷ es) (e ∷ insert_entry eq es k v) ≡ e ∷ es ++ (k, v) ∷ []
+    by true h later = absurd cc
+    by false h later = ap (λ l. e ∷ l) (later h)
+
+-- facts with other logs, and with other contents
+abbrev pub with_logs : Facts → List (List ℕ × List Release) → Facts
+with_logs f logs = record f { logs = logs }
+
+abbrev pub with_contents : Facts → List (List ℕ × Content) → Facts
+with_contents f contents = record f { contents = contents }

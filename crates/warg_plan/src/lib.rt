@@ -1,0 +1,19 @@
+//! Plans of compositions: which releases of which packages a composition takes, and how these are wired.
+//!
+//! The walk over what is known finds the plan, or says which log or which content it needs next, or refuses. It is a
+//! definition, in `specs/Walk`, with its laws.
+#![tactic(auto)]
+
+mod choice;
+mod facts;
+mod key;
+pub mod laws;
+mod plan;
+mod stop;
+mod text;
+
+pub use facts::{Content, Facts};
+pub use key::PlanKey;
+pub use plan::{Plan, PlanArg, PlanEntry};
+pub use stop::Stop;
+pub use text::{TextError, check_text};
