@@ -9,6 +9,7 @@ pub mod info;
 pub mod json;
 pub mod log;
 pub mod names;
+pub mod page;
 pub mod proof;
 pub mod prover;
 pub mod record;
