@@ -5,6 +5,7 @@ pub mod api;
 pub mod body;
 pub mod exchange;
 pub mod hash;
+pub mod hint;
 pub mod info;
 pub mod json;
 pub mod log;
