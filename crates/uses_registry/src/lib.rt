@@ -8,6 +8,7 @@ pub mod hash;
 pub mod hint;
 pub mod info;
 pub mod json;
+pub mod ledger;
 pub mod log;
 pub mod names;
 pub mod page;
