@@ -6,7 +6,7 @@ ghost use Rattle.warg_exchange.specs.declared.exchange.Exchange.{Exchange};
 ghost use Rattle.warg_exchange.specs.declared.exchange.Request.{Request as Sent};
 ghost use Rattle.warg_exchange.specs.Requests.{Asker as Who};
 ghost use Rattle.warg_info.specs.Info.{operator_log, IsSoundOperator};
-ghost use Rattle.warg_update.specs.Logs.{Logs};
+ghost use Rattle.warg_page.specs.Logs.{Logs};
 ghost use Rattle.warg_update.specs.Proved.{IsSigned, Start, Proves};
 ghost use Rattle.warg_update.specs.Standing.{request_at, Stands};
 ghost use Rattle.warg_update.specs.Succession.{StandsTo};

@@ -9,7 +9,7 @@ use Rattle.warg_exchange.specs.declared.checkpoint.Checkpoint.{Checkpoint}
 use Rattle.warg_exchange.specs.declared.checkpoint.SignedCheckpoint.{SignedCheckpoint}
 use Rattle.warg_exchange.specs.Requests.{Asker, checkpoint_request, inclusion_request, consistency_request}
 use Rattle.warg_exchange.specs.Replies.{says, checkpoint_in}
-use Rattle.warg_update.specs.Logs.{Logs, indices_of}
+use Rattle.warg_page.specs.Logs.{Logs, indices_of}
 use Rattle.warg_update.specs.declared.error.AskError.{AskError}
 use Rattle.warg_update.specs.Proved.{page_request, Turns, Start, Asks, Opens, Proves, AsksCheckpoint, AsksInclusion, AsksConsistency}
 use Rattle.warg_update.specs.declared.error.UpdateError.{UpdateError}
@@ -18,8 +18,8 @@ use Rattle.warg_update.specs.declared.stage.Stage.TheVariants as stage
 use Rattle.warg_update.specs.declared.step.UpdateStep.{UpdateStep}
 use Rattle.warg_info.specs.declared.operator.OperatorInfo.{OperatorInfo}
 use Rattle.warg_info.specs.declared.package.PackageInfo.{PackageInfo}
-use Rattle.warg_update.specs.Steps.{AreGood, IsGoodOperator}
-use Rattle.warg_update.specs.Views.{AreSound}
+use Rattle.warg_page.specs.Steps.{AreGood, IsGoodOperator}
+use Rattle.warg_page.specs.Views.{AreSound}
 use Rattle.warg_update.specs.Standing.{turns_in, request_in, request_at, logs_of, Reached, IsReady, Stands, KeepsOn, Advances}
 use Rattle.warg_update.specs.Stages.{IsTurned, AreShown, FollowsHeads, IsContinued}
 use Rattle.warg_update.specs.FeedFaults.{IsFaultIn, IsFeedFault}
@@ -66,7 +66,7 @@ turned-advances accepts old new reply c at_stage there same keeps turned = advan
         let t = turned stands.ready in
         let opens : Opens a start xs c (logs_of old) true = stands-at accepts a start old xs stage.Page (Some c) at_stage there stands in
         let is : request ≡ page_request a c.contents.log_length (logs_of old) = page-asked old.pages_left _ request (asked-at a old stage.Page (Some c) request at_stage there asks) in
-        let turns : Turns a c.contents.log_length (logs_of old) x (logs_of new) t.page.more = record { asked = is; page = t.page; came = t.came; brings = t.brings; said = refl } in
+        let turns : Turns a c.contents.log_length (logs_of old) x (logs_of new) t.page.more = record { asked = is; page = t.page; came = t.came; brings = t.brings; kept = t.kept; said = refl } in
         subst (Reached new.stage accepts a start (xs ++ x ∷ []) (logs_of new)) (sym (same ∙ there)) (reached-page new.stage accepts a start xs c (logs_of old) (logs_of new) x t.page.more opens turns t.follows)
 
 -- ---- with the inclusion

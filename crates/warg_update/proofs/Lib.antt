@@ -1,13 +1,6 @@
 pub mod PagesLaws
-pub mod HeadLaws
-pub mod ListedLaws
-pub mod InfosLaws
-pub mod PlaceLaws
-pub mod PageLaws
-pub mod PresenceLaws
-pub mod Rows
 pub mod ToldLaws
+pub mod KeptLaws
 pub mod AskedLaws
 pub mod StandingLaws
-pub mod DistinctLaws
 pub mod AdvanceLaws

@@ -4,8 +4,8 @@ use Rattle.warg_log.specs.Rules.{Accepts}
 use Rattle.warg_exchange.specs.declared.exchange.Exchange.{Exchange}
 use Rattle.warg_exchange.specs.declared.checkpoint.SignedCheckpoint.{SignedCheckpoint}
 use Rattle.warg_exchange.specs.Requests.{Asker}
-use Rattle.warg_update.specs.Logs.{Logs}
-use Rattle.warg_update.specs.Proved.{Turns, Pages, Start, Opens, Shows, Proves, AreLawful, IsSigned, AsksCheckpoint, AsksInclusion, AsksConsistency, Succeeds}
+use Rattle.warg_page.specs.Logs.{Logs, AreLawful}
+use Rattle.warg_update.specs.Proved.{Turns, Pages, Start, Opens, Shows, Proves, IsSigned, AsksCheckpoint, AsksInclusion, AsksConsistency, Succeeds}
 
 -- a further page
 pub pages-push : (a : Asker) (n : ℕ) (before mid after : Logs) (xs : List Exchange) (x : Exchange) (more : Bool) → Pages a n before xs mid true → Turns a n mid x after more

@@ -9,7 +9,7 @@ use Rattle.warg_exchange.specs.declared.exchange.Reply.{Reply}
 use Rattle.warg_exchange.specs.declared.checkpoint.Checkpoint.{Checkpoint}
 use Rattle.warg_exchange.specs.declared.checkpoint.SignedCheckpoint.{SignedCheckpoint}
 use Rattle.warg_exchange.specs.Requests.{Asker, consistency_request}
-use Rattle.warg_update.specs.Logs.{Logs}
+use Rattle.warg_page.specs.Logs.{Logs}
 use Rattle.warg_update.specs.Proved.{Turns, Start, Opens, Asks, for_checkpoint, for_page, for_inclusion, for_consistency, AsksInclusion, Succeeds}
 use Rattle.warg_update.specs.Succession.{StandsTo}
 use Rattle.warg_update.specs.declared.succession.Succession.TheVariants as how

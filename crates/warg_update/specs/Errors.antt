@@ -4,10 +4,10 @@ use Rattle.warg_url.specs.declared.domain.HeaderError.{HeaderError}
 use Rattle.warg_url.specs.declared.domain.HeaderError.TheVariants as header
 use Rattle.warg_api.specs.declared.error.ClientError.{ClientError}
 use Rattle.warg_api.specs.declared.error.ClientError.TheVariants as call
-use Rattle.warg_update.specs.declared.page.PageError.{PageError}
-use Rattle.warg_update.specs.declared.page.PageError.TheVariants as page
-use Rattle.warg_update.specs.declared.presence.PresenceError.{PresenceError}
-use Rattle.warg_update.specs.declared.presence.PresenceError.TheVariants as presence
+use Rattle.warg_page.specs.declared.page.PageError.{PageError}
+use Rattle.warg_page.specs.declared.page.PageError.TheVariants as page
+use Rattle.warg_page.specs.declared.presence.PresenceError.{PresenceError}
+use Rattle.warg_page.specs.declared.presence.PresenceError.TheVariants as presence
 use Rattle.warg_update.specs.declared.signature.SignatureError.{SignatureError}
 use Rattle.warg_update.specs.declared.signature.SignatureError.TheVariants as signature
 use Rattle.warg_update.specs.declared.error.AskError.{AskError}

@@ -15,11 +15,10 @@ use Rattle.warg_verify.specs.Faults.{IsInclusionFault, IsConsistencyFault}
 use Rattle.warg_api.specs.declared.error.ClientError.{ClientError}
 use Rattle.warg_api.specs.Calls.{IsReplyFault}
 use Rattle.warg_api.specs.Errors.{fetch_error, logs_error, proof_error, inclusion_error, consistency_error}
-use Rattle.warg_update.specs.Logs.{Logs, Brings, indices_of, leafs_of}
-use Rattle.warg_update.specs.Proved.{AreLawful}
-use Rattle.warg_update.specs.PageFaults.{IsPageFault}
-use Rattle.warg_update.specs.Presence.{IsPresenceFault, IsListedEmpty}
-use Rattle.warg_update.specs.declared.presence.PresenceError.{PresenceError}
+use Rattle.warg_page.specs.Logs.{Logs, Brings, AreLawful, indices_of, leafs_of}
+use Rattle.warg_page.specs.PageFaults.{IsPageFault}
+use Rattle.warg_page.specs.Presence.{IsPresenceFault, IsListedEmpty}
+use Rattle.warg_page.specs.declared.presence.PresenceError.{PresenceError}
 use Rattle.warg_update.specs.Signature.{IsSignatureFault}
 use Rattle.warg_update.specs.Succession.{StandsTo}
 use Rattle.warg_update.specs.declared.succession.Succession.TheVariants as how

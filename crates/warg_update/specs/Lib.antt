@@ -1,13 +1,7 @@
-pub mod Logs
 pub mod Proved
 pub mod Signature
 pub mod Succession
-pub mod Views
-pub mod Steps
-pub mod PageFaults
-pub mod Presence
 pub mod Errors
 pub mod Standing
 pub mod Stages
 pub mod FeedFaults
-pub mod IdFaults

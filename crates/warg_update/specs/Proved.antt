@@ -1,10 +1,8 @@
 -- What an update proves of logs: a run of consecutive exchanges with a registry. They are the checkpoint's, those of
 -- pages until no more is to come, that of the inclusion of each log's last record, and, where a shorter checkpoint is
 -- stored, that of the consistency with it.
-use Rattle.std.specs.Prelude.{◌≡◌, ◌≢◌, ◌⊎◌, ◌<◌, ℕ, Bool, true, false, List, [], ◌∷◌, ◌++◌, take, slice_get, codes, decimal, Option, Some, None, Ok}
-use Rattle.std.specs.List.{AllByRecursion}
+use Rattle.std.specs.Prelude.{◌≡◌, ◌⊎◌, ◌<◌, ℕ, Bool, true, false, List, [], ◌∷◌, ◌++◌, take, slice_get, codes, decimal, Option, Some, None, Ok}
 use Rattle.warg_hash.specs.Hash.{hash_text}
-use Rattle.warg_record.specs.Record.{Package, Operator}
 use Rattle.warg_log.specs.Rules.{Accepts, entries_of}
 use Rattle.warg_log.specs.History.{key_with}
 use Rattle.warg_exchange.specs.declared.exchange.Exchange.{Exchange}
@@ -18,8 +16,7 @@ use Rattle.warg_exchange.specs.Replies.{says, checkpoint_in, page_in, bundles_in
 use Rattle.warg_exchange.specs.Views.{Page}
 use Rattle.warg_verify.specs.Shown.{Includes, Continues}
 use Rattle.warg_info.specs.Kept.{Kept, signed_log, last_token}
-use Rattle.warg_info.specs.Info.{IsLawfulLog}
-use Rattle.warg_update.specs.Logs.{Logs, Brings, tokens_of, indices_of, leafs_of}
+use Rattle.warg_page.specs.Logs.{Logs, Brings, LeavesNoneEmpty, AreLawful, tokens_of, indices_of, leafs_of}
 
 -- ---- the checkpoint
 
@@ -34,12 +31,14 @@ pub record AsksCheckpoint (a : Asker) (x : Exchange) (c : SignedCheckpoint) : Ty
 abbrev pub page_request : Asker → ℕ → Logs → Request
 page_request a log_length logs = logs_request a log_length (last_token logs.operator) (tokens_of logs.packages)
 
--- a page is asked for and comes, and the logs are as it leaves them; whether more is to come
+-- a page is asked for and comes, and the logs are as it leaves them, none that it lists without a record; whether more is
+-- to come
 pub record Turns (a : Asker) (log_length : ℕ) (before : Logs) (x : Exchange) (after : Logs) (more : Bool) : Type 0 where
   pub asked : x.request ≡ page_request a log_length before
   pub page : Page
   pub came : says page_in x.reply ≡ Ok page
   pub brings : Brings before page after
+  pub kept : LeavesNoneEmpty after.packages page.packages
   pub said : page.more ≡ more
 
 -- pages in turn, up to one that ends them; `more` where none of them does
@@ -49,15 +48,7 @@ Pages a log_length before (x ∷ xs) after more =
     ((next : Logs) × Turns a log_length before x next true × Pages a log_length next xs after more)
     ⊎ (Turns a log_length before x after false × (xs ≡ []) × (more ≡ false))
 
--- ---- what the logs and the checkpoint are to be
-
--- a log is there, and lawful
-abbrev pub IsLawfulPackage : Accepts → List ℕ × List Kept → Type 0
-IsLawfulPackage accepts p = (p.1 ≢ []) × IsLawfulLog Package accepts p.1
-
-pub record AreLawful (accepts : Accepts) (logs : Logs) : Type 0 where
-  pub operator : (logs.operator ≢ []) × IsLawfulLog Operator accepts logs.operator
-  pub packages : AllByRecursion (IsLawfulPackage accepts) logs.packages
+-- ---- what the checkpoint is to be
 
 -- the text of a checkpoint that is signed: each line ends with a line feed
 abbrev pub checkpoint_text : Checkpoint → List ℕ

@@ -9,7 +9,7 @@ use Rattle.warg_exchange.specs.declared.proof.ConsistencyResponse.{ConsistencyRe
 use Rattle.warg_exchange.specs.Replies.{says, page_in, bundles_in, proof_in}
 use Rattle.warg_exchange.specs.Views.{Page}
 use Rattle.warg_verify.specs.Shown.{Includes, Continues}
-use Rattle.warg_update.specs.Logs.{Logs, Brings, indices_of, leafs_of}
+use Rattle.warg_page.specs.Logs.{Logs, Brings, LeavesNoneEmpty, indices_of, leafs_of}
 use Rattle.warg_update.specs.Succession.{StandsTo}
 use Rattle.warg_update.specs.declared.succession.Succession.TheVariants as how
 use Rattle.warg_update.specs.declared.error.UpdateError.{UpdateError}
@@ -26,12 +26,13 @@ FollowsPage accepts c more after stage.Page = more ≡ true
 FollowsPage accepts c more after stage.Inclusion = (more ≡ false) × AreTrusted accepts after c
 FollowsPage accepts c more after other = ⊥
 
--- the reply gives a page, which leaves these logs, and this is the stage behind it
+-- the reply gives a page, which leaves these logs, none that it lists without a record, and this is the stage behind it
 pub record IsTurned (accepts : Accepts) (c : SignedCheckpoint) (before : Logs) (reply : Reply) (after : Logs) (next : Stage) :
     Type 0 where
   pub page : Page
   pub came : says page_in reply ≡ Ok page
   pub brings : Brings before page after
+  pub kept : LeavesNoneEmpty after.packages page.packages
   pub follows : FollowsPage accepts c page.more after next
 
 -- ---- the inclusion

@@ -10,10 +10,10 @@ use Rattle.warg_info.specs.declared.operator.OperatorInfo.{OperatorInfo}
 use Rattle.warg_info.specs.declared.package.PackageInfo.{PackageInfo}
 use Rattle.warg_api.specs.declared.client.Client.{Client}
 use Rattle.warg_api.specs.Asking.{asker}
-use Rattle.warg_update.specs.Logs.{Logs, indices_of}
-use Rattle.warg_update.specs.Proved.{page_request, AreLawful, IsSigned, Start, Proves, Opens, Shows, AreAsked}
-use Rattle.warg_update.specs.Steps.{HaveIds, AreGood, IsGoodOperator}
-use Rattle.warg_update.specs.Views.{logs_view}
+use Rattle.warg_page.specs.Logs.{Logs, AreLawful, indices_of}
+use Rattle.warg_update.specs.Proved.{page_request, IsSigned, Start, Proves, Opens, Shows, AreAsked}
+use Rattle.warg_page.specs.Steps.{HaveIds, AreGood, IsGoodOperator}
+use Rattle.warg_page.specs.Views.{logs_view}
 use Rattle.warg_update.specs.declared.stage.Stage.{Stage}
 use Rattle.warg_update.specs.declared.stage.Stage.TheVariants as stage
 use Rattle.warg_update.specs.declared.step.UpdateStep.{UpdateStep}

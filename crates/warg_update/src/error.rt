@@ -4,11 +4,10 @@ ghost use Rattle.std.specs.Prelude.{◌≡◌};
 ghost use Rattle.warg_update.specs.Errors.{ask_error, call_error, page_error, presence_error, signature_error};
 ghost use Rattle.warg_update.specs.declared.error.AskError.TheVariants.{Memory as WantsMemory};
 
-use crate::page::PageError;
-use crate::presence::PresenceError;
 use crate::signature::SignatureError;
 use thiserror::Error;
 use warg_api::ClientError;
+use warg_page::{PageError, PresenceError};
 use warg_url::HeaderError;
 use warg_values::Memory;
 

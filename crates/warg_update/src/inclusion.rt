@@ -3,13 +3,13 @@
 ghost use Rattle.std.specs.Prelude.{OnOk, IfErr};
 ghost use Rattle.warg_verify.specs.Shown.{Includes};
 ghost use Rattle.warg_verify.specs.Faults.{IsInclusionFault};
-ghost use Rattle.warg_update.specs.Logs.{indices_of, leafs_of};
-ghost use Rattle.warg_update.specs.Views.{logs_view, AreSound};
+ghost use Rattle.warg_page.specs.Logs.{indices_of, leafs_of};
+ghost use Rattle.warg_page.specs.Views.{logs_view, AreSound};
 
-use crate::heads::heads_of;
 use std::alloc::Global;
 use warg_exchange::{Checkpoint, InclusionResponse};
 use warg_info::{OperatorInfo, PackageInfo};
+use warg_page::heads_of;
 use warg_proof::ProofFault;
 use warg_verify::verify_inclusion;
 

@@ -5,8 +5,8 @@ ghost use Rattle.warg_log.specs.Rules.{Accepts};
 ghost use Rattle.warg_exchange.specs.declared.exchange.Exchange.{Exchange};
 ghost use Rattle.warg_exchange.specs.declared.checkpoint.SignedCheckpoint.{SignedCheckpoint as Signed};
 ghost use Rattle.warg_exchange.specs.Requests.{Asker};
-ghost use Rattle.warg_update.specs.Logs.{Logs};
-ghost use Rattle.warg_update.specs.Proved.{AsksCheckpoint, Turns, Start, Opens, Shows, Proves, AreLawful, IsSigned, AsksInclusion, AsksConsistency, Succeeds};
+ghost use Rattle.warg_page.specs.Logs.{Logs, AreLawful};
+ghost use Rattle.warg_update.specs.Proved.{AsksCheckpoint, Turns, Start, Opens, Shows, Proves, IsSigned, AsksInclusion, AsksConsistency, Succeeds};
 
 /// The exchanges of an update come one after the other: the checkpoint's, then each page's, and in the end the inclusion's
 /// with what the stored checkpoint asks for.

@@ -4,7 +4,7 @@ ghost use Rattle.std.specs.Prelude.{IfOk, IfErr, OnOk, Option, option_copied};
 ghost use Rattle.warg_exchange.specs.declared.checkpoint.SignedCheckpoint.{SignedCheckpoint as Signed};
 ghost use Rattle.warg_update.specs.FeedFaults.{IsHeadsFault, IsContinuationFault};
 ghost use Rattle.warg_update.specs.Stages.{AreShown, FollowsHeads, IsSuccessionFault, IsContinued};
-ghost use Rattle.warg_update.specs.Views.{logs_view, AreSound};
+ghost use Rattle.warg_page.specs.Views.{logs_view, AreSound};
 
 use crate::error::UpdateError;
 use crate::inclusion::verify_heads;

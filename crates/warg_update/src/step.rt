@@ -1,6 +1,6 @@
 //! The update of a registry's logs, request by request.
 
-ghost use Rattle.std.specs.Prelude.{◌≡◌, ◌≢◌, ◌↔◌, ◌<◌, ◌+◌, ◌++◌, ◌∷◌, ◌⊎◌, [], List, Some, None, false, Err, IfOk, IfErr, IfSome, IfNone, IsSome, OnOk, OnErr, map};
+ghost use Rattle.std.specs.Prelude.{◌≡◌, ◌≢◌, ◌↔◌, ◌<◌, ◌+◌, ◌++◌, ◌∷◌, ◌⊎◌, [], List, Some, None, true, false, Err, IfOk, IfErr, IfSome, IfNone, IsSome, OnOk, OnErr, map};
 ghost use Rattle.warg_log.specs.Rules.{Accepts};
 ghost use Rattle.warg_exchange.specs.declared.exchange.Exchange.{Exchange};
 ghost use Rattle.warg_exchange.specs.declared.exchange.Request.{Request as Sent};
@@ -9,21 +9,19 @@ ghost use Rattle.warg_request.specs.Asking.{asker_view, CanAsk};
 ghost use Rattle.warg_api.specs.declared.client.Client.{Client as Asking};
 ghost use Rattle.warg_api.specs.Asking.{asker};
 ghost use Rattle.warg_update.specs.Proved.{Start, Asks, Proves};
-ghost use Rattle.warg_update.specs.Steps.{id_of, HaveIds, AreGood, IsGoodOperator};
-ghost use Rattle.warg_update.specs.IdFaults.{IsIdsFault};
-ghost use Rattle.warg_update.specs.Views.{logs_view, AreSound};
+ghost use Rattle.warg_page.specs.Steps.{id_of, HaveIds, AreGood, IsGoodOperator};
+ghost use Rattle.warg_page.specs.IdFaults.{IsIdsFault};
+ghost use Rattle.warg_page.specs.Views.{logs_view, AreSound};
 ghost use Rattle.warg_update.specs.Standing.{pages_left as pages_left_of, asker_of, start_of, request_at, IsAtLimit, IsProved, IsRefused, turns_left, IsReady, Stands, KeepsOn, Advances, Counts};
 ghost use Rattle.warg_update.specs.FeedFaults.{IsFeedFault};
 ghost use Rattle.warg_update.specs.declared.error.AskError.TheVariants.{RoundLimit as IsRoundLimit, BadHeader as IsBadHeader};
+ghost use Rattle.warg_update.specs.declared.error.UpdateError.TheVariants.{NotAsked as IsNotAsked};
 ghost use Rattle.warg_update.specs.declared.stage.Stage.TheVariants as at;
 
 use crate::error::{AskError, UpdateError};
-use crate::heads::heads_of;
-use crate::ids::{IdsError, log_ids};
 use crate::settings::Settings;
 use crate::showing::{show_continuation, show_heads, stage_after};
 use crate::stage::Stage;
-use crate::tokens::logs_behind;
 use crate::turn::turn_page;
 use indexmap::IndexSet;
 use std::alloc::Global;
@@ -34,6 +32,7 @@ use warg_exchange::{
 use warg_hash::LogId;
 use warg_info::{OperatorInfo, PackageInfo};
 use warg_log::Verifier;
+use warg_page::{IdsError, heads_of, log_ids, logs_behind};
 use warg_request::Asker;
 use warg_url::RegistryDomain;
 use warg_values::Sequence;
@@ -71,6 +70,17 @@ pub struct ProvedLogs<'a> {
     pub packages: &'a [PackageInfo],
     /// The checkpoint under which they are proved.
     pub checkpoint: &'a SignedCheckpoint,
+}
+
+/// What an update has proved, with the logs themselves.
+#[derive(Drop)]
+pub struct ProvedInfos {
+    /// The operator's log.
+    pub operator: OperatorInfo,
+    /// The packages' logs, in the order in which they were given.
+    pub packages: Vec<PackageInfo>,
+    /// The checkpoint under which they are proved.
+    pub checkpoint: SignedCheckpoint,
 }
 
 impl UpdateStep {
@@ -116,6 +126,9 @@ impl UpdateStep {
         ensures proves { IfSome result (λ p. (accepts : Accepts) (a : Who) (start : Start) (xs : List Exchange)
             → Stands accepts a start self.now xs
             → Proves accepts a start xs (logs_view p.operator.now p.packages.now) p.checkpoint.now) }
+        ensures good { IfSome result (λ p. (accepts : Accepts) (a : Who) (start : Start) (xs : List Exchange)
+            → Stands accepts a start self.now xs
+            → IsGoodOperator accepts p.operator.now × AreGood accepts p.packages.now) }
         ensures given { (accepts : Accepts) (a : Who) (start : Start) (xs : List Exchange)
             → Stands accepts a start self.now xs → IsSome result ↔ IsProved self.now }
     {
@@ -126,6 +139,27 @@ impl UpdateStep {
             Stage::Proved => Some(ProvedLogs {
                 operator: &self.operator,
                 packages: self.packages.as_slice(),
+                checkpoint,
+            }),
+            _ => None,
+        }
+    }
+
+    /// What is proved, with the logs themselves, where all checks have passed.
+    pub fn into_proved(self) -> Option<ProvedInfos>
+        ensures proves { IfSome result (λ p. (accepts : Accepts) (a : Who) (start : Start) (xs : List Exchange)
+            → Stands accepts a start self xs
+            → Proves accepts a start xs (logs_view p.operator p.packages.items) p.checkpoint) }
+        ensures good { IfSome result (λ p. (accepts : Accepts) (a : Who) (start : Start) (xs : List Exchange)
+            → Stands accepts a start self xs
+            → IsGoodOperator accepts p.operator × AreGood accepts p.packages.items) }
+        ensures given { (accepts : Accepts) (a : Who) (start : Start) (xs : List Exchange)
+            → Stands accepts a start self xs → IsSome result ↔ IsProved self }
+    {
+        match (self.stage, self.checkpoint) {
+            (Stage::Proved, Some(checkpoint)) => Some(ProvedInfos {
+                operator: self.operator,
+                packages: self.packages,
                 checkpoint,
             }),
             _ => None,
@@ -228,7 +262,8 @@ impl UpdateStep {
 
     /// Whether a reply is awaited.
     fn is_asking(&self) -> bool
-        ensures { result ≡ false → (a : Who) → request_at a self.now ≡ None }
+        ensures silent { result ≡ false → (a : Who) → request_at a self.now ≡ None }
+        ensures asks { result ≡ true → (a : Who) → request_at a self.now ≢ None }
     {
         match self.stage {
             Stage::Checkpoint => true,
@@ -325,8 +360,8 @@ impl UpdateStep {
         ensures turns { OnOk result (self.old.stage ≡ at.Consistency old.now
             → turns_left self.new < turns_left self.old) }
         ensures counted { self.old.stage ≡ at.Consistency old.now → Counts self.old self.new }
-        ensures cause { IfErr result (λ e. (accepts : Accepts) → self.old.stage ≡ at.Consistency old.now
-            → IsFeedFault e accepts self.old reply.now) }
+        ensures cause { IfErr result (λ e. (accepts : Accepts)
+            → self.old.stage ≡ at.Consistency old.now → IsFeedFault e accepts self.old reply.now) }
     {
         let Some(checkpoint) = &self.checkpoint else {
             return Err(UpdateError::NotAsked);
@@ -378,6 +413,8 @@ impl UpdateStep {
         ensures turns { OnOk result (turns_left self.new < turns_left self.old) }
         ensures counted { Counts self.old self.new }
         ensures refused { OnErr result ((a : Who) → request_at a self.new ≡ None) }
+        ensures unchanged { (a : Who) → request_at a self.old ≡ None
+            → (result ≡ Err IsNotAsked) × (self.new ≡ self.old) }
         ensures cause { IfErr result (λ e. (a : Who) (start : Start) (xs : List Exchange)
             → Stands (V.good verifier.now) a start self.old xs
             → IsFeedFault e (V.good verifier.now) self.old reply.now) }

@@ -4,13 +4,10 @@ ghost use Rattle.std.specs.Prelude.{◌≡◌, ◌⊎◌, IfOk, IfErr};
 ghost use Rattle.warg_update.specs.FeedFaults.{IsTurnFault};
 ghost use Rattle.warg_update.specs.Stages.{IsTurned};
 ghost use Rattle.warg_update.specs.declared.stage.Stage.TheVariants as at;
-ghost use Rattle.warg_update.specs.Steps.{HaveIds, AreGood, IsGoodOperator};
-ghost use Rattle.warg_update.specs.Views.{logs_view};
+ghost use Rattle.warg_page.specs.Steps.{HaveIds, AreGood, IsGoodOperator};
+ghost use Rattle.warg_page.specs.Views.{logs_view};
 
 use crate::error::UpdateError;
-use crate::listed::check_listed;
-use crate::page::take_page;
-use crate::presence::check_presence;
 use crate::signature::check_signature;
 use crate::stage::Stage;
 use indexmap::IndexSet;
@@ -20,6 +17,7 @@ use warg_exchange::{Reply, SignedCheckpoint};
 use warg_hash::LogId;
 use warg_info::{OperatorInfo, PackageInfo};
 use warg_log::Verifier;
+use warg_page::{check_listed, check_presence, take_page};
 
 /// Takes the page that a reply gives, and answers the stage behind it.
 ///

@@ -1,4 +1,4 @@
-use Rattle.warg_update.specs.Views.{logs_view}
+use Rattle.warg_page.specs.Views.{logs_view}
 use Rattle.uses_registry.proofs.update.is_last_reply.Goals as goal
 
 pub returns-in-Some : goal.returns-in-Some

@@ -3,8 +3,8 @@ use Rattle.std.proofs.lemmas.Result.{on_ok_weaker, IfErr-weaker}
 use Rattle.warg_proof.specs.declared.leaf.LogLeaf.{LogLeaf}
 use Rattle.warg_verify.specs.Shown.{Includes}
 use Rattle.warg_verify.specs.Faults.{IsInclusionFault}
-use Rattle.warg_update.specs.Logs.{indices_of, leafs_of}
-use Rattle.warg_update.specs.Views.{logs_view, AreSound}
+use Rattle.warg_page.specs.Logs.{indices_of, leafs_of}
+use Rattle.warg_page.specs.Views.{logs_view, AreSound}
 use Rattle.warg_update.proofs.inclusion.verify_heads.Goals as goal
 
 pub returns-clause-ok : goal.returns-clause-ok

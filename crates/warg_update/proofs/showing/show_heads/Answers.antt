@@ -2,7 +2,7 @@ use Rattle.std.proofs.Common.{inr}
 use Rattle.warg_update.specs.declared.error.UpdateError.TheVariants as update
 use Rattle.warg_update.specs.Errors.{call_wants_memory}
 use Rattle.warg_update.specs.FeedFaults.{IsHeadsFault}
-use Rattle.warg_update.specs.Views.{logs_view}
+use Rattle.warg_page.specs.Views.{logs_view}
 use Rattle.warg_update.proofs.ToldLaws.{told}
 use Rattle.warg_update.proofs.showing.show_heads.Goals as goal
 

@@ -5,10 +5,11 @@ use Rattle.warg_info.specs.declared.package.PackageInfo.{PackageInfo}
 use Rattle.warg_update.specs.declared.error.UpdateError.TheVariants as update
 use Rattle.warg_update.specs.Errors.{call_wants_memory, page_wants_memory, presence_wants_memory, signature_wants_memory}
 use Rattle.warg_update.specs.FeedFaults.{IsTurnFault}
-use Rattle.warg_update.specs.Presence.{IsPresenceFault, IsListedEmpty}
-use Rattle.warg_update.specs.Proved.{AreLawful}
-use Rattle.warg_update.specs.Steps.{AreGood}
-use Rattle.warg_update.specs.Views.{logs_view, package_view}
+use Rattle.warg_page.specs.Presence.{IsPresenceFault, IsListedEmpty}
+use Rattle.warg_page.specs.Logs.{AreLawful, LeavesNoneEmpty}
+use Rattle.warg_page.specs.Steps.{AreGood}
+use Rattle.warg_page.specs.Views.{logs_view, package_view}
+use Rattle.warg_update.proofs.KeptLaws.{lawful-kept}
 use Rattle.warg_update.proofs.ToldLaws.{told}
 use Rattle.warg_update.proofs.turn.turn_page.Goals as goal
 
@@ -43,7 +44,7 @@ returns-in_err-check_listed-clause-fault g c =
       logs_view grown c.take_page.new.packages.items,
       inl (
         record { page = page; came = c.in_ok-page.ensures.ok; said = c.if-page.true; brings = c.in_ok-take_page.ensures.brings ids operator packages },
-        subst (λ (l : List PackageInfo). IsListedEmpty x (map package_view l) page.packages) c.as_slice-kept.ensures.value c.in_err-check_listed.ensures,
+        subst (λ (l : List PackageInfo). IsListedEmpty x (map package_view l) page.packages) c.as_slice-kept.ensures.value c.in_err-check_listed.ensures.err,
       ),
     )))
 
@@ -88,15 +89,29 @@ returns-clause-turned g c ids operator packages =
     let grown = c.take_page.new.operator in
     let good = c.take_page.ensures.operator operator in
     let all_good : AreGood accepts c.as_slice-kept.result.now = subst (AreGood accepts) (sym c.as_slice-kept.ensures.value) (c.take_page.ensures.packages packages) in
+    let lawful : AreLawful accepts (logs_view grown c.take_page.new.packages.items) = subst (λ (l : List PackageInfo). AreLawful accepts (logs_view grown l)) c.as_slice-kept.ensures.value (c.in_ok-check_presence.ensures.ok accepts good all_good) in
     record {
       page = page_view c.in_ok-page.page;
       came = c.in_ok-page.ensures.ok;
       brings = c.in_ok-take_page.ensures.brings ids operator packages;
+      kept = lawful-kept accepts (logs_view grown c.take_page.new.packages.items) (page_view c.in_ok-page.page).packages lawful;
       follows = (
         c.if-page.false,
         record {
-          lawful = subst (λ (l : List PackageInfo). AreLawful accepts (logs_view grown l)) c.as_slice-kept.ensures.value (c.in_ok-check_presence.ensures.ok accepts good all_good);
+          lawful = lawful;
           signed = c.in_ok-check_signature.ensures.ok good.sound;
         },
       );
+    }
+
+-- more is to come
+pub returns-then-page-clause-turned : goal.returns-then-page-clause-turned
+returns-then-page-clause-turned g c ids operator packages =
+    let page = page_view c.in_ok-page.page in
+    record {
+      page = page;
+      came = c.in_ok-page.ensures.ok;
+      brings = c.in_ok-take_page.ensures.brings ids operator packages;
+      kept = subst (λ (l : List PackageInfo). LeavesNoneEmpty (map package_view l) page.packages) c.as_slice-kept.ensures.value c.in_ok-check_listed.ensures.ok;
+      follows = c.if-page.true;
     }

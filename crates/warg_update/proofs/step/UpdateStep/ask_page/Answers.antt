@@ -5,11 +5,11 @@ use Rattle.warg_request.specs.Asking.{asker_view}
 use Rattle.warg_info.specs.declared.package.PackageInfo.{PackageInfo}
 use Rattle.warg_info.specs.Info.{operator_log}
 use Rattle.warg_info.specs.Kept.{last_token}
-use Rattle.warg_update.specs.Logs.{tokens_of}
+use Rattle.warg_page.specs.Logs.{tokens_of}
 use Rattle.warg_update.specs.Proved.{page_request}
 use Rattle.warg_update.specs.Standing.{logs_of}
-use Rattle.warg_update.specs.Steps.{id_of, AreDistinct}
-use Rattle.warg_update.specs.Views.{package_view}
+use Rattle.warg_page.specs.Steps.{id_of, AreDistinct}
+use Rattle.warg_page.specs.Views.{package_view}
 use Rattle.warg_update.specs.declared.stage.Stage.TheVariants as stage
 use Rattle.warg_update.proofs.StandingLaws.{request-at, page-some}
 use Rattle.warg_update.proofs.step.UpdateStep.ask_page.Goals as goal

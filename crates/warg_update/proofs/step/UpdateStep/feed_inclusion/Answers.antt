@@ -3,8 +3,8 @@ use Rattle.warg_exchange.specs.declared.checkpoint.SignedCheckpoint.{SignedCheck
 use Rattle.warg_info.specs.declared.package.PackageInfo.{PackageInfo}
 use Rattle.warg_update.specs.Stages.{AreShown, FollowsHeads}
 use Rattle.warg_update.specs.Standing.{KeepsOn}
-use Rattle.warg_update.specs.Steps.{AreGood}
-use Rattle.warg_update.specs.Views.{logs_view}
+use Rattle.warg_page.specs.Steps.{AreGood}
+use Rattle.warg_page.specs.Views.{logs_view}
 use Rattle.warg_update.specs.declared.step.UpdateStep.{UpdateStep}
 use Rattle.warg_update.proofs.AdvanceLaws.{heads-advances, sound-of}
 use Rattle.warg_update.proofs.step.UpdateStep.feed_inclusion.Goals as goal

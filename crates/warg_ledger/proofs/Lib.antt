@@ -1,0 +1,4 @@
+pub mod AscendLaws
+pub mod TakenLaws
+pub mod PageLaws
+pub mod LeftLaws

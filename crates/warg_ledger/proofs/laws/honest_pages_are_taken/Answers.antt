@@ -1,0 +1,15 @@
+use Rattle.warg_ledger.proofs.LeftLaws.{operator-left, package-left, none-left-empty}
+use Rattle.warg_ledger.proofs.PageLaws.{page-taken}
+use Rattle.warg_ledger.proofs.laws.honest_pages_are_taken.Goals as goal
+
+pub returns-clause-never_refused : goal.returns-clause-never_refused
+returns-clause-never_refused c accepts w n logs page e registry is bad = page-taken c.one_envelope.ensures e accepts w n logs page registry is bad
+
+pub returns-clause-operator : goal.returns-clause-operator
+returns-clause-operator c accepts w n logs page after registry is brings = operator-left c.one_envelope.ensures accepts w n logs page after registry is brings
+
+pub returns-clause-packages : goal.returns-clause-packages
+returns-clause-packages c accepts w n logs page after name log registry is brings there = package-left c.one_envelope.ensures accepts w n logs page after name log registry is brings there
+
+pub returns-clause-kept : goal.returns-clause-kept
+returns-clause-kept c accepts w n logs page after registry is brings = none-left-empty c.one_envelope.ensures accepts w n logs page after registry is brings

@@ -1,0 +1,4 @@
+//! An honest registry as one growing list of records, what its pages bring, and the laws that these are taken.
+#![tactic(auto)]
+
+pub mod laws;

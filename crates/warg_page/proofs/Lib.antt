@@ -1,0 +1,9 @@
+pub mod HeadLaws
+pub mod ListedLaws
+pub mod InfosLaws
+pub mod PlaceLaws
+pub mod PageLaws
+pub mod PresenceLaws
+pub mod EmptyLaws
+pub mod DistinctLaws
+pub mod Rows
