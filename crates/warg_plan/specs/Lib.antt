@@ -12,6 +12,7 @@ pub mod Known
 pub mod OrderLaws
 pub mod Plan
 pub mod PlanLaws
+pub mod Steps
 pub mod StopLaws
 pub mod View
 pub mod Walk

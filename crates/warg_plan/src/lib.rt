@@ -8,6 +8,7 @@ mod choice;
 mod facts;
 mod key;
 pub mod laws;
+mod node;
 mod plan;
 mod stop;
 mod text;
