@@ -12,6 +12,7 @@ pub mod ledger;
 pub mod log;
 pub mod names;
 pub mod page;
+pub mod plan;
 pub mod proof;
 pub mod prover;
 pub mod record;
