@@ -1,10 +1,10 @@
 //! Contents that are loaded and sent.
 
-use crate::replies::{HASH, client, link};
+use crate::replies::{HASH, client, link, told, words};
 use indexmap::IndexMap;
 use std::alloc::Global;
 use std::test::Fail;
-use warg_api::{Client, ClientError, RecordedBody, RecordedLink, ValidatedStream};
+use warg_api::{Client, ClientError, RecordedLink};
 use warg_hash::AnyHash;
 use warg_values::Text;
 
@@ -16,56 +16,42 @@ const GONE: &str = r#"{"status":410,"headers":[],"body":""}"#;
 
 const FOUND: &str = r#"{"status":200,"headers":[],"body":"YWJj"}"#;
 
-/// The call that loads a content whole.
-fn whole(
+/// A content that is loaded whole.
+fn load(
     alloc: Global,
     client: &Client,
     link: &mut RecordedLink,
     digest: &AnyHash,
-) -> Result<Vec<u8>, ClientError> {
-    client.download_whole(alloc, link, None, digest)
+) -> Result<String, ClientError> {
+    let bytes = client.download_whole(alloc, link, None, digest)?;
+    String::from_utf8(bytes).map_err(|_| ClientError::Memory)
 }
 
-/// The call that opens a content as a stream.
-fn stream(
+/// A content that is opened as a stream, of which nothing is read.
+fn open(
     alloc: Global,
     client: &Client,
     link: &mut RecordedLink,
     digest: &AnyHash,
-) -> Result<ValidatedStream<RecordedBody>, ClientError> {
-    client.download_content(alloc, link, None, digest)
-}
-
-/// What a content is loaded as.
-fn load(alloc: Global, client: &Client, link: &mut RecordedLink) -> Result<String, Fail> {
-    let digest = AnyHash::from_text(alloc, HASH)?;
-    match whole(alloc, client, link, &digest) {
-        Ok(bytes) => Ok(String::from_utf8(bytes)?),
-        Err(error) => Ok(format!(in alloc; "{error}")?),
-    }
-}
-
-/// What the opening of a content as a stream answers.
-fn open(alloc: Global, client: &Client, link: &mut RecordedLink) -> Result<String, Fail> {
-    let digest = AnyHash::from_text(alloc, HASH)?;
-    match stream(alloc, client, link, &digest) {
-        Ok(_) => Ok(String::from_str(alloc, "opened")?),
-        Err(error) => Ok(format!(in alloc; "{error}")?),
-    }
+) -> Result<String, ClientError> {
+    client.download_content(alloc, link, None, digest)?;
+    words(String::from_str(alloc, "opened"))
 }
 
 /// What a content is loaded as over these replies.
 fn loaded(alloc: Global, replies: &str) -> Result<String, Fail> {
     let client = client(alloc)?;
     let mut link = link(alloc, replies)?;
-    load(alloc, &client, &mut link)
+    let digest = AnyHash::from_text(alloc, HASH)?;
+    told(alloc, load(alloc, &client, &mut link, &digest))
 }
 
 /// What the opening of a content answers over these replies.
 fn opened(alloc: Global, replies: &str) -> Result<String, Fail> {
     let client = client(alloc)?;
     let mut link = link(alloc, replies)?;
-    open(alloc, &client, &mut link)
+    let digest = AnyHash::from_text(alloc, HASH)?;
+    told(alloc, open(alloc, &client, &mut link, &digest))
 }
 
 #[test]
@@ -161,15 +147,16 @@ const UPLOADS: [Upload; 7] = [
     ),
 ];
 
-/// The call that sends a content.
+/// A content that is sent.
 fn send(
     alloc: Global,
     client: &Client,
     link: &mut RecordedLink,
     upload: &Upload,
     headers: &IndexMap<Text, Text>,
-) -> Result<(), ClientError> {
-    client.upload_content(alloc, link, upload.0, upload.1, headers, b"abc")
+) -> Result<String, ClientError> {
+    client.upload_content(alloc, link, upload.0, upload.1, headers, b"abc")?;
+    words(String::from_str(alloc, "taken"))
 }
 
 /// What an upload answers.
@@ -184,10 +171,7 @@ fn upload_with(
         Text::copy_of(alloc, upload.2)?,
         Text::copy_of(alloc, upload.3)?,
     )?;
-    match send(alloc, client, link, upload, &headers) {
-        Ok(()) => Ok(String::from_str(alloc, "taken")?),
-        Err(error) => Ok(format!(in alloc; "{error}")?),
-    }
+    told(alloc, send(alloc, client, link, upload, &headers))
 }
 
 /// What it answers over its replies.

@@ -2,6 +2,8 @@
 #![tactic(auto)]
 
 #[cfg(test)]
+mod answers;
+#[cfg(test)]
 mod contents;
 #[cfg(test)]
 mod proofs;
@@ -11,3 +13,5 @@ mod recorded;
 mod registry;
 #[cfg(test)]
 mod replies;
+#[cfg(test)]
+mod streams;

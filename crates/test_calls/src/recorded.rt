@@ -2,7 +2,7 @@
 
 use std::alloc::Global;
 use std::test::Fail;
-use warg_log::Verifier;
+use warg_log::{ListedVerifier, Verifier};
 use warg_record::{PublicKey, Signature};
 use warg_recorded::{FormError, read_checked, read_replies};
 
@@ -66,13 +66,23 @@ fn headers_are_kept_in_lower_case_and_bodies_decoded(rt: HostRuntime) -> Result<
     Ok(())
 }
 
-/// Whether a signature of `abc` that a file lists is accepted.
-fn accepts(alloc: Global, digest: &str) -> Result<Option<bool>, Fail> {
+/// What a file with one signature, of a text of this digest, is read as.
+fn listed(alloc: Global, digest: &str) -> Result<Result<ListedVerifier, FormError>, Fail> {
     let file = format!(in alloc; r#"[{{"key":"k:AA==","text":"{digest}","signature":"s:AA=="}}]"#)?;
+    Ok(read_checked(alloc, file.as_bytes()))
+}
+
+/// Whether the signature of `abc` is accepted.
+fn is_good(alloc: Global, verifier: &ListedVerifier) -> Result<bool, Fail> {
     let key = PublicKey::new(alloc, "k:AA==")?;
     let signature = Signature::new(alloc, "s:AA==")?;
-    match read_checked(alloc, file.as_bytes()) {
-        Ok(verifier) => Ok(Some(verifier.accepts(&key, b"abc", &signature))),
+    Ok(verifier.accepts(&key, b"abc", &signature))
+}
+
+/// Whether a signature of `abc` that a file lists is accepted; nothing where the file has another form.
+fn accepts(alloc: Global, digest: &str) -> Result<Option<bool>, Fail> {
+    match listed(alloc, digest)? {
+        Ok(verifier) => Ok(Some(is_good(alloc, &verifier)?)),
         Err(FormError::Form) => Ok(None),
         Err(FormError::Memory) => Err(Fail::from("out of memory")),
     }

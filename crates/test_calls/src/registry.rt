@@ -1,11 +1,9 @@
 //! What is asked of a registry, and what it answers.
 
-use crate::replies::{client, link};
+use crate::replies::{client, json, link, told, words};
 use std::alloc::Global;
 use std::test::Fail;
 use warg_api::{Client, ClientError, RecordedLink};
-use warg_exchange::SignedCheckpoint;
-use warg_url::RegistryUrl;
 
 /// Replies to the request for a registry's configuration, with what is answered.
 const CONFIGURATIONS: [(&str, &str); 6] = [
@@ -32,29 +30,23 @@ const CONFIGURATIONS: [(&str, &str); 6] = [
     ),
 ];
 
-/// The call for a registry's configuration.
-fn well_known(
+/// The URL that a registry's configuration gives.
+fn configuration(
     alloc: Global,
     client: &Client,
     link: &mut RecordedLink,
-) -> Result<Option<RegistryUrl>, ClientError> {
-    client.well_known_config(alloc, link)
-}
-
-/// What the call for a registry's configuration answers.
-fn configuration(alloc: Global, client: &Client, link: &mut RecordedLink) -> Result<String, Fail> {
-    match well_known(alloc, client, link) {
-        Ok(Some(url)) => Ok(format!(in alloc; "{url}")?),
-        Ok(None) => Ok(String::from_str(alloc, "none")?),
-        Err(error) => Ok(format!(in alloc; "{error}")?),
+) -> Result<String, ClientError> {
+    match client.well_known_config(alloc, link)? {
+        Some(url) => words(format!(in alloc; "{url}")),
+        None => words(String::from_str(alloc, "none")),
     }
 }
 
-/// What it answers over these replies.
+/// What the call for a registry's configuration answers over these replies.
 fn configured(alloc: Global, replies: &str) -> Result<String, Fail> {
     let client = client(alloc)?;
     let mut link = link(alloc, replies)?;
-    configuration(alloc, &client, &mut link)
+    told(alloc, configuration(alloc, &client, &mut link))
 }
 
 #[test]
@@ -70,35 +62,20 @@ fn a_configuration_gives_a_url_or_none(rt: HostRuntime) -> Result<(), Fail> {
 const CHECKPOINT: &str =
     "eyJjb250ZW50cyI6eyJsb2dMZW5ndGgiOjcsImxvZ1Jvb3QiOiJzaGEyNTY6YmE3ODE2YmY4ZjAxY2ZlYTQxNDE0MGRlNWRhZTIyMjNiMDAzNjFhMzk2MTc3YTljYjQxMGZmNjFmMjAwMTVhZCIsIm1hcFJvb3QiOiJzaGEyNTY6MGRiOTE3OGFhYmM4NzdiNDJmMDNhMDM4YmY0NTNlZTUzZjA4ZTNjOGM1NWZhYjkxNjA0MzQyODA3ODU5NmJmYiIsInRpbWVzdGFtcCI6OX0sImtleUlkIjoic2hhMjU2OmJhNzgxNmJmOGYwMWNmZWE0MTQxNDBkZTVkYWUyMjIzYjAwMzYxYTM5NjE3N2E5Y2I0MTBmZjYxZjIwMDE1YWQiLCJzaWduYXR1cmUiOiJlY2RzYS1wMjU2OkFBPT0ifQ==";
 
-/// A reply of JSON.
-fn json(alloc: Global, status: u16, kind: &str, body: &str) -> Result<String, Fail> {
-    Ok(format!(in alloc;
-        r#"[{{"status":{status},"headers":[["content-type","{kind}"]],"body":"{body}"}}]"#
-    )?)
+/// The length of the latest checkpoint.
+fn length(alloc: Global, client: &Client, link: &mut RecordedLink) -> Result<String, ClientError> {
+    let length = client
+        .latest_checkpoint(alloc, link, None)?
+        .contents
+        .log_length;
+    words(format!(in alloc; "{length}"))
 }
 
-/// The call for the latest checkpoint.
-fn checkpoint(
-    alloc: Global,
-    client: &Client,
-    link: &mut RecordedLink,
-) -> Result<SignedCheckpoint, ClientError> {
-    client.latest_checkpoint(alloc, link, None)
-}
-
-/// What the call for the latest checkpoint answers.
-fn length(alloc: Global, client: &Client, link: &mut RecordedLink) -> Result<String, Fail> {
-    match checkpoint(alloc, client, link) {
-        Ok(checkpoint) => Ok(format!(in alloc; "{}", checkpoint.contents.log_length)?),
-        Err(error) => Ok(format!(in alloc; "{error}")?),
-    }
-}
-
-/// What it answers over these replies.
+/// What the call for the latest checkpoint answers over these replies.
 fn latest(alloc: Global, replies: &str) -> Result<String, Fail> {
     let client = client(alloc)?;
     let mut link = link(alloc, replies)?;
-    length(alloc, &client, &mut link)
+    told(alloc, length(alloc, &client, &mut link))
 }
 
 #[test]
@@ -106,8 +83,8 @@ fn a_checkpoint_is_told_by_a_success_in_json_alone(rt: HostRuntime) -> Result<()
     let alloc = rt.alloc();
     let unexpected =
         "the reply is not the JSON that was asked for: check that this is the URL of a registry";
-    let told = latest(alloc, &json(alloc, 200, "application/json", CHECKPOINT)?)?;
-    assert_eq!(rt; told.as_str(), "7");
+    let found = latest(alloc, &json(alloc, 200, "application/json", CHECKPOINT)?)?;
+    assert_eq!(rt; found.as_str(), "7");
     let other_kind = latest(alloc, &json(alloc, 200, "text/html", CHECKPOINT)?)?;
     assert!(rt; other_kind.starts_with(unexpected) && other_kind.ends_with("(status 200)"));
     let no_success = latest(alloc, &json(alloc, 300, "application/json", CHECKPOINT)?)?;
@@ -119,9 +96,9 @@ fn a_checkpoint_is_told_by_a_success_in_json_alone(rt: HostRuntime) -> Result<()
 fn an_error_of_the_registry_is_told(rt: HostRuntime) -> Result<(), Fail> {
     let alloc = rt.alloc();
     let body = "eyJ0eXBlIjoiY2hlY2twb2ludE5vdEZvdW5kIiwibGVuZ3RoIjo5fQ==";
-    let told = latest(alloc, &json(alloc, 404, "application/json", body)?)?;
+    let found = latest(alloc, &json(alloc, 404, "application/json", body)?)?;
     assert_eq!(rt;
-        told.as_str(),
+        found.as_str(),
         "the registry has no checkpoint of length 9: ask for its latest one"
     );
     Ok(())

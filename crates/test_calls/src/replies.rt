@@ -1,8 +1,8 @@
 //! A client over recorded replies.
 
-use std::alloc::Global;
+use std::alloc::{AllocError, Global};
 use std::test::Fail;
-use warg_api::{Client, RecordedLink};
+use warg_api::{Client, ClientError, RecordedLink};
 use warg_recorded::read_replies;
 use warg_values::Text;
 
@@ -18,4 +18,24 @@ pub fn client(alloc: Global) -> Result<Client, Fail> {
 /// A link over the replies in a text.
 pub fn link(alloc: Global, replies: &str) -> Result<RecordedLink, Fail> {
     Ok(RecordedLink::new(alloc, read_replies(alloc, replies.as_bytes())?))
+}
+
+/// A text of one reply, with a body in base64.
+pub fn json(alloc: Global, status: u16, kind: &str, body: &str) -> Result<String, Fail> {
+    Ok(format!(in alloc;
+        r#"[{{"status":{status},"headers":[["content-type","{kind}"]],"body":"{body}"}}]"#
+    )?)
+}
+
+/// An answer in words, where there was memory for them.
+pub fn words(text: Result<String, AllocError>) -> Result<String, ClientError> {
+    text.map_err(|_| ClientError::Memory)
+}
+
+/// What a call answers, with an error as it is told.
+pub fn told(alloc: Global, answer: Result<String, ClientError>) -> Result<String, Fail> {
+    match answer {
+        Ok(words) => Ok(words),
+        Err(error) => Ok(format!(in alloc; "{error}")?),
+    }
 }

@@ -17,11 +17,7 @@ use std::alloc::Global;
 use warg_values::Text;
 
 /// What is known of a component that imports a resource of this name.
-pub fn one_resource(
-    alloc: Global,
-    table: &mut TypeTable,
-    name: &Text,
-) -> Result<Scope, ScopeError>
+pub fn one_resource(alloc: Global, table: &mut TypeTable, name: &Text) -> Result<Scope, ScopeError>
     ensures kept { Extends table.old table.new }
     ensures found { Finds (ShowsScope table.new) result (imported bounded (nothing_known true) name.now TyFresh) }
 {

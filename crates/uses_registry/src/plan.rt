@@ -17,8 +17,8 @@ pub fn log_of_root(
     config: &Config,
     facts: &Facts,
 ) -> Result<Option<PackageName>, Stop>
-    ensures { IfOk result (λ asked. IfSome asked (λ package.
-        node_at (settings_of config.now) (facts_view facts.now) (Named (codes "root")) ≡ Err (NeedsLog package))) }
+    ensures { IfOk result (λ asked. IfSome asked (λ name.
+        node_at (settings_of config.now) (facts_view facts.now) (Named (codes "root")) ≡ Err (NeedsLog name))) }
 {
     let root = PlanKey::root(alloc)?;
     let question = Question { config, facts };
