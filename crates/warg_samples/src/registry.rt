@@ -100,8 +100,9 @@ impl Registry {
 
     /// The map of the logs to the last of the first records.
     fn map(&self, alloc: Global, length: usize) -> Result<MapHashes, ProverFault> {
+        // Of a log that stands twice the first leaf counts.
         let mut leaves = Vec::new(alloc);
-        for record in self.first(length) {
+        for record in self.first(length).iter().rev() {
             leaves.push(record.leaf())?;
         }
         Ok(MapHashes::new(alloc, leaves.as_slice())?)
