@@ -1,8 +1,9 @@
 -- What registries say of others: the header `warg-registry-hint`, whose value is `NAMESPACE=REGISTRY`, and what a client
 -- does about it.
-use Rattle.std.specs.Prelude.{◌≡◌, ◌≢◌, ◌⊎◌, ℕ, Bool, true, false, not, List, [], ◌∷◌, ◌++◌, Option, Some, None, slice_get, option_map}
+use Rattle.std.specs.Prelude.{◌≡◌, ◌≢◌, ◌⊎◌, ℕ, Bool, true, false, not, List, [], ◌++◌, codes, Option, Some, None, option_map}
 use Rattle.std.specs.List.{before_first}
 use Rattle.std.specs.Str.{IsUtf8}
+use Rattle.std.specs.Str.Iter.{HasSubslice}
 use Rattle.http_header.specs.FieldValue.{FieldValue}
 use Rattle.warg_hash.specs.Name.{is_colon}
 use Rattle.warg_hint.specs.declared.settings.HintSettings.{HintSettings}
@@ -12,8 +13,8 @@ use Rattle.warg_hint.specs.declared.settings.HintSettings.{HintSettings}
 -- the value is a text, which its first `=` cuts into this namespace and this registry's name, neither of them empty
 pub record IsHint (value namespace registry : List ℕ) : Type 0 where
   pub is_text : IsUtf8 value
-  pub parts : value ≡ namespace ++ 61 ∷ registry
-  pub first : (i : ℕ) → slice_get namespace i ≢ Some 61
+  pub parts : value ≡ namespace ++ (codes "=" ++ registry)
+  pub first : ¬ HasSubslice namespace (codes "=")
   pub has_namespace : namespace ≢ []
   pub has_registry : registry ≢ []
 
