@@ -1,7 +1,7 @@
 -- Why published records are not kept.
 use Rattle.std.specs.Prelude.{◌≡◌, ℕ, ◌&&◌, if◌then◌else◌, Bool, true, false, Option, Some, None, List, [], ◌∷◌, ◌++◌}
 use Rattle.warg_record.specs.Record.{Kind}
-use Rattle.warg_record.specs.Envelope.{Signed, IsEnvelopeOf}
+use Rattle.warg_record.specs.Envelope.{Signed}
 use Rattle.warg_log.specs.Breaches.{IsBreach, wants_memory}
 use Rattle.warg_log.specs.Rules.{Accepts, breach_of, any_signature}
 use Rattle.warg_log.specs.declared.error.ValidationError.{ValidationError}
@@ -10,17 +10,24 @@ use Rattle.warg_info.specs.declared.error.TakeError.{TakeError}
 use Rattle.warg_info.specs.declared.error.TakeError.TheVariants as error
 use Rattle.warg_info.specs.declared.error.ReplayError.{ReplayError}
 use Rattle.warg_info.specs.declared.error.ReplayError.TheVariants as replay
-use Rattle.warg_info.specs.Kept.{Kept, IsKeptAs, Grows, signed_log, is_above}
+use Rattle.warg_info.specs.Kept.{Kept, IsEnvelope, IsKeptAs, Grows, signed_log, is_above, last_index}
 
 -- the error is a record's first breach behind a log
 abbrev pub IsUnlawful : ValidationError → Kind → Accepts → List Kept → Signed → Type 0
 IsUnlawful e kind accepts log s = (wants_memory e ≡ false) × IsBreach e (breach_of kind accepts (signed_log log) s)
 
--- a published record is read as no envelope; or its envelope breaks this rule behind a log. Want of memory says nothing
+-- a published record is not passed over behind a log, and its envelope breaks this rule
+pub record BreaksRule (e : ValidationError) (kind : Kind) (accepts : Accepts) (log : List Kept) (p : PublishedRecord) :
+    Type 0 where
+  pub new : is_above p.registry_index (last_index log) ≡ true
+  pub envelope : Kept
+  pub is : IsKeptAs kind p envelope
+  pub unlawful : IsUnlawful e kind accepts log envelope.signed
+
+-- a published record is no envelope; or its envelope breaks this rule behind a log. Want of memory says nothing
 abbrev pub IsTakeFault : TakeError → Kind → Accepts → List Kept → PublishedRecord → Type 0
-IsTakeFault error.BadEnvelope kind accepts log p =
-    (s : Signed) → IsEnvelopeOf kind p.content_bytes p.key_id p.signature s → ⊥
-IsTakeFault (error.Unlawful e) kind accepts log p = (k : Kept) × IsKeptAs kind p k × IsUnlawful e kind accepts log k.signed
+IsTakeFault error.BadEnvelope kind accepts log p = ¬ IsEnvelope kind p
+IsTakeFault (error.Unlawful e) kind accepts log p = BreaksRule e kind accepts log p
 IsTakeFault error.Memory kind accepts log p = Unit {0}
 
 -- one of some published records has this fault, behind the log with those before it
@@ -64,9 +71,9 @@ replay_error error.Memory = replay.Memory
 abbrev pub take_error : ValidationError → TakeError
 take_error e = if wants_memory e then error.Memory else error.Unlawful e
 
--- a published record is read as no envelope
+-- a published record is no envelope
 abbrev pub IsReadFault : TakeError → Kind → PublishedRecord → Type 0
-IsReadFault error.BadEnvelope kind p = (s : Signed) → IsEnvelopeOf kind p.content_bytes p.key_id p.signature s → ⊥
+IsReadFault error.BadEnvelope kind p = ¬ IsEnvelope kind p
 IsReadFault (error.Unlawful e) kind p = ⊥
 IsReadFault error.Memory kind p = Unit {0}
 

@@ -1,5 +1,6 @@
 -- Logs as they are kept: each record with its place in the registry's log and the token by which requests name it.
-use Rattle.std.specs.Prelude.{◌≡◌, ℕ, nat_lt, if◌then◌else◌, Bool, true, List, [], ◌∷◌, ◌++◌, map, Option, Some, None, option_map}
+use Rattle.std.specs.Prelude.{◌≡◌, ◌<◌, ◌^◌, ℕ, nat_lt, if◌then◌else◌, Bool, true, List, [], ◌∷◌, ◌++◌, length, map, Option, Some, None, option_map}
+use Rattle.std.specs.List.{AllByRecursion}
 use Rattle.std.specs.Option.{option_map_or}
 use Rattle.warg_record.specs.Record.{Kind}
 use Rattle.warg_record.specs.Envelope.{Signed, IsEnvelopeOf}
@@ -46,8 +47,16 @@ Ascends log = AreAbove None log
 
 -- ---- what a registry publishes
 
--- a published record is read as this envelope, and has this place and token
+-- a published record is an envelope of this kind
+abbrev pub IsEnvelope : Kind → PublishedRecord → Type 0
+IsEnvelope kind p = (s : Signed) × IsEnvelopeOf kind p.content_bytes p.key_id p.signature s
+
+abbrev pub AreEnvelopes : Kind → List PublishedRecord → Type 0
+AreEnvelopes kind ps = AllByRecursion (IsEnvelope kind) ps
+
+-- a published record, whose contents can be sent, is read as this envelope, and has this place and token
 pub record IsKeptAs (kind : Kind) (p : PublishedRecord) (k : Kept) : Type 0 where
+  pub short : length p.content_bytes < 2 ^ 64
   pub envelope : IsEnvelopeOf kind p.content_bytes p.key_id p.signature k.signed
   pub registry_index : k.registry_index ≡ p.registry_index
   pub fetch_token : k.fetch_token ≡ p.fetch_token
@@ -65,6 +74,10 @@ new_after before [] = []
 new_after before (p ∷ ps) =
     if is_above p.registry_index before then p ∷ new_after (Some p.registry_index) ps else new_after before ps
 
--- a log, and then what is published of it behind its last place
-abbrev pub Grows : Kind → List Kept → List PublishedRecord → List Kept → Type 0
-Grows kind old ps new = (more : List Kept) × AreKeptAs kind (new_after (last_index old) ps) more × (new ≡ old ++ more)
+-- a log, and then what is published of it behind its last place. Each published record is an envelope, also one that is
+-- passed over
+pub record Grows (kind : Kind) (old : List Kept) (ps : List PublishedRecord) (new : List Kept) : Type 0 where
+  pub read : AreEnvelopes kind ps
+  pub more : List Kept
+  pub kept : AreKeptAs kind (new_after (last_index old) ps) more
+  pub parts : new ≡ old ++ more

@@ -1,6 +1,5 @@
 -- Honest registries: what they hold, and the replies that are theirs.
-use Rattle.std.specs.Prelude.{◌≡◌, ◌≢◌, ◌⊎◌, ◌<◌, ◌≤◌, ℕ, ◌+◌, Bool, false, if◌then◌else◌, List, [], ◌∷◌, ◌++◌, length, map, take, bytes_eq, Contains, ◌^◌}
-use Rattle.std.specs.List.{AllByRecursion}
+use Rattle.std.specs.Prelude.{◌≡◌, ◌≢◌, ◌⊎◌, ◌<◌, ◌≤◌, ℕ, ◌+◌, Bool, false, if◌then◌else◌, List, [], ◌∷◌, ◌++◌, length, map, take, bytes_eq, Contains}
 use Rattle.sha2.specs.Sha256.{sha256}
 use Rattle.warg_hash.specs.Hash.{operator_log_id, package_log_id}
 use Rattle.warg_record.specs.Record.{Kind, Package, Operator}
@@ -54,14 +53,9 @@ IsLogId kind id =
     ((kind ≡ Operator) × (id ≡ operator_log_id))
     ⊎ ((kind ≡ Package) × (name : List ℕ) × (id ≡ package_log_id name))
 
--- a record's contents can be sent
-abbrev pub IsShort : List ℕ × Signed → Type 0
-IsShort e = length e.1.contents < 2 ^ 64
-
--- its logs are lawful, below each length; their records can be sent; and no two of their ids have one key in the map
+-- its logs are lawful, below each length, and no two of their ids have one key in the map
 pub record IsRegistry (accepts : Accepts) (w : Registry) : Type 0 where
   pub lawful : (kind : Kind) (id : List ℕ) (n : ℕ) → IsLogId kind id → IsLawfulLog kind accepts (log_below w n id)
-  pub short : AllByRecursion IsShort w.entries
   pub one_key : (e f : List ℕ × Signed) → Contains w.entries e → Contains w.entries f → log_key e.0 ≡ log_key f.0 → e.0 ≡ f.0
 
 -- the checkpoint of a length of it

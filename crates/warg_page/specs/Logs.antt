@@ -22,6 +22,10 @@ pub record Logs : Type 0 where
 abbrev pub brought : List ℕ → List (List ℕ × List PublishedRecord) → List PublishedRecord
 brought id listed = flat_map (λ l. if bytes_eq l.0 id then l.1 else []) listed
 
+-- a list that has a record is of a package's log
+abbrev pub IsOfPackage : List (List ℕ × List Kept) → List ℕ × List PublishedRecord → Type 0
+IsOfPackage packages l = l.1 ≢ [] → (p : List ℕ × List Kept) × Contains packages p × (package_log_id p.0 ≡ l.0)
+
 -- each package's log, in order, with what is brought for it
 abbrev pub EachGrows : List (List ℕ × List PublishedRecord) → List (List ℕ × List Kept) → List (List ℕ × List Kept) → Type 0
 EachGrows listed [] [] = Unit {0}
@@ -30,9 +34,10 @@ EachGrows listed (p ∷ ps) (q ∷ qs) =
 EachGrows listed [] (q ∷ qs) = ⊥
 EachGrows listed (p ∷ ps) [] = ⊥
 
--- the logs with what a page brings for them
+-- the logs with what a page brings for them, and for no other log
 pub record Brings (before : Logs) (page : Page) (after : Logs) : Type 0 where
   pub operator : Grows Operator before.operator page.operator after.operator
+  pub asked : AllByRecursion (IsOfPackage before.packages) page.packages
   pub packages : EachGrows page.packages before.packages after.packages
 
 -- no package whose log a page lists is without a record
@@ -42,6 +47,11 @@ LeavesNoneEmpty packages listed =
     → Contains packages (name, []) → ⊥
 
 -- ---- what the logs are to be
+
+-- each log is lawful, also one without a record
+pub record EachIsLawful (accepts : Accepts) (logs : Logs) : Type 0 where
+  pub operator : IsLawfulLog Operator accepts logs.operator
+  pub packages : AllByRecursion (λ p. IsLawfulLog Package accepts p.1) logs.packages
 
 -- a log is there, and lawful
 abbrev pub IsLawfulPackage : Accepts → List ℕ × List Kept → Type 0
