@@ -6,7 +6,7 @@ use Rattle.warg_log.specs.History.{last_or}
 use Rattle.warg_record.specs.Record.{Kind}
 use Rattle.warg_record.specs.Envelope.{Signed}
 use Rattle.warg_exchange.specs.declared.logs.PublishedRecord.{PublishedRecord}
-use Rattle.warg_info.specs.Kept.{Kept, AreKeptAs, AreAbove, Ascends, is_above, index_of, last_index, new_after, Grows}
+use Rattle.warg_info.specs.Kept.{Kept, AreEnvelopes, AreKeptAs, AreAbove, Ascends, is_above, index_of, last_index, new_after, Grows}
 use Rattle.warg_ledger.specs.Registry.{log_from}
 
 same-some : (i j : ℕ) → Some i ≡ Some j → i ≡ j
@@ -62,7 +62,17 @@ all-new kind (p ∷ ps) (k ∷ ks) last are is =
     let new : is_above p.registry_index last ≡ true = ap (λ (n : ℕ). is_above n last) (sym index) ∙ is.0 in
     rw new (ap (λ (l : List PublishedRecord). p ∷ l) (all-new kind ps ks (Some p.registry_index) are.1 (subst (λ (n : ℕ). AreAbove (Some n) ks) index is.1)))
 
+envelopes : (kind : Kind) (ps : List PublishedRecord) (ks : List Kept) → AreKeptAs kind ps ks → AreEnvelopes kind ps
+envelopes kind [] [] are = tt
+envelopes kind [] (k ∷ ks) are = absurd are
+envelopes kind (p ∷ ps) [] are = absurd are
+envelopes kind (p ∷ ps) (k ∷ ks) are = ((k.signed, are.0.envelope), envelopes kind ps ks are.1)
+
 -- so a log that begins an ascending one grows by just what is published of the rest
 pub honest-grows : (kind : Kind) (before next after : List Kept) (ps : List PublishedRecord) → Ascends (before ++ (next ++ after)) → AreKeptAs kind ps next → Grows kind before ps (before ++ next)
-honest-grows kind before next after ps ascends are =
-    (next, subst (λ (l : List PublishedRecord). AreKeptAs kind l next) (sym (all-new kind ps next (last_index before) are (front (last_index before) next after (behind before (next ++ after) ascends)))) are, refl)
+honest-grows kind before next after ps ascends are = record {
+  read = envelopes kind ps next are;
+  more = next;
+  kept = subst (λ (l : List PublishedRecord). AreKeptAs kind l next) (sym (all-new kind ps next (last_index before) are (front (last_index before) next after (behind before (next ++ after) ascends)))) are;
+  parts = refl;
+}

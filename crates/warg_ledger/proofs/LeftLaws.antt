@@ -10,7 +10,7 @@ use Rattle.warg_info.specs.Kept.{Kept, AreKeptAs, AreAbove, Ascends, last_index,
 use Rattle.warg_page.specs.Logs.{Logs, Brings, LeavesNoneEmpty, brought}
 use Rattle.warg_ledger.specs.Registry.{Registry, IsRegistry, log_below, BringsBehind, IsPageOf, Begins}
 use Rattle.warg_ledger.proofs.AscendLaws.{log-ascends, behind, front, all-new}
-use Rattle.warg_ledger.proofs.TakenLaws.{EnvelopeLaw, short-below}
+use Rattle.warg_ledger.proofs.TakenLaws.{Laws}
 use Rattle.warg_ledger.proofs.PageLaws.{IsTold, goes-on, grown-at, own-list, package-told}
 
 no-more : (kind : Kind) (next : List Kept) → AreKeptAs kind [] next → next ≡ []
@@ -26,26 +26,25 @@ begins kind whole log more b = record {
 }
 
 -- a log behind all that was published begins the registry's
-behind-all : EnvelopeLaw → (kind : Kind) (accepts : Accepts) (whole before after : List Kept) (ps : List PublishedRecord) (more : Bool) → IsTold kind accepts whole → BringsBehind kind whole before ps more → Grows kind before ps after
+behind-all : Laws → (kind : Kind) (accepts : Accepts) (whole before after : List Kept) (ps : List PublishedRecord) (more : Bool) → IsTold kind accepts whole → BringsBehind kind whole before ps more → Grows kind before ps after
     → Begins whole after more
-behind-all law kind accepts whole before after ps more told b grows =
-    begins kind whole after more (goes-on law kind accepts whole before after ps [] more told (subst (λ (l : List PublishedRecord). BringsBehind kind whole before l more) (sym (append-nil ps)) b) grows)
+behind-all laws kind accepts whole before after ps more told b grows =
+    begins kind whole after more (goes-on laws kind accepts whole before after ps [] more told (subst (λ (l : List PublishedRecord). BringsBehind kind whole before l more) (sym (append-nil ps)) b) grows)
 
-pub operator-left : EnvelopeLaw → (accepts : Accepts) (w : Registry) (n : ℕ) (logs : Logs) (page : Page) (after : Logs) → IsRegistry accepts w → IsPageOf w n logs page → Brings logs page after
+pub operator-left : Laws → (accepts : Accepts) (w : Registry) (n : ℕ) (logs : Logs) (page : Page) (after : Logs) → IsRegistry accepts w → IsPageOf w n logs page → Brings logs page after
     → Begins (log_below w n operator_log_id) after.operator page.more
-operator-left law accepts w n logs page after registry is brings =
+operator-left laws accepts w n logs page after registry is brings =
     let told : IsTold Operator accepts (log_below w n operator_log_id) = record {
       lawful = registry.lawful Operator operator_log_id n (inl (refl, refl));
       ascends = log-ascends w.token operator_log_id (take n w.entries);
-      short = short-below w.token operator_log_id n w.entries registry.short;
     } in
-    behind-all law Operator accepts (log_below w n operator_log_id) logs.operator after.operator page.operator page.more told is.operator_records brings.operator
+    behind-all laws Operator accepts (log_below w n operator_log_id) logs.operator after.operator page.operator page.more told is.operator_records brings.operator
 
-pub package-left : EnvelopeLaw → (accepts : Accepts) (w : Registry) (n : ℕ) (logs : Logs) (page : Page) (after : Logs) (name : List ℕ) (log : List Kept) → IsRegistry accepts w → IsPageOf w n logs page → Brings logs page after
+pub package-left : Laws → (accepts : Accepts) (w : Registry) (n : ℕ) (logs : Logs) (page : Page) (after : Logs) (name : List ℕ) (log : List Kept) → IsRegistry accepts w → IsPageOf w n logs page → Brings logs page after
     → Contains after.packages (name, log) → Begins (log_below w n (package_log_id name)) log page.more
-package-left law accepts w n logs page after name log registry is brings there =
+package-left laws accepts w n logs page after name log registry is brings there =
     let grown = grown-at page.packages logs.packages after.packages name log there.0 brings.packages there.1 there.2 in
-    behind-all law Package accepts (log_below w n (package_log_id name)) grown.log log (brought (package_log_id name) page.packages) page.more (package-told accepts w n name registry) (is.package_records name grown.log grown.there) grown.grows
+    behind-all laws Package accepts (log_below w n (package_log_id name)) grown.log log (brought (package_log_id name) page.packages) page.more (package-told accepts w n name registry) (is.package_records name grown.log grown.there) grown.grows
 
 -- ---- no listed log is left empty
 
@@ -69,17 +68,17 @@ nothing-published : (kind : Kind) (ps : List PublishedRecord) → AreKeptAs kind
 nothing-published kind [] are = refl
 nothing-published kind (p ∷ ps) are = absurd are
 
-pub none-left-empty : EnvelopeLaw → (accepts : Accepts) (w : Registry) (n : ℕ) (logs : Logs) (page : Page) (after : Logs) → IsRegistry accepts w → IsPageOf w n logs page → Brings logs page after
+pub none-left-empty : Laws → (accepts : Accepts) (w : Registry) (n : ℕ) (logs : Logs) (page : Page) (after : Logs) → IsRegistry accepts w → IsPageOf w n logs page → Brings logs page after
     → LeavesNoneEmpty after.packages page.packages
-none-left-empty law accepts w n logs page after registry is brings name records listed there =
+none-left-empty laws accepts w n logs page after registry is brings name records listed there =
     let id = package_log_id name in
     let grown = grown-at page.packages logs.packages after.packages name [] there.0 brings.packages there.1 there.2 in
     let b = is.package_records name grown.log grown.there in
     let ps = brought id page.packages in
-    let was_none : grown.log ≡ [] = first-none grown.log grown.grows.0 (sym grown.grows.2) in
-    let more_none : grown.grows.0 ≡ [] = rest-none grown.log grown.grows.0 (sym grown.grows.2) in
+    let was_none : grown.log ≡ [] = first-none grown.log grown.grows.more (sym grown.grows.parts) in
+    let more_none : grown.grows.more ≡ [] = rest-none grown.log grown.grows.more (sym grown.grows.parts) in
     let above : AreAbove (last_index grown.log) b.next = front (last_index grown.log) b.next b.after (behind grown.log (b.next ++ b.after) (subst Ascends b.parts (log-ascends w.token id (take n w.entries)))) in
     let new : new_after (last_index grown.log) ps ≡ ps = all-new Package ps b.next (last_index grown.log) b.published above in
-    let kept : AreKeptAs Package ps [] = subst (λ (l : List Kept). AreKeptAs Package ps l) more_none (subst (λ (l : List PublishedRecord). AreKeptAs Package l grown.grows.0) new grown.grows.1) in
+    let kept : AreKeptAs Package ps [] = subst (λ (l : List Kept). AreKeptAs Package ps l) more_none (subst (λ (l : List PublishedRecord). AreKeptAs Package l grown.grows.more) new grown.grows.kept) in
     let none : records ≡ [] = none-listed id records page.packages listed.0 listed.1 listed.2 (nothing-published Package ps kept) in
     is.some_records name records listed (subst (λ (l : List Kept). Contains logs.packages (name, l)) was_none grown.there) none

@@ -1,7 +1,6 @@
 -- An honest registry's page is taken, list by list.
 use Rattle.std.proofs.Common.{◌≡◌, ◌<◌, ◌++◌, ◌∷◌, [], inl, inr, List, ℕ, Bool, zero, suc, refl, sym, ◌∙◌, ap, subst, length, take, append_assoc, append-nil, arith, get_or}
 use Rattle.std.specs.Prelude.{Contains, bytes_eq, if◌then◌else◌}
-use Rattle.std.specs.List.{AllByRecursion}
 use Rattle.std.proofs.lemmas.Slice.Eq.{bytes_eq-Decides}
 use Rattle.warg_hash.specs.Hash.{operator_log_id, package_log_id}
 use Rattle.warg_record.specs.Record.{Kind, Package, Operator}
@@ -12,14 +11,14 @@ use Rattle.warg_info.specs.declared.error.TakeError.{TakeError}
 use Rattle.warg_info.specs.declared.error.TakeError.TheVariants as fault
 use Rattle.warg_info.specs.Faults.{FirstFault}
 use Rattle.warg_info.specs.Info.{IsLawfulLog}
-use Rattle.warg_info.specs.Kept.{Kept, AreKeptAs, Ascends, AreAbove, last_index, new_after, Grows}
+use Rattle.warg_info.specs.Kept.{Kept, AreKeptAs, Ascends, Grows}
 use Rattle.warg_page.specs.Logs.{Logs, EachGrows, brought}
 use Rattle.warg_page.specs.PageFaults.{IsListedFault, FirstListedFault, IsPageFault}
 use Rattle.warg_page.specs.declared.page.PageError.{PageError}
 use Rattle.warg_page.specs.declared.page.PageError.TheVariants as error
 use Rattle.warg_ledger.specs.Registry.{Registry, IsRegistry, log_below, BringsBehind, IsPageOf}
-use Rattle.warg_ledger.proofs.AscendLaws.{log-ascends, behind, front, all-new}
-use Rattle.warg_ledger.proofs.TakenLaws.{EnvelopeLaw, IsShortKept, one-list, never-refused, short-below, short-front, short-back}
+use Rattle.warg_ledger.proofs.AscendLaws.{log-ascends, honest-grows}
+use Rattle.warg_ledger.proofs.TakenLaws.{Laws, never-refused}
 
 -- ---- published records in two parts
 
@@ -41,22 +40,16 @@ in-parts kind (x ∷ p) q (k ∷ next) are =
 pub record IsTold (kind : Kind) (accepts : Accepts) (log : List Kept) : Type 0 where
   pub lawful : IsLawfulLog kind accepts log
   pub ascends : Ascends log
-  pub short : AllByRecursion IsShortKept log
 
 -- behind what was published first, the rest follows
-pub goes-on : EnvelopeLaw → (kind : Kind) (accepts : Accepts) (log before after : List Kept) (p q : List PublishedRecord) (more : Bool) → IsTold kind accepts log → BringsBehind kind log before (p ++ q) more
+pub goes-on : Laws → (kind : Kind) (accepts : Accepts) (log before after : List Kept) (p q : List PublishedRecord) (more : Bool) → IsTold kind accepts log → BringsBehind kind log before (p ++ q) more
     → Grows kind before p after → BringsBehind kind log after q more
-goes-on law kind accepts log before after p q more told b grows =
+goes-on laws kind accepts log before after p q more told b grows =
     let parts = in-parts kind p q b.next b.published in
     let next_is : b.next ++ b.after ≡ parts.first ++ (parts.rest ++ b.after) = ap (λ (l : List Kept). l ++ b.after) parts.parts ∙ append_assoc parts.first parts.rest b.after in
     let whole : log ≡ before ++ (parts.first ++ (parts.rest ++ b.after)) = b.parts ∙ ap (λ (l : List Kept). before ++ l) next_is in
-    let above : AreAbove (last_index before) parts.first = front (last_index before) parts.first (parts.rest ++ b.after) (behind before (parts.first ++ (parts.rest ++ b.after)) (subst Ascends whole told.ascends)) in
-    let new : new_after (last_index before) p ≡ p = all-new kind p parts.first (last_index before) parts.are_first above in
-    let more_kept = grows.0 in
-    let grown : AreKeptAs kind p more_kept = subst (λ (l : List PublishedRecord). AreKeptAs kind l more_kept) new grows.1 in
-    let short : AllByRecursion IsShortKept parts.first = short-front parts.first (parts.rest ++ b.after) (short-back before (parts.first ++ (parts.rest ++ b.after)) (subst (AllByRecursion IsShortKept) whole told.short)) in
-    let same : more_kept ≡ parts.first = one-list law kind p parts.first more_kept short parts.are_first grown in
-    let after_is : after ≡ before ++ parts.first = grows.2 ∙ ap (λ (l : List Kept). before ++ l) same in
+    let grown : Grows kind before p (before ++ parts.first) = honest-grows kind before parts.first (parts.rest ++ b.after) p (subst Ascends whole told.ascends) parts.are_first in
+    let after_is : after ≡ before ++ parts.first = laws.one kind before after (before ++ parts.first) p grows grown in
     record {
       next = parts.rest;
       after = b.after;
@@ -66,14 +59,13 @@ goes-on law kind accepts log before after p q more told b grows =
     }
 
 -- what is published first has no fault
-pub first-taken : EnvelopeLaw → (e : TakeError) (kind : Kind) (accepts : Accepts) (log before : List Kept) (p q : List PublishedRecord) (more : Bool) (kept : List Kept) → IsTold kind accepts log
+pub first-taken : Laws → (e : TakeError) (kind : Kind) (accepts : Accepts) (log before : List Kept) (p q : List PublishedRecord) (more : Bool) (kept : List Kept) → IsTold kind accepts log
     → BringsBehind kind log before (p ++ q) more → FirstFault e kind accepts before p kept → e ≡ fault.Memory
-first-taken law e kind accepts log before p q more kept told b f =
+first-taken laws e kind accepts log before p q more kept told b f =
     let parts = in-parts kind p q b.next b.published in
     let next_is : b.next ++ b.after ≡ parts.first ++ (parts.rest ++ b.after) = ap (λ (l : List Kept). l ++ b.after) parts.parts ∙ append_assoc parts.first parts.rest b.after in
     let whole : log ≡ before ++ (parts.first ++ (parts.rest ++ b.after)) = b.parts ∙ ap (λ (l : List Kept). before ++ l) next_is in
-    never-refused law e kind accepts before parts.first (parts.rest ++ b.after) p kept (subst (IsLawfulLog kind accepts) whole told.lawful) (subst Ascends whole told.ascends) (subst (AllByRecursion IsShortKept) whole told.short)
-    parts.are_first f
+    never-refused laws e kind accepts before parts.first (parts.rest ++ b.after) p kept (subst (IsLawfulLog kind accepts) whole told.lawful) (subst Ascends whole told.ascends) parts.are_first f
 
 -- ---- lists of a page
 
@@ -131,54 +123,53 @@ pub package-told : (accepts : Accepts) (w : Registry) (n : ℕ) (name : List ℕ
 package-told accepts w n name registry = record {
   lawful = registry.lawful Package (package_log_id name) n (inr (refl, name, refl));
   ascends = log-ascends w.token (package_log_id name) (take n w.entries);
-  short = short-below w.token (package_log_id name) n w.entries registry.short;
 }
 
-still-behind : EnvelopeLaw → (accepts : Accepts) (w : Registry) (n : ℕ) (packages mid : List (List ℕ × List Kept)) (l : List ℕ × List PublishedRecord) (listed : List (List ℕ × List PublishedRecord)) (more : Bool) → IsRegistry accepts w
+still-behind : Laws → (accepts : Accepts) (w : Registry) (n : ℕ) (packages mid : List (List ℕ × List Kept)) (l : List ℕ × List PublishedRecord) (listed : List (List ℕ × List PublishedRecord)) (more : Bool) → IsRegistry accepts w
     → AreBehind w n packages (l ∷ listed) more → EachGrows (l ∷ []) packages mid → AreBehind w n mid listed more
-still-behind law accepts w n packages mid l listed more registry are each = record {
+still-behind laws accepts w n packages mid l listed more registry are each = record {
   each = λ name after there.
       let id = package_log_id name in
       let grown = grown-at (l ∷ []) packages mid name after there.0 each there.1 there.2 in
       let b : BringsBehind Package (log_below w n id) grown.log (brought id (l ∷ []) ++ brought id listed) more =
       subst (λ (ps : List PublishedRecord). BringsBehind Package (log_below w n id) grown.log ps more) (brought-more id l listed) (are.each name grown.log grown.there) in
-      goes-on law Package accepts (log_below w n id) grown.log after (brought id (l ∷ [])) (brought id listed) more (package-told accepts w n name registry) b grown.grows;
+      goes-on laws Package accepts (log_below w n id) grown.log after (brought id (l ∷ [])) (brought id listed) more (package-told accepts w n name registry) b grown.grows;
   only = λ id records there.
       let known = are.only id records (further l (id, records) listed there) in
       let kept = kept-at (l ∷ []) packages mid known.0 known.1 known.2.0 each known.2.1 known.2.2 in
       (known.0, kept.0, kept.1, known.3);
 }
 
-list-taken : EnvelopeLaw → (e : PageError) (accepts : Accepts) (w : Registry) (n : ℕ) (packages : List (List ℕ × List Kept)) (l : List ℕ × List PublishedRecord) (listed : List (List ℕ × List PublishedRecord)) (more : Bool) → IsRegistry accepts w
+list-taken : Laws → (e : PageError) (accepts : Accepts) (w : Registry) (n : ℕ) (packages : List (List ℕ × List Kept)) (l : List ℕ × List PublishedRecord) (listed : List (List ℕ × List PublishedRecord)) (more : Bool) → IsRegistry accepts w
     → AreBehind w n packages (l ∷ listed) more → IsListedFault e accepts packages l → e ≡ error.Memory
-list-taken law (error.Operator e) accepts w n packages l listed more registry are bad = absurd bad
-list-taken law (error.UnknownLog id) accepts w n packages l listed more registry are bad =
+list-taken laws (error.Operator e) accepts w n packages l listed more registry are bad = absurd bad
+list-taken laws (error.UnknownLog id) accepts w n packages l listed more registry are bad =
     let known = are.only l.0 l.1 (0, omega arith, refl) in
     absurd (bad.2 (known.0, known.1) known.2 (known.3 ∙ sym bad.0))
-list-taken law (error.Package name e) accepts w n packages l listed more registry are bad =
+list-taken laws (error.Package name e) accepts w n packages l listed more registry are bad =
     let id = package_log_id name in
     let b : BringsBehind Package (log_below w n id) bad.1 (brought id ((id, l.1) ∷ listed)) more = subst (λ (k : List ℕ). BringsBehind Package (log_below w n id) bad.1 (brought id ((k, l.1) ∷ listed)) more) (sym bad.3) (are.each name bad.1 bad.2) in
     let own : BringsBehind Package (log_below w n id) bad.1 (l.1 ++ brought id listed) more = subst (λ (ps : List PublishedRecord). BringsBehind Package (log_below w n id) bad.1 ps more) (own-list id l.1 listed) b in
-    absurd (bad.0 (first-taken law e Package accepts (log_below w n id) bad.1 l.1 (brought id listed) more bad.4 (package-told accepts w n name registry) own bad.5))
-list-taken law error.Memory accepts w n packages l listed more registry are bad = refl
+    absurd (bad.0 (first-taken laws e Package accepts (log_below w n id) bad.1 l.1 (brought id listed) more bad.4 (package-told accepts w n name registry) own bad.5))
+list-taken laws error.Memory accepts w n packages l listed more registry are bad = refl
 
-lists-taken : EnvelopeLaw → (e : PageError) (accepts : Accepts) (w : Registry) (n : ℕ) (packages : List (List ℕ × List Kept)) (listed : List (List ℕ × List PublishedRecord)) (more : Bool) → IsRegistry accepts w
+lists-taken : Laws → (e : PageError) (accepts : Accepts) (w : Registry) (n : ℕ) (packages : List (List ℕ × List Kept)) (listed : List (List ℕ × List PublishedRecord)) (more : Bool) → IsRegistry accepts w
     → AreBehind w n packages listed more → FirstListedFault e accepts packages listed → e ≡ error.Memory
-lists-taken law e accepts w n packages [] more registry are bad = absurd bad
-lists-taken law e accepts w n packages (l ∷ listed) more registry are (inl here) = list-taken law e accepts w n packages l listed more registry are here
-lists-taken law e accepts w n packages (l ∷ listed) more registry are (inr later) =
-    lists-taken law e accepts w n later.0 listed more registry (still-behind law accepts w n packages later.0 l listed more registry are later.1) later.2
+lists-taken laws e accepts w n packages [] more registry are bad = absurd bad
+lists-taken laws e accepts w n packages (l ∷ listed) more registry are (inl here) = list-taken laws e accepts w n packages l listed more registry are here
+lists-taken laws e accepts w n packages (l ∷ listed) more registry are (inr later) =
+    lists-taken laws e accepts w n later.0 listed more registry (still-behind laws accepts w n packages later.0 l listed more registry are later.1) later.2
 
 -- ---- a page
 
-pub page-taken : EnvelopeLaw → (e : PageError) (accepts : Accepts) (w : Registry) (n : ℕ) (logs : Logs) (page : Page) → IsRegistry accepts w → IsPageOf w n logs page → IsPageFault e accepts logs page → e ≡ error.Memory
-page-taken law (error.Operator e) accepts w n logs page registry is bad =
+pub page-taken : Laws → (e : PageError) (accepts : Accepts) (w : Registry) (n : ℕ) (logs : Logs) (page : Page) → IsRegistry accepts w → IsPageOf w n logs page → IsPageFault e accepts logs page → e ≡ error.Memory
+page-taken laws (error.Operator e) accepts w n logs page registry is bad =
     let b = is.operator_records in
     let whole = log_below w n operator_log_id in
-    absurd (bad.0 (never-refused law e Operator accepts logs.operator b.next b.after page.operator bad.1 (subst (IsLawfulLog Operator accepts) b.parts (registry.lawful Operator operator_log_id n (inl (refl, refl))))
-    (subst Ascends b.parts (log-ascends w.token operator_log_id (take n w.entries))) (subst (AllByRecursion IsShortKept) b.parts (short-below w.token operator_log_id n w.entries registry.short)) b.published bad.2))
-page-taken law (error.UnknownLog id) accepts w n logs page registry is bad =
-    lists-taken law (error.UnknownLog id) accepts w n logs.packages page.packages page.more registry (record { each = is.package_records; only = is.only_asked }) bad.2
-page-taken law (error.Package name e) accepts w n logs page registry is bad =
-    lists-taken law (error.Package name e) accepts w n logs.packages page.packages page.more registry (record { each = is.package_records; only = is.only_asked }) bad.2
-page-taken law error.Memory accepts w n logs page registry is bad = refl
+    absurd (bad.0 (never-refused laws e Operator accepts logs.operator b.next b.after page.operator bad.1 (subst (IsLawfulLog Operator accepts) b.parts (registry.lawful Operator operator_log_id n (inl (refl, refl))))
+    (subst Ascends b.parts (log-ascends w.token operator_log_id (take n w.entries))) b.published bad.2))
+page-taken laws (error.UnknownLog id) accepts w n logs page registry is bad =
+    lists-taken laws (error.UnknownLog id) accepts w n logs.packages page.packages page.more registry (record { each = is.package_records; only = is.only_asked }) bad.2
+page-taken laws (error.Package name e) accepts w n logs page registry is bad =
+    lists-taken laws (error.Package name e) accepts w n logs.packages page.packages page.more registry (record { each = is.package_records; only = is.only_asked }) bad.2
+page-taken laws error.Memory accepts w n logs page registry is bad = refl

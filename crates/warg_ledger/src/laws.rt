@@ -16,7 +16,8 @@ ghost use Rattle.warg_page.specs.declared.page.PageError.{PageError};
 ghost use Rattle.warg_page.specs.declared.page.PageError.TheVariants.{Memory as PageWantsMemory};
 ghost use Rattle.warg_ledger.specs.Registry.{Registry, IsLogId, IsRegistry, log_below, BringsBehind, IsPageOf, Begins};
 
-use warg_record::laws::one_envelope;
+use warg_info::laws::growth_is_taken;
+use warg_log::laws::fronts_are_lawful;
 
 /// What an honest registry brings of a log, behind a beginning of it, has no fault but want of memory; the log grows by all
 /// of it, and where no more is to come it is then the registry's whole log below that length.
@@ -33,7 +34,8 @@ pub fn honest_records_are_taken()
         → (b : BringsBehind kind (log_below w n id) before ps more) → more ≡ false
         → before ++ b.next ≡ log_below w n id }
 {
-    one_envelope();
+    growth_is_taken();
+    fronts_are_lawful();
 }
 
 /// An honest registry's page has no fault but want of memory, and leaves logs that begin the registry's: the whole of them
@@ -52,5 +54,6 @@ pub fn honest_pages_are_taken()
         → IsRegistry accepts w → IsPageOf w n logs page → Brings logs page after
         → LeavesNoneEmpty after.packages page.packages }
 {
-    one_envelope();
+    growth_is_taken();
+    fronts_are_lawful();
 }

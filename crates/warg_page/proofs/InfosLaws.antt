@@ -50,6 +50,16 @@ ids-set keys xs at p q ids is same_name = record {
   distinct = ids.distinct;
 }
 
+-- the package at the place of an id
+pub package-at : (keys : List (List ℕ)) (xs : List PackageInfo) (id : List ℕ) (at : ℕ) (p : PackageInfo) → HaveIds keys xs → slice_get keys at ≡ Some id → slice_get xs at ≡ Some p
+    → (q : List ℕ × List Kept) × Contains (map package_view xs) q × (package_log_id q.0 ≡ id)
+package-at keys xs id at p ids found there =
+    let logs = map package_view xs in
+    let view_there : slice_get logs at ≡ Some (package_view p) = slice_get-map package_view xs at ∙ ap (option_map package_view) there in
+    let key_there : slice_get keys at ≡ Some (package_log_id p.name) = ap (λ (l : List (List ℕ)). slice_get l at) ids.in_order ∙ id-at xs at (package_view p) view_there in
+    let named : package_log_id p.name ≡ id = cc in
+    (package_view p, (at, slice_get_within logs at (package_view p) view_there, get_or_from_slice_get logs at (package_view p) (package_view p) view_there), named)
+
 -- the fault of a package's records is one of what is listed for its id
 pub listed-fault : (e : PageError) (accepts : Accepts) (keys : List (List ℕ)) (xs : List PackageInfo) (id : List ℕ) (ps : List PublishedRecord) (at : ℕ) (p : PackageInfo) → HaveIds keys xs → slice_get keys at ≡ Some id → slice_get xs at ≡ Some p
     → IsPackageFault e accepts p.name (package_log p) ps → IsListedFault e accepts (map package_view xs) (id, ps)

@@ -1,5 +1,6 @@
 pub mod HeadLaws
 pub mod ListedLaws
+pub mod TakenLaws
 pub mod InfosLaws
 pub mod PlaceLaws
 pub mod PageLaws

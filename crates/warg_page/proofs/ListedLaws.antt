@@ -13,7 +13,7 @@ use Rattle.warg_page.specs.Logs.{brought, EachGrows}
 
 grows-none : (log : List Kept) → Grows Package log [] log
 unfolding new_after
-grows-none log = ([], tt, sym (append-nil log))
+grows-none log = record { read = tt; more = []; kept = tt; parts = sym (append-nil log) }
 
 test_true : (a b : List ℕ) → a ≡ b → bytes_eq a b ≡ true
 test_true a b e = (bytes_eq-Decides a b).1 e
@@ -25,7 +25,7 @@ test_by a b false is other = is
 test_false : (a b : List ℕ) → a ≢ b → bytes_eq a b ≡ false
 test_false a b other = test_by a b (bytes_eq a b) refl other
 
-brought_here : (id k : List ℕ) (ps : List PublishedRecord) → id ≡ k → brought k ((id, ps) ∷ []) ≡ ps
+pub brought_here : (id k : List ℕ) (ps : List PublishedRecord) → id ≡ k → brought k ((id, ps) ∷ []) ≡ ps
 brought_here id k ps is = rw (test_true id k is) (append-nil ps)
 
 brought_not : (id k : List ℕ) (ps : List PublishedRecord) → id ≢ k → brought k ((id, ps) ∷ []) ≡ []

@@ -4,6 +4,7 @@
 
 mod heads;
 mod ids;
+pub mod laws;
 mod listed;
 mod page;
 mod presence;

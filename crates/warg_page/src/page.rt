@@ -1,11 +1,12 @@
 //! What a page brings for the logs of an update.
 
 ghost use Rattle.std.specs.Prelude.{◌≡◌, ◌≢◌, ◌⊎◌, ℕ, ◌∷◌, [], Some, IfSome, IfNone, OnOk, IfErr, map, slice_get};
+ghost use Rattle.std.specs.List.{AllByRecursion};
 ghost use Rattle.warg_record.specs.Record.{Package};
 ghost use Rattle.warg_info.specs.Kept.{Grows};
 ghost use Rattle.warg_info.specs.Info.{package_log};
 ghost use Rattle.warg_exchange.specs.Views.{page_view};
-ghost use Rattle.warg_page.specs.Logs.{EachGrows, Brings};
+ghost use Rattle.warg_page.specs.Logs.{IsOfPackage, EachGrows, Brings};
 ghost use Rattle.warg_page.specs.Views.{package_view, logs_view};
 ghost use Rattle.warg_page.specs.Steps.{HaveIds, IsGood, AreGood, IsGoodOperator};
 ghost use Rattle.warg_page.specs.PageFaults.{IsPackageFault, IsListedFault, FirstListedFault, IsPageFault};
@@ -97,6 +98,8 @@ fn take_listed<V: Verifier>(
         → AreGood (V.good verifier.now) packages.old.items
         → EachGrows ((id.now, records.now) ∷ []) (map package_view packages.old.items)
         (map package_view packages.new.items)) }
+    ensures asked { OnOk result (HaveIds ids.now.keys packages.old.items
+        → IsOfPackage (map package_view packages.old.items) (id.now, records.now)) }
     ensures fault { IfErr result (λ e. HaveIds ids.now.keys packages.old.items
         → AreGood (V.good verifier.now) packages.old.items
         → IsListedFault e (V.good verifier.now) (map package_view packages.old.items) (id.now, records.now)) }
@@ -128,6 +131,9 @@ fn take_packages<V: Verifier>(
     ensures grows { OnOk result (HaveIds ids.now.keys packages.old.items
         → AreGood (V.good verifier.now) packages.old.items
         → EachGrows listed.now.entries (map package_view packages.old.items) (map package_view packages.new.items)) }
+    ensures asked { OnOk result (HaveIds ids.now.keys packages.old.items
+        → AreGood (V.good verifier.now) packages.old.items
+        → AllByRecursion (IsOfPackage (map package_view packages.old.items)) listed.now.entries) }
     ensures fault { IfErr result (λ e. HaveIds ids.now.keys packages.old.items
         → AreGood (V.good verifier.now) packages.old.items
         → FirstListedFault e (V.good verifier.now) (map package_view packages.old.items) listed.now.entries) }

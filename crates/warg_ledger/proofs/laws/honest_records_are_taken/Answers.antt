@@ -1,18 +1,16 @@
 use Rattle.std.proofs.Common.{◌++◌, List, sym, ◌∙◌, ap, subst, take}
-use Rattle.std.specs.List.{AllByRecursion}
 use Rattle.std.proofs.lemmas.List.{append-nil}
 use Rattle.warg_info.specs.Info.{IsLawfulLog}
 use Rattle.warg_info.specs.Kept.{Kept, Ascends}
 use Rattle.warg_ledger.proofs.AscendLaws.{log-ascends, honest-grows}
-use Rattle.warg_ledger.proofs.TakenLaws.{IsShortKept, never-refused, short-below}
+use Rattle.warg_ledger.proofs.TakenLaws.{never-refused}
 use Rattle.warg_ledger.proofs.laws.honest_records_are_taken.Goals as goal
 
 pub returns-clause-never_refused : goal.returns-clause-never_refused
 returns-clause-never_refused c accepts w kind id n before ps more e kept registry is b f =
-    never-refused c.one_envelope.ensures e kind accepts before b.next b.after ps kept
+    never-refused (record { one = c.growth_is_taken.ensures.one; taken = c.growth_is_taken.ensures.never_refused; front = c.fronts_are_lawful.ensures.front }) e kind accepts before b.next b.after ps kept
     (subst (IsLawfulLog kind accepts) b.parts (registry.lawful kind id n is))
     (subst Ascends b.parts (log-ascends w.token id (take n w.entries)))
-    (subst (AllByRecursion IsShortKept) b.parts (short-below w.token id n w.entries registry.short))
     b.published f
 
 pub returns-clause-grows : goal.returns-clause-grows

@@ -1,4 +1,4 @@
-use Rattle.std.proofs.Common.{◌≡◌, ◌<◌, ℕ, Some, List, map, length, refl, sym, ◌∙◌, ap, subst, arith}
+use Rattle.std.proofs.Common.{◌≡◌, ◌<◌, [], ℕ, Some, List, map, length, refl, sym, ◌∙◌, ap, subst, arith}
 use Rattle.std.specs.Prelude.{slice_get}
 use Rattle.std.proofs.lemmas.Grind.{common_steps}
 use Rattle.std.proofs.lemmas.List.Elements.{All-set}
@@ -7,7 +7,7 @@ use Rattle.std.proofs.lemmas.Result.{err_from_is_err_and}
 use Rattle.warg_info.specs.Kept.{Kept}
 use Rattle.warg_page.specs.Steps.{IsGood}
 use Rattle.warg_page.specs.Views.{package_view}
-use Rattle.warg_page.proofs.InfosLaws.{listed-one, listed-none, listed-fault, no-id, ids-set}
+use Rattle.warg_page.proofs.InfosLaws.{listed-one, listed-none, listed-fault, no-id, ids-set, package-at}
 use Rattle.warg_page.proofs.page.take_listed.Goals as goal
 
 pub returns-then-is_empty-clause-grows : goal.returns-then-is_empty-clause-grows
@@ -68,3 +68,16 @@ returns-clause-grows g c ids good =
     let there : slice_get xs c.in-Some.at ≡ Some p = slice_get_read xs (length xs) c.in-Some.at p refl lt c.index_mut.ensures.value in
     listed-one c.args.ids.now.keys xs c.args.id.now c.args.records.now c.in-Some.at p c.take_package.new.info ids c.in-Some.ensures.found there c.take_package.ensures.same_name
     (c.in_ok-take_package.ensures.grows (subst (IsGood accepts) (sym c.index_mut.ensures.value) (good c.in-Some.at p lt)))
+
+pub returns-then-is_empty-clause-asked : goal.returns-then-is_empty-clause-asked
+returns-then-is_empty-clause-asked g c ids some =
+    let none : c.args.records.now ≡ [] = grind (arith, common_steps) in
+    absurd (some none)
+
+pub returns-clause-asked : goal.returns-clause-asked
+returns-clause-asked g c ids some =
+    let xs = c.args.packages.now.items in
+    let p = c.index_mut.result.now in
+    let lt : c.in-Some.at < length xs = omega (arith, c.len.ensures, c.args.packages.now.ok.0) in
+    let there : slice_get xs c.in-Some.at ≡ Some p = slice_get_read xs (length xs) c.in-Some.at p refl lt c.index_mut.ensures.value in
+    package-at c.args.ids.now.keys xs c.args.id.now c.in-Some.at p ids c.in-Some.ensures.found there

@@ -1,6 +1,7 @@
 use Rattle.std.proofs.Common.{List, ℕ, map}
 use Rattle.warg_info.specs.Kept.{Kept}
-use Rattle.warg_page.specs.Logs.{EachGrows}
+use Rattle.std.specs.List.{AllByRecursion}
+use Rattle.warg_page.specs.Logs.{IsOfPackage, EachGrows}
 use Rattle.warg_page.specs.PageFaults.{FirstListedFault}
 use Rattle.warg_page.specs.Steps.{HaveIds, AreGood}
 use Rattle.warg_page.specs.Views.{package_view}
@@ -17,5 +18,6 @@ invariant-loop-id g l =
       ids : HaveIds keys old → HaveIds keys now;
       good : AreGood accepts old → AreGood accepts now;
       grows : HaveIds keys old → AreGood accepts old → (news : List (List ℕ × List Kept)) → EachGrows l.id-iterator (map package_view now) news → EachGrows l.listed.entries (map package_view old) news;
+      asked : HaveIds keys old → AreGood accepts old → AllByRecursion (IsOfPackage (map package_view now)) l.id-iterator → AllByRecursion (IsOfPackage (map package_view old)) l.listed.entries;
       fault : HaveIds keys old → AreGood accepts old → (e : PageError) → FirstListedFault e accepts (map package_view now) l.id-iterator → FirstListedFault e accepts (map package_view old) l.listed.entries;
     }
