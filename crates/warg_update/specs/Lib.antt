@@ -2,6 +2,8 @@ pub mod Proved
 pub mod Signature
 pub mod Succession
 pub mod Errors
+pub mod NotFound
 pub mod Standing
 pub mod Stages
 pub mod FeedFaults
+pub mod Included

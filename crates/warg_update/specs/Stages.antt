@@ -6,7 +6,7 @@ use Rattle.warg_exchange.specs.declared.checkpoint.Checkpoint.{Checkpoint}
 use Rattle.warg_exchange.specs.declared.checkpoint.SignedCheckpoint.{SignedCheckpoint}
 use Rattle.warg_exchange.specs.declared.proof.InclusionResponse.{InclusionResponse}
 use Rattle.warg_exchange.specs.declared.proof.ConsistencyResponse.{ConsistencyResponse}
-use Rattle.warg_exchange.specs.Replies.{says, page_in, bundles_in, proof_in}
+use Rattle.warg_exchange.specs.Replies.{says, bundles_in, proof_in}
 use Rattle.warg_exchange.specs.Views.{Page}
 use Rattle.warg_verify.specs.Shown.{Includes, Continues}
 use Rattle.warg_page.specs.Logs.{Logs, Brings, LeavesNoneEmpty, indices_of, leafs_of}
@@ -26,11 +26,9 @@ FollowsPage accepts c more after stage.Page = more ≡ true
 FollowsPage accepts c more after stage.Inclusion = (more ≡ false) × AreTrusted accepts after c
 FollowsPage accepts c more after other = ⊥
 
--- the reply gives a page, which leaves these logs, none that it lists without a record, and this is the stage behind it
-pub record IsTurned (accepts : Accepts) (c : SignedCheckpoint) (before : Logs) (reply : Reply) (after : Logs) (next : Stage) :
+-- the page leaves these logs, none that it lists without a record, and this is the stage behind it
+pub record IsTurned (accepts : Accepts) (c : SignedCheckpoint) (before : Logs) (page : Page) (after : Logs) (next : Stage) :
     Type 0 where
-  pub page : Page
-  pub came : says page_in reply ≡ Ok page
   pub brings : Brings before page after
   pub kept : LeavesNoneEmpty after.packages page.packages
   pub follows : FollowsPage accepts c page.more after next

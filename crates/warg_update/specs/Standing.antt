@@ -1,5 +1,6 @@
 -- Where a step of an update stands: what the exchanges before it have shown, what it asks next, and when it is over.
 use Rattle.std.specs.Prelude.{◌≡◌, ◌+◌, ◌++◌, ◌∷◌, ℕ, nat_lt, if◌then◌else◌, List, [], true, false, Option, Some, None}
+use Rattle.warg_hint.specs.declared.settings.HintSettings.{HintSettings}
 use Rattle.warg_log.specs.Rules.{Accepts}
 use Rattle.warg_exchange.specs.declared.exchange.Exchange.{Exchange}
 use Rattle.warg_exchange.specs.declared.exchange.Request.{Request}
@@ -25,6 +26,10 @@ logs_of step = logs_view step.operator step.packages.items
 -- how many pages a step may still ask for
 abbrev pub pages_left : UpdateStep → ℕ
 pages_left step = step.pages_left
+
+-- what is done about hints at other registries
+abbrev pub hints_of : UpdateStep → HintSettings
+hints_of step = step.hints
 
 -- by a client, who asks the registry of a step
 abbrev pub asker_of : Client → UpdateStep → Asker
@@ -108,10 +113,11 @@ pub record Stands (accepts : Accepts) (a : Asker) (start : Start) (step : Update
 
 -- ---- a reply that is fed
 
--- what stays with any reply: whose logs they are, what was stored, and that good infos are good
+-- what stays with any reply: whose logs they are, what was stored, what is set, and that good infos are good
 pub record KeepsOn (accepts : Accepts) (old new : UpdateStep) : Type 0 where
   pub registry : new.registry ≡ old.registry
   pub stored : new.stored ≡ old.stored
+  pub hints : new.hints ≡ old.hints
   pub ready : IsReady accepts old → IsReady accepts new
 
 -- with a reply to what it asked, a step stands after one exchange more
