@@ -197,6 +197,8 @@ REPLIES = [
     ("HALF", "The same without the second path in the map.", {"log": b64(LOG), "map": b64(map_bundle([path(KEYS, sha(OPERATOR_LOG))]))}),
     ("CONTINUES", "The consistency of one record with three.", {"proof": b64(CONTINUES)}),
     ("FORKED", "A proof that begins with another record.", {"proof": b64(FORKED)}),
+    ("MISSING", "That the package's log is not found.", {"type": "logNotFound", "id": text(PACKAGE_LOG)}),
+    ("MISSING_OPERATOR", "That the operator's log is not found.", {"type": "logNotFound", "id": text(OPERATOR_LOG)}),
 ]
 
 

@@ -2,14 +2,15 @@
 
 use crate::world::{
     CHECKED, CHECKPOINT, CONTINUES, DAMAGED, FIRST_MAP, FIRST_ROOT, FORKED, FRONT, HALF, INCLUSION,
-    KEY_ID, MAP, NO_OPERATOR, NO_PACKAGE, OTHER_KEY, OTHER_LOG, OTHER_ROOT, PAGE, REST, ROOT,
-    UNLAWFUL, UNSIGNED,
+    KEY_ID, MAP, MISSING, MISSING_OPERATOR, NO_OPERATOR, NO_PACKAGE, OTHER_KEY, OTHER_LOG,
+    OTHER_ROOT, PAGE, REST, ROOT, UNLAWFUL, UNSIGNED,
 };
 use std::alloc::Global;
 use std::test::Fail;
 use warg_api::Client;
 use warg_exchange::{Checkpoint, Reply, Request, SignedCheckpoint};
 use warg_hash::{AnyHash, KeyId, PackageName};
+use warg_hint::{AlwaysDecide, HintSettings};
 use warg_info::{OperatorInfo, PackageInfo};
 use warg_log::ListedVerifier;
 use warg_record::Signature;
@@ -85,12 +86,61 @@ const STORED: [(u64, &str, &str, &[&str], &str); 5] = [
     ),
 ];
 
+/// Hints are followed by themselves.
+const HEEDED: HintSettings = HintSettings {
+    ignore_federation_hints: false,
+    disable_auto_accept_federation_hints: false,
+    disable_interactive: false,
+};
+
+/// No hint is followed.
+const IGNORED: HintSettings = HintSettings {
+    ignore_federation_hints: true,
+    disable_auto_accept_federation_hints: false,
+    disable_interactive: false,
+};
+
+/// A hint is followed where a decision says so.
+const ASKED: HintSettings = HintSettings {
+    ignore_federation_hints: false,
+    disable_auto_accept_federation_hints: true,
+    disable_interactive: false,
+};
+
+/// A hint is reported.
+const REPORTED: HintSettings = HintSettings {
+    ignore_federation_hints: true,
+    disable_auto_accept_federation_hints: false,
+    disable_interactive: true,
+};
+
+/// What is set, what a decision says, the hint in a reply that says that a log is not found, its body, and how the error's
+/// text begins.
+const MISSED: [(HintSettings, bool, &str, &str, &str); 9] = [
+    (HEEDED, true, "", MISSING, "the registry has no package a:b"),
+    (HEEDED, false, "a=b.test", MISSING, "the registry tells of another registry for a:b"),
+    (HEEDED, true, "b=b.test", MISSING, "the registry has no package a:b"),
+    (HEEDED, true, "a=", MISSING, "the registry has no package a:b"),
+    (IGNORED, true, "a=b.test", MISSING, "the registry has no package a:b"),
+    (ASKED, true, "a=b.test", MISSING, "the registry tells of another registry for a:b"),
+    (ASKED, false, "a=b.test", MISSING, "the registry has no package a:b"),
+    (REPORTED, false, "b=b.test", MISSING, "the registry tells of another registry for a:b"),
+    (HEEDED, true, "a=b.test", MISSING_OPERATOR, "the registry has no log"),
+];
+
 /// The update of the package `a:b` and of its registry's operator, of which nothing is kept.
-fn step(alloc: Global, stored: Option<SignedCheckpoint>) -> Result<UpdateStep, Fail> {
+fn step(
+    alloc: Global,
+    stored: Option<SignedCheckpoint>,
+    hints: HintSettings,
+) -> Result<UpdateStep, Fail> {
     let operator = OperatorInfo::new(alloc, None);
     let mut packages = Vec::new(alloc);
     packages.push(PackageInfo::new(alloc, PackageName::new(alloc, "a:b")?))?;
-    let settings = Settings { round_limit: 3 };
+    let settings = Settings {
+        hints,
+        round_limit: 3,
+    };
     Ok(UpdateStep::new(alloc, None, operator, packages, stored, settings)?)
 }
 
@@ -104,9 +154,10 @@ fn take(
     alloc: Global,
     step: &mut UpdateStep,
     verifier: &ListedVerifier,
+    decide: &mut AlwaysDecide,
     reply: &Reply,
 ) -> Result<(), UpdateError> {
-    step.feed(alloc, verifier, reply)
+    step.feed(alloc, verifier, decide, reply)
 }
 
 /// How many records are proved.
@@ -130,6 +181,7 @@ fn run(
     step: &mut UpdateStep,
     client: &Client,
     verifier: &ListedVerifier,
+    decide: &mut AlwaysDecide,
     replies: &[Reply],
 ) -> Result<String, Fail> {
     for reply in replies {
@@ -138,7 +190,7 @@ fn run(
             Ok(None) => return proved(alloc, step),
             Err(error) => return Ok(format!(in alloc; "{error}")?),
         }
-        if let Err(error) = take(alloc, step, verifier, reply) {
+        if let Err(error) = take(alloc, step, verifier, decide, reply) {
             return Ok(format!(in alloc; "{error}")?);
         }
     }
@@ -172,8 +224,44 @@ fn outcome(
     let client = Client::new(alloc, "https://home.test", None)?;
     let verifier = read_checked(alloc, CHECKED.as_bytes())?;
     let replies = read_replies(alloc, file(alloc, bodies)?.as_bytes())?;
-    let mut step = step(alloc, stored)?;
-    run(alloc, &mut step, &client, &verifier, &replies)
+    let mut step = step(alloc, stored, HEEDED)?;
+    let mut decide = AlwaysDecide { answer: true };
+    run(alloc, &mut step, &client, &verifier, &mut decide, &replies)
+}
+
+/// A file of the checkpoint's reply and of one that says, with this hint and body, that a log is not found.
+fn missing_file(alloc: Global, hint: &str, body: &str) -> Result<String, Fail> {
+    let mut text = String::from_str(
+        alloc,
+        r#"[{"status":200,"headers":[["content-type","application/json"]],"body":""#,
+    )?;
+    text.push_str(CHECKPOINT)?;
+    text.push_str(r#""},{"status":404,"headers":[["content-type","application/json"]"#)?;
+    if !hint.is_empty() {
+        text.push_str(r#",["warg-registry-hint",""#)?;
+        text.push_str(hint)?;
+        text.push_str(r#""]"#)?;
+    }
+    text.push_str(r#"],"body":""#)?;
+    text.push_str(body)?;
+    text.push_str("\"}]")?;
+    Ok(text)
+}
+
+/// What becomes of an update where a log is not found.
+fn missed(
+    alloc: Global,
+    hints: HintSettings,
+    answer: bool,
+    hint: &str,
+    body: &str,
+) -> Result<String, Fail> {
+    let client = Client::new(alloc, "https://home.test", None)?;
+    let verifier = read_checked(alloc, CHECKED.as_bytes())?;
+    let replies = read_replies(alloc, missing_file(alloc, hint, body)?.as_bytes())?;
+    let mut step = step(alloc, None, hints)?;
+    let mut decide = AlwaysDecide { answer };
+    run(alloc, &mut step, &client, &verifier, &mut decide, &replies)
 }
 
 /// A checkpoint that was stored.
@@ -212,6 +300,20 @@ fn an_update_continues_the_stored_checkpoint_or_is_refused(rt: HostRuntime) -> R
     for (length, log_root, map_root, bodies, expected) in STORED.as_slice() {
         let stored = checkpoint(rt.alloc(), *length, log_root, map_root)?;
         let found = outcome(rt.alloc(), Some(stored), bodies)?;
+        assert!(rt;
+            found.starts_with(*expected),
+            "{found} where {expected} was to come"
+        );
+    }
+    Ok(())
+}
+
+#[test]
+fn a_package_that_is_not_found_does_not_exist_or_may_be_elsewhere(
+    rt: HostRuntime,
+) -> Result<(), Fail> {
+    for (hints, answer, hint, body, expected) in MISSED.as_slice() {
+        let found = missed(rt.alloc(), *hints, *answer, hint, body)?;
         assert!(rt;
             found.starts_with(*expected),
             "{found} where {expected} was to come"

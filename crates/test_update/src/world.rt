@@ -175,6 +175,16 @@ pub const FORKED: &str = "\
     QUFBQUFBQUFWS0Qvb1ZSbnl4emtsMllnSDBiNjU5YkJUUkN2UUdOU1NiWmxreUdqSGpaQUFBQUFBQUFBQUFDaUpXU2RrN3g4Qi9a\
     YTdVVkh2Y2Q1Z0pPQkNwc2hEM09sNnE5alg1UGdvRUFBQUFCQUFBQUFBQUFBQUVBQUFBQUFBQUFBd0FBQUFBPSJ9";
 
+/// That the package's log is not found.
+pub const MISSING: &str = "\
+    eyJpZCI6InNoYTI1NjozZTc4OWUzNTQ0YzEyOGFjNzIxMDFiNDVkZDMwODZiMzY5ZmZlMTU2YmRmZGEyMjkwZGU4NDY5YWJkYmE1\
+    N2MxIiwidHlwZSI6ImxvZ05vdEZvdW5kIn0=";
+
+/// That the operator's log is not found.
+pub const MISSING_OPERATOR: &str = "\
+    eyJpZCI6InNoYTI1NjowZGI5MTc4YWFiYzg3N2I0MmYwM2EwMzhiZjQ1M2VlNTNmMDhlM2M4YzU1ZmFiOTE2MDQzNDI4MDc4NTk2\
+    YmZiIiwidHlwZSI6ImxvZ05vdEZvdW5kIn0=";
+
 /// The signatures that are accepted.
 pub const CHECKED: &str =
     r#"[{"key":"k:AA==","signature":"s:AA==","text":"a92e20c65019fcc292833d838f060127d81d86c602b8020ae340e8efbbb346d6"},{"key":"k:AA==","signature":"s:AA==","text":"cebf39bae8deb0363d3a98dff1c47f9ae9cd0f12d9d8919211d2ec3daf788bbb"},{"key":"k:AA==","signature":"s:AA==","text":"5bd67597700aeb3bef7b2451b463c25c00eb462ca6fe886a400c7def3333c1ea"},{"key":"k:AA==","signature":"s:AA==","text":"53e25b4e8fe2a8fa3c51a8eea40ffb37b9c3e95e778742e0296f098acecb928e"},{"key":"k:AA==","signature":"s:AA==","text":"dbf1344b4983086a9bd5617749a4bc3dd23d9b8a10123e6845f231efe6a979ee"},{"key":"k:AA==","signature":"s:AA==","text":"53e25b4e8fe2a8fa3c51a8eea40ffb37b9c3e95e778742e0296f098acecb928e"}]"#;

@@ -13,6 +13,7 @@ ghost use Rattle.warg_update.specs.Succession.{StandsTo};
 
 use std::alloc::Global;
 use warg_exchange::{Reply, SignedCheckpoint};
+use warg_hint::Decide;
 use warg_info::OperatorInfo;
 use warg_log::Verifier;
 use warg_update::{SignatureError, Succession, UpdateError, UpdateStep, check_signature, compare};
@@ -34,9 +35,10 @@ pub fn believe<V: Verifier>(
 }
 
 /// Whether a reply is the last that an update waited for: then the exchanges so far, with this one, prove its logs.
-pub fn is_last_reply<V: Verifier>(
+pub fn is_last_reply<V: Verifier, D: Decide>(
     alloc: Global,
     verifier: &V,
+    decide: &mut D,
     step: &mut UpdateStep,
     reply: &Reply,
 ) -> Result<bool, UpdateError>
@@ -45,7 +47,7 @@ pub fn is_last_reply<V: Verifier>(
         → (logs : Logs) × (c : Signed) × Proves (V.good verifier.now) a start
         (xs ++ record { request = request; reply = reply.now } ∷ []) logs c) }
 {
-    step.feed(alloc, verifier, reply)?;
+    step.feed(alloc, verifier, decide, reply)?;
     match step.proved() {
         Some(_) => Ok(true),
         None => Ok(false),

@@ -1,5 +1,5 @@
 -- How a step advances with the reply of each stage, and which fault a reply has.
-use Rattle.std.proofs.Common.{◌≡◌, ◌<◌, ◌+◌, ◌⊎◌, arith, ◌++◌, ◌∷◌, [], inl, inr, List, ℕ, true, Option, Some, None, Ok, refl, sym, ◌∙◌, subst}
+use Rattle.std.proofs.Common.{◌≡◌, ◌<◌, ◌+◌, ◌⊎◌, arith, ◌++◌, ◌∷◌, [], inl, inr, List, ℕ, Bool, true, Option, Some, None, Ok, refl, sym, ◌∙◌, subst}
 use Rattle.std.specs.Prelude.{Result, Err, IfOk, IfSome}
 use Rattle.warg_log.specs.Rules.{Accepts}
 use Rattle.warg_exchange.specs.declared.exchange.Exchange.{Exchange}
@@ -8,7 +8,8 @@ use Rattle.warg_exchange.specs.declared.exchange.Reply.{Reply}
 use Rattle.warg_exchange.specs.declared.checkpoint.Checkpoint.{Checkpoint}
 use Rattle.warg_exchange.specs.declared.checkpoint.SignedCheckpoint.{SignedCheckpoint}
 use Rattle.warg_exchange.specs.Requests.{Asker, checkpoint_request, inclusion_request, consistency_request}
-use Rattle.warg_exchange.specs.Replies.{says, checkpoint_in}
+use Rattle.warg_exchange.specs.Replies.{says, checkpoint_in, page_in}
+use Rattle.warg_exchange.specs.Views.{Page}
 use Rattle.warg_page.specs.Logs.{Logs, indices_of}
 use Rattle.warg_update.specs.declared.error.AskError.{AskError}
 use Rattle.warg_update.specs.Proved.{page_request, Turns, Start, Asks, Opens, Proves, AsksCheckpoint, AsksInclusion, AsksConsistency}
@@ -20,7 +21,7 @@ use Rattle.warg_info.specs.declared.operator.OperatorInfo.{OperatorInfo}
 use Rattle.warg_info.specs.declared.package.PackageInfo.{PackageInfo}
 use Rattle.warg_page.specs.Steps.{AreGood, IsGoodOperator}
 use Rattle.warg_page.specs.Views.{AreSound}
-use Rattle.warg_update.specs.Standing.{turns_in, request_in, request_at, logs_of, Reached, IsReady, Stands, KeepsOn, Advances}
+use Rattle.warg_update.specs.Standing.{turns_in, request_in, request_at, logs_of, hints_of, Reached, IsReady, Stands, KeepsOn, Advances}
 use Rattle.warg_update.specs.Stages.{IsTurned, AreShown, FollowsHeads, IsContinued}
 use Rattle.warg_update.specs.FeedFaults.{IsFaultIn, IsFeedFault}
 use Rattle.warg_update.proofs.PagesLaws.{opens-first, proves-continued}
@@ -55,9 +56,9 @@ checkpoint-advances accepts old new reply c at_stage at_next there same keeps ca
 
 -- ---- with a page
 
-pub turned-advances : (accepts : Accepts) (old new : UpdateStep) (reply : Reply) (c : SignedCheckpoint) → old.stage ≡ stage.Page → old.checkpoint ≡ Some c → new.checkpoint ≡ old.checkpoint → KeepsOn accepts old new
-    → (IsReady accepts old → IsTurned accepts c (logs_of old) reply (logs_of new) new.stage) → Advances accepts old reply new
-turned-advances accepts old new reply c at_stage there same keeps turned = advances accepts old reply new keeps reaches
+pub turned-advances : (accepts : Accepts) (old new : UpdateStep) (reply : Reply) (c : SignedCheckpoint) (page : Page) → old.stage ≡ stage.Page → old.checkpoint ≡ Some c → new.checkpoint ≡ old.checkpoint → KeepsOn accepts old new
+    → says page_in reply ≡ Ok page → (IsReady accepts old → IsTurned accepts c (logs_of old) page (logs_of new) new.stage) → Advances accepts old reply new
+turned-advances accepts old new reply c page at_stage there same keeps came turned = advances accepts old reply new keeps reaches
   where
     reaches : (a : Asker) (start : Start) (xs : List Exchange) (request : Request) → request_at a old ≡ Some request → Stands accepts a start old xs
         → Reached new.stage accepts a start (xs ++ record { request = request; reply = reply } ∷ []) (logs_of new) new.checkpoint
@@ -66,8 +67,8 @@ turned-advances accepts old new reply c at_stage there same keeps turned = advan
         let t = turned stands.ready in
         let opens : Opens a start xs c (logs_of old) true = stands-at accepts a start old xs stage.Page (Some c) at_stage there stands in
         let is : request ≡ page_request a c.contents.log_length (logs_of old) = page-asked old.pages_left _ request (asked-at a old stage.Page (Some c) request at_stage there asks) in
-        let turns : Turns a c.contents.log_length (logs_of old) x (logs_of new) t.page.more = record { asked = is; page = t.page; came = t.came; brings = t.brings; kept = t.kept; said = refl } in
-        subst (Reached new.stage accepts a start (xs ++ x ∷ []) (logs_of new)) (sym (same ∙ there)) (reached-page new.stage accepts a start xs c (logs_of old) (logs_of new) x t.page.more opens turns t.follows)
+        let turns : Turns a c.contents.log_length (logs_of old) x (logs_of new) page.more = record { asked = is; page = page; came = came; brings = t.brings; kept = t.kept; said = refl } in
+        subst (Reached new.stage accepts a start (xs ++ x ∷ []) (logs_of new)) (sym (same ∙ there)) (reached-page new.stage accepts a start xs c (logs_of old) (logs_of new) x page.more opens turns t.follows)
 
 -- ---- with the inclusion
 
@@ -106,11 +107,11 @@ continued-advances accepts old new reply from c at_stage there same same_logs at
 
 -- ---- faults
 
-pub fault-at : (e : UpdateError) (accepts : Accepts) (old : UpdateStep) (reply : Reply) (known : Stage) (there : Option SignedCheckpoint) → old.stage ≡ known → old.checkpoint ≡ there
-    → IsFaultIn known e accepts (logs_of old) there old.stored reply → IsFeedFault e accepts old reply
-fault-at e accepts old reply known there at_stage at_checkpoint fault =
-    inr (subst (λ (s : Stage). IsFaultIn s e accepts (logs_of old) old.checkpoint old.stored reply) (sym at_stage)
-    (subst (λ (k : Option SignedCheckpoint). IsFaultIn known e accepts (logs_of old) k old.stored reply) (sym at_checkpoint) fault))
+pub fault-at : (e : UpdateError) (accepts : Accepts) (said : Bool → Bool) (old : UpdateStep) (reply : Reply) (known : Stage) (there : Option SignedCheckpoint) → old.stage ≡ known → old.checkpoint ≡ there
+    → IsFaultIn known e accepts (hints_of old) said (logs_of old) there old.stored reply → IsFeedFault e accepts said old reply
+fault-at e accepts said old reply known there at_stage at_checkpoint fault =
+    inr (subst (λ (s : Stage). IsFaultIn s e accepts (hints_of old) said (logs_of old) old.checkpoint old.stored reply) (sym at_stage)
+    (subst (λ (k : Option SignedCheckpoint). IsFaultIn known e accepts (hints_of old) said (logs_of old) k old.stored reply) (sym at_checkpoint) fault))
 
 -- a step asks nothing where none is asked at its stage
 pub nothing-at : (old : UpdateStep) (known : Stage) (there : Option SignedCheckpoint) → old.stage ≡ known → old.checkpoint ≡ there → ((a : Asker) → request_in known there old.pages_left a (logs_of old) ≡ None)

@@ -6,7 +6,7 @@ use Rattle.warg_exchange.specs.declared.logs.PublishedRecord.{PublishedRecord}
 use Rattle.warg_info.specs.Kept.{Kept}
 use Rattle.warg_page.specs.Logs.{Logs, AreLawful, IsLawfulPackage, LeavesNoneEmpty}
 
-none-empty : (accepts : Accepts) (packages : List (List ℕ × List Kept)) (name : List ℕ) (i : ℕ) → AllByRecursion (IsLawfulPackage accepts) packages
+pub none-empty : (accepts : Accepts) (packages : List (List ℕ × List Kept)) (name : List ℕ) (i : ℕ) → AllByRecursion (IsLawfulPackage accepts) packages
     → i < length packages → get_or packages i (name, []) ≡ (name, []) → ⊥
 none-empty accepts [] name i lawful lt is = absurd (omega (arith, lt))
 none-empty accepts (p ∷ packages) name zero lawful lt is = lawful.0.0 (ap (λ (q : List ℕ × List Kept). q.1) is)

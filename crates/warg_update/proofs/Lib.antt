@@ -4,3 +4,10 @@ pub mod KeptLaws
 pub mod AskedLaws
 pub mod StandingLaws
 pub mod AdvanceLaws
+pub mod BundleLaws
+pub mod ShownLaws
+pub mod FitLaws
+pub mod RunLaws
+pub mod PlaceLaws
+pub mod MissingLaws
+pub mod InclusionLaws

@@ -7,6 +7,7 @@ ghost use Rattle.warg_update.specs.declared.error.AskError.TheVariants.{Memory a
 use crate::signature::SignatureError;
 use thiserror::Error;
 use warg_api::ClientError;
+use warg_hash::PackageName;
 use warg_page::{PageError, PresenceError};
 use warg_url::HeaderError;
 use warg_values::Memory;
@@ -53,6 +54,18 @@ pub enum UpdateError {
     /// The reply does not give what was asked, or its proofs do not show it.
     #[error("{0}")]
     Api(ClientError),
+    /// The registry does not find the log of a package, and no hint at another registry is followed.
+    #[error("the registry has no package {name}: check the package's name and the registry")]
+    PackageDoesNotExist {
+        /// The package's name.
+        name: PackageName,
+    },
+    /// The registry does not find the log of a package, and tells of another registry.
+    #[error("the registry tells of another registry for {name}, and such hints are not supported: name that registry")]
+    NotBuilt {
+        /// The package's name.
+        name: PackageName,
+    },
     /// A page brings a record that is refused.
     #[error("{0}")]
     Page(PageError),

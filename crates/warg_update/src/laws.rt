@@ -1,12 +1,29 @@
 //! Laws over definitions alone.
 
-ghost use Rattle.std.specs.Prelude.{◌≡◌, ◌++◌, ◌∷◌, [], Bool, true, false, List};
+ghost use Rattle.std.specs.Prelude.{◌≡◌, ◌++◌, ◌∷◌, [], ℕ, Bool, true, false, List, Some, length, Contains};
+ghost use Rattle.sha2.specs.Sha256.{sha256};
 ghost use Rattle.warg_log.specs.Rules.{Accepts};
 ghost use Rattle.warg_exchange.specs.declared.exchange.Exchange.{Exchange};
+ghost use Rattle.warg_exchange.specs.declared.exchange.Request.{Request as Sent};
 ghost use Rattle.warg_exchange.specs.declared.checkpoint.SignedCheckpoint.{SignedCheckpoint as Signed};
 ghost use Rattle.warg_exchange.specs.Requests.{Asker};
-ghost use Rattle.warg_page.specs.Logs.{Logs, AreLawful};
+ghost use Rattle.warg_info.specs.Kept.{Kept, last_kept};
+ghost use Rattle.warg_page.specs.Logs.{Logs, AreLawful, logs_by_id};
+ghost use Rattle.warg_proof.specs.Leaves.{log_entry, map_value};
+ghost use Rattle.warg_proof.specs.LogTree.{root};
+ghost use Rattle.warg_proof.specs.MapProofs.{log_key};
+ghost use Rattle.warg_proof.specs.MapTree.{Entries, IsMap, map_root};
+ghost use Rattle.warg_proof.specs.Merkle.{AreBytes};
+ghost use Rattle.warg_update.specs.Included.{StandsAt, HasValue};
 ghost use Rattle.warg_update.specs.Proved.{AsksCheckpoint, Turns, Start, Opens, Shows, Proves, IsSigned, AsksInclusion, AsksConsistency, Succeeds};
+ghost use Rattle.warg_update.specs.Standing.{request_at, Stands};
+ghost use Rattle.warg_update.specs.FeedFaults.{IsFeedFault};
+ghost use Rattle.warg_update.specs.declared.step.UpdateStep.{UpdateStep as Step};
+ghost use Rattle.warg_update.specs.declared.error.UpdateError.{UpdateError as Refusal};
+ghost use Rattle.warg_update.specs.declared.error.UpdateError.TheVariants.{Memory as WantsMemory};
+
+use warg_page::laws::brought_pages_are_taken;
+use warg_proof::laws::{inclusion, leaves_are_bytes, map_inclusion};
 
 /// The exchanges of an update come one after the other: the checkpoint's, then each page's, and in the end the inclusion's
 /// with what the stored checkpoint asks for.
@@ -25,3 +42,37 @@ pub fn exchanges_come_in_turn()
         (x : Exchange) → Shows a start xs old c logs → AreLawful accepts logs → IsSigned accepts logs.operator c
         → AsksConsistency a old.contents c.contents x → Proves accepts a start (xs ++ x ∷ []) logs c }
 {}
+
+/// Exchanges that prove logs are never refused. An update that stands behind the first of them asks for the next as it was
+/// asked for, and the next reply has no fault but want of memory.
+pub fn proving_exchanges_are_taken()
+    ensures asked { (accepts : Accepts) (a : Asker) (start : Start) (before : List Exchange) (x : Exchange)
+        (after : List Exchange) (logs : Logs) (c : Signed) (step : Step) (request : Sent)
+        → Proves accepts a start (before ++ x ∷ after) logs c → Stands accepts a start step before
+        → request_at a step ≡ Some request → request ≡ x.request }
+    ensures never_refused { (accepts : Accepts) (a : Asker) (start : Start) (before : List Exchange) (x : Exchange)
+        (after : List Exchange) (logs : Logs) (c : Signed) (step : Step) (request : Sent) (said : Bool → Bool)
+        (e : Refusal) → Proves accepts a start (before ++ x ∷ after) logs c → Stands accepts a start step before
+        → request_at a step ≡ Some request → IsFeedFault e accepts said step x.reply → e ≡ WantsMemory }
+{
+    brought_pages_are_taken();
+}
+
+/// What is proved is included: the last record of each log, the operator's and each package's, stands at its place in any
+/// entries of the checkpoint's length and log root, and at its log's key in any map of the checkpoint's map root. Or else
+/// two different byte strings of equal SHA-256 are computed, or one whose SHA-256 is 32 zero bytes.
+pub fn proved_records_are_included()
+    ensures log { (accepts : Accepts) (a : Asker) (start : Start) (xs : List Exchange) (logs : Logs) (c : Signed)
+        (entries : List (List ℕ)) (l : List ℕ × List Kept) (k : Kept) → Proves accepts a start xs logs c
+        → Contains (logs_by_id logs) l → last_kept l.1 ≡ Some k → AreBytes entries
+        → length entries ≡ c.contents.log_length → root entries ≡ c.contents.log_root
+        → StandsAt entries k.registry_index (log_entry l.0 (sha256 k.signed.contents)) }
+    ensures map { (accepts : Accepts) (a : Asker) (start : Start) (xs : List Exchange) (logs : Logs) (c : Signed)
+        (m : Entries) (l : List ℕ × List Kept) (k : Kept) → Proves accepts a start xs logs c
+        → Contains (logs_by_id logs) l → last_kept l.1 ≡ Some k → IsMap m → map_root m ≡ c.contents.map_root
+        → HasValue m (log_key l.0) (map_value (sha256 k.signed.contents)) }
+{
+    inclusion();
+    map_inclusion();
+    leaves_are_bytes();
+}

@@ -4,6 +4,7 @@
 mod error;
 mod inclusion;
 pub mod laws;
+mod page;
 mod settings;
 mod showing;
 mod signature;

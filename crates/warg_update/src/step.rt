@@ -1,6 +1,6 @@
 //! The update of a registry's logs, request by request.
 
-ghost use Rattle.std.specs.Prelude.{◌≡◌, ◌≢◌, ◌↔◌, ◌<◌, ◌+◌, ◌++◌, ◌∷◌, ◌⊎◌, [], List, Some, None, true, false, Err, IfOk, IfErr, IfSome, IfNone, IsSome, OnOk, OnErr, map};
+ghost use Rattle.std.specs.Prelude.{◌≡◌, ◌≢◌, ◌↔◌, ◌<◌, ◌+◌, ◌++◌, ◌∷◌, ◌⊎◌, [], Bool, List, Some, None, true, false, Err, IfOk, IfErr, IfSome, IfNone, IsSome, OnOk, OnErr, map};
 ghost use Rattle.warg_log.specs.Rules.{Accepts};
 ghost use Rattle.warg_exchange.specs.declared.exchange.Exchange.{Exchange};
 ghost use Rattle.warg_exchange.specs.declared.exchange.Request.{Request as Sent};
@@ -12,13 +12,14 @@ ghost use Rattle.warg_update.specs.Proved.{Start, Asks, Proves};
 ghost use Rattle.warg_page.specs.Steps.{id_of, HaveIds, AreGood, IsGoodOperator};
 ghost use Rattle.warg_page.specs.IdFaults.{IsIdsFault};
 ghost use Rattle.warg_page.specs.Views.{logs_view, AreSound};
-ghost use Rattle.warg_update.specs.Standing.{pages_left as pages_left_of, asker_of, start_of, request_at, IsAtLimit, IsProved, IsRefused, turns_left, IsReady, Stands, KeepsOn, Advances, Counts};
-ghost use Rattle.warg_update.specs.FeedFaults.{IsFeedFault};
+ghost use Rattle.warg_update.specs.Standing.{pages_left as pages_left_of, hints_of, asker_of, start_of, request_at, IsAtLimit, IsProved, IsRefused, turns_left, IsReady, Stands, KeepsOn, Advances, Counts};
+ghost use Rattle.warg_update.specs.FeedFaults.{IsFeedFault, AsksDecision};
 ghost use Rattle.warg_update.specs.declared.error.AskError.TheVariants.{RoundLimit as IsRoundLimit, BadHeader as IsBadHeader};
 ghost use Rattle.warg_update.specs.declared.error.UpdateError.TheVariants.{NotAsked as IsNotAsked};
 ghost use Rattle.warg_update.specs.declared.stage.Stage.TheVariants as at;
 
 use crate::error::{AskError, UpdateError};
+use crate::page::read_page;
 use crate::settings::Settings;
 use crate::showing::{show_continuation, show_heads, stage_after};
 use crate::stage::Stage;
@@ -30,6 +31,7 @@ use warg_exchange::{
     Checkpoint, ConsistencyRequest, InclusionRequest, Reply, Request, SignedCheckpoint,
 };
 use warg_hash::LogId;
+use warg_hint::{Decide, HintSettings};
 use warg_info::{OperatorInfo, PackageInfo};
 use warg_log::Verifier;
 use warg_page::{IdsError, heads_of, log_ids, logs_behind};
@@ -59,6 +61,8 @@ pub struct UpdateStep {
     checkpoint: Option<SignedCheckpoint>,
     /// How many pages may still be asked for.
     pages_left: u64,
+    /// What is done about hints at other registries.
+    hints: HintSettings,
 }
 
 /// What an update has proved.
@@ -99,6 +103,7 @@ impl UpdateStep {
             → Stands accepts a (start_of operator packages.items stored) step []) }
         ensures asker { IfOk result (λ step. (client : Asking) → asker_of client step ≡ asker client registry) }
         ensures pages { IfOk result (λ step. pages_left_of step ≡ settings.round_limit) }
+        ensures hints { IfOk result (λ step. hints_of step ≡ settings.hints) }
         ensures err { IfErr result (λ e. IsIdsFault e (map id_of packages.items)) }
     {
         let ids = log_ids(alloc, packages.as_slice())?;
@@ -111,6 +116,7 @@ impl UpdateStep {
             stored,
             checkpoint: None,
             pages_left: settings.round_limit,
+            hints: settings.hints,
         })
     }
 
@@ -282,8 +288,8 @@ impl UpdateStep {
             → Advances accepts self.old reply.now self.new) }
         ensures turns { OnOk result (self.old.stage ≡ at.Checkpoint → turns_left self.new < turns_left self.old) }
         ensures counted { self.old.stage ≡ at.Checkpoint → Counts self.old self.new }
-        ensures cause { IfErr result (λ e. (accepts : Accepts) → self.old.stage ≡ at.Checkpoint
-            → IsFeedFault e accepts self.old reply.now) }
+        ensures cause { IfErr result (λ e. (accepts : Accepts) (said : Bool → Bool) → self.old.stage ≡ at.Checkpoint
+            → IsFeedFault e accepts said self.old reply.now) }
     {
         self.checkpoint = Some(read_checkpoint(alloc, reply)?);
         self.stage = Stage::Page;
@@ -291,10 +297,11 @@ impl UpdateStep {
     }
 
     /// Takes the reply to the request for a page.
-    fn feed_page<V: Verifier>(
+    fn feed_page<V: Verifier, D: Decide>(
         &mut self,
         alloc: Global,
         verifier: &V,
+        decide: &mut D,
         reply: &Reply,
     ) -> Result<(), UpdateError>
         ensures kept { KeepsOn (V.good verifier.now) self.old self.new }
@@ -303,13 +310,23 @@ impl UpdateStep {
         ensures turns { OnOk result (self.old.stage ≡ at.Page → turns_left self.new < turns_left self.old) }
         ensures counted { self.old.stage ≡ at.Page → Counts self.old self.new }
         ensures cause { IfErr result (λ e. self.old.stage ≡ at.Page → IsReady (V.good verifier.now) self.old
-            → IsFeedFault e (V.good verifier.now) self.old reply.now) }
+            → IsFeedFault e (V.good verifier.now) (D.said decide.old decide.new) self.old reply.now) }
+        ensures unasked { IsReady (V.good verifier.now) self.old → ¬ AsksDecision self.old reply.now
+            → decide.new ≡ decide.old }
     {
         let (Some(left), Some(checkpoint)) = (self.pages_left.checked_sub(1), &self.checkpoint)
         else {
             return Err(UpdateError::NotAsked);
         };
         self.pages_left = left;
+        let page = read_page(
+            alloc,
+            &self.hints,
+            decide,
+            &self.ids,
+            self.packages.as_slice(),
+            reply,
+        )?;
         self.stage = turn_page(
             alloc,
             verifier,
@@ -317,7 +334,7 @@ impl UpdateStep {
             &mut self.operator,
             &mut self.packages,
             checkpoint,
-            reply,
+            &page,
         )?;
         Ok(())
     }
@@ -329,8 +346,8 @@ impl UpdateStep {
             → Advances accepts self.old reply.now self.new) }
         ensures turns { OnOk result (self.old.stage ≡ at.Inclusion → turns_left self.new < turns_left self.old) }
         ensures counted { self.old.stage ≡ at.Inclusion → Counts self.old self.new }
-        ensures cause { IfErr result (λ e. (accepts : Accepts) → self.old.stage ≡ at.Inclusion
-            → IsReady accepts self.old → IsFeedFault e accepts self.old reply.now) }
+        ensures cause { IfErr result (λ e. (accepts : Accepts) (said : Bool → Bool) → self.old.stage ≡ at.Inclusion
+            → IsReady accepts self.old → IsFeedFault e accepts said self.old reply.now) }
     {
         let Some(checkpoint) = &self.checkpoint else {
             return Err(UpdateError::NotAsked);
@@ -360,8 +377,8 @@ impl UpdateStep {
         ensures turns { OnOk result (self.old.stage ≡ at.Consistency old.now
             → turns_left self.new < turns_left self.old) }
         ensures counted { self.old.stage ≡ at.Consistency old.now → Counts self.old self.new }
-        ensures cause { IfErr result (λ e. (accepts : Accepts)
-            → self.old.stage ≡ at.Consistency old.now → IsFeedFault e accepts self.old reply.now) }
+        ensures cause { IfErr result (λ e. (accepts : Accepts) (said : Bool → Bool)
+            → self.old.stage ≡ at.Consistency old.now → IsFeedFault e accepts said self.old reply.now) }
     {
         let Some(checkpoint) = &self.checkpoint else {
             return Err(UpdateError::NotAsked);
@@ -373,10 +390,11 @@ impl UpdateStep {
     }
 
     /// Takes a reply, by the stage.
-    fn take_reply<V: Verifier>(
+    fn take_reply<V: Verifier, D: Decide>(
         &mut self,
         alloc: Global,
         verifier: &V,
+        decide: &mut D,
         reply: &Reply,
     ) -> Result<(), UpdateError>
         ensures kept { KeepsOn (V.good verifier.now) self.old self.new }
@@ -384,11 +402,13 @@ impl UpdateStep {
         ensures turns { OnOk result (turns_left self.new < turns_left self.old) }
         ensures counted { Counts self.old self.new }
         ensures cause { IfErr result (λ e. IsReady (V.good verifier.now) self.old
-            → IsFeedFault e (V.good verifier.now) self.old reply.now) }
+            → IsFeedFault e (V.good verifier.now) (D.said decide.old decide.new) self.old reply.now) }
+        ensures unasked { IsReady (V.good verifier.now) self.old → ¬ AsksDecision self.old reply.now
+            → decide.new ≡ decide.old }
     {
         match self.stage {
             Stage::Checkpoint => self.feed_checkpoint(alloc, reply),
-            Stage::Page => self.feed_page(alloc, verifier, reply),
+            Stage::Page => self.feed_page(alloc, verifier, decide, reply),
             Stage::Inclusion => self.feed_inclusion(alloc, reply),
             Stage::Consistency { from } => self.feed_consistency(alloc, &from, reply),
             Stage::Proved => Err(UpdateError::NotAsked),
@@ -400,16 +420,19 @@ impl UpdateStep {
     ///
     /// The first fault is answered, in this order: what the reply says; of a page, each record, the operator's first; of
     /// the last page, that each log has a record, and the checkpoint's signature; of the inclusion, its proofs, and how the
-    /// checkpoint stands to the stored one; of the consistency, its proof. Where nothing was asked, the answer is
-    /// `NotAsked`, and nothing changes.
-    pub fn feed<V: Verifier>(
+    /// checkpoint stands to the stored one; of the consistency, its proof. Where the log of a package is not found, a hint
+    /// at another registry decides between `PackageDoesNotExist` and `NotBuilt`, and the decision is asked where nothing else
+    /// says whether the hint would be followed. Where nothing was asked, the answer is `NotAsked`, and nothing changes.
+    pub fn feed<V: Verifier, D: Decide>(
         &mut self,
         alloc: Global,
         verifier: &V,
+        decide: &mut D,
         reply: &Reply,
     ) -> Result<(), UpdateError>
         ensures stands { Advances (V.good verifier.now) self.old reply.now self.new }
         ensures asker { (client : Asking) → asker_of client self.new ≡ asker_of client self.old }
+        ensures hints { hints_of self.new ≡ hints_of self.old }
         ensures turns { OnOk result (turns_left self.new < turns_left self.old) }
         ensures counted { Counts self.old self.new }
         ensures refused { OnErr result ((a : Who) → request_at a self.new ≡ None) }
@@ -417,12 +440,15 @@ impl UpdateStep {
             → (result ≡ Err IsNotAsked) × (self.new ≡ self.old) }
         ensures cause { IfErr result (λ e. (a : Who) (start : Start) (xs : List Exchange)
             → Stands (V.good verifier.now) a start self.old xs
-            → IsFeedFault e (V.good verifier.now) self.old reply.now) }
+            → IsFeedFault e (V.good verifier.now) (D.said decide.old decide.new) self.old reply.now) }
+        ensures unasked { (a : Who) (start : Start) (xs : List Exchange)
+            → Stands (V.good verifier.now) a start self.old xs → ¬ AsksDecision self.old reply.now
+            → decide.new ≡ decide.old }
     {
         if !self.is_asking() {
             return Err(UpdateError::NotAsked);
         }
-        match self.take_reply(alloc, verifier, reply) {
+        match self.take_reply(alloc, verifier, decide, reply) {
             Ok(()) => Ok(()),
             Err(error) => {
                 self.stage = Stage::Refused;

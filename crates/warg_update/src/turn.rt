@@ -1,6 +1,7 @@
-//! The reply to a request for a page.
+//! What an update does with a page.
 
 ghost use Rattle.std.specs.Prelude.{◌≡◌, ◌⊎◌, IfOk, IfErr};
+ghost use Rattle.warg_exchange.specs.Views.{page_view};
 ghost use Rattle.warg_update.specs.FeedFaults.{IsTurnFault};
 ghost use Rattle.warg_update.specs.Stages.{IsTurned};
 ghost use Rattle.warg_update.specs.declared.stage.Stage.TheVariants as at;
@@ -12,14 +13,13 @@ use crate::signature::check_signature;
 use crate::stage::Stage;
 use indexmap::IndexSet;
 use std::alloc::Global;
-use warg_api::read_logs;
-use warg_exchange::{Reply, SignedCheckpoint};
+use warg_exchange::{FetchLogsResponse, SignedCheckpoint};
 use warg_hash::LogId;
 use warg_info::{OperatorInfo, PackageInfo};
 use warg_log::Verifier;
 use warg_page::{check_listed, check_presence, take_page};
 
-/// Takes the page that a reply gives, and answers the stage behind it.
+/// Takes a page, and answers the stage behind it.
 ///
 /// Each package that the page lists has to have a record, with the last page each log, and then a key of the operator's
 /// log has to have signed the checkpoint.
@@ -30,7 +30,7 @@ pub fn turn_page<V: Verifier>(
     operator: &mut OperatorInfo,
     packages: &mut Vec<PackageInfo>,
     checkpoint: &SignedCheckpoint,
-    reply: &Reply,
+    page: &FetchLogsResponse,
 ) -> Result<Stage, UpdateError>
     ensures ids { HaveIds ids.now.keys packages.old.items → HaveIds ids.now.keys packages.new.items }
     ensures operator { IsGoodOperator (V.good verifier.now) operator.old
@@ -40,16 +40,16 @@ pub fn turn_page<V: Verifier>(
     ensures turned { IfOk result (λ next. HaveIds ids.now.keys packages.old.items
         → IsGoodOperator (V.good verifier.now) operator.old
         → AreGood (V.good verifier.now) packages.old.items
-        → IsTurned (V.good verifier.now) checkpoint.now (logs_view operator.old packages.old.items) reply.now
+        → IsTurned (V.good verifier.now) checkpoint.now (logs_view operator.old packages.old.items) (page_view page.now)
         (logs_view operator.new packages.new.items) next) }
     ensures next { IfOk result (λ next. (next ≡ at.Page) ⊎ (next ≡ at.Inclusion)) }
     ensures fault { IfErr result (λ e. HaveIds ids.now.keys packages.old.items
         → IsGoodOperator (V.good verifier.now) operator.old
         → AreGood (V.good verifier.now) packages.old.items
-        → IsTurnFault e (V.good verifier.now) (logs_view operator.old packages.old.items) checkpoint.now reply.now) }
+        → IsTurnFault e (V.good verifier.now) (logs_view operator.old packages.old.items) checkpoint.now
+        (page_view page.now)) }
 {
-    let page = read_logs(alloc, reply)?;
-    take_page(alloc, verifier, ids, operator, packages, &page)?;
+    take_page(alloc, verifier, ids, operator, packages, page)?;
     let kept = packages.as_slice();
     if page.more {
         check_listed(alloc, kept, &page.packages)?;
