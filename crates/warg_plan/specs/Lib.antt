@@ -5,6 +5,7 @@ pub mod FactLaws
 pub mod Form
 pub mod FormLaws
 pub mod FormView
+pub mod Found
 pub mod GoesOnLaws
 pub mod KeyLaws
 pub mod Keys

@@ -174,6 +174,10 @@ visit node (suc n) path es k =
     else if has_key path k then Err (Cycle k)
     else (node k >>= λ x. along (visit node n (k ∷ path)) es x.wires >>= λ more. Ok (more ++ entry_of k x more ∷ []))
 
+-- how many keys are open at one place at most, where a plan is asked for
+abbrev pub most_open : ℕ
+most_open = 1000
+
 -- the walk from a root
 abbrev pub walk : (Key → Result Node Stop) → ℕ → Key → Result (List Entry) Stop
 walk node n root = visit node n [] [] root

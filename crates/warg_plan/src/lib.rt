@@ -1,7 +1,7 @@
 //! Plans of compositions: which releases of which packages a composition takes, and how these are wired.
 //!
 //! The walk over what is known finds the plan, or says which log or which content it needs next, or refuses. It is a
-//! definition, in `specs/Walk`, with its laws; the entry of one key is a call.
+//! definition, in `specs/Walk`, with its laws, and a call.
 #![tactic(auto)]
 
 mod choice;
@@ -12,6 +12,7 @@ mod node;
 mod plan;
 mod stop;
 mod text;
+mod walk;
 
 pub use facts::{Content, Facts};
 pub use key::PlanKey;
@@ -19,3 +20,4 @@ pub use node::{Node, Question, Wire, node_of};
 pub use plan::{Plan, PlanArg, PlanEntry};
 pub use stop::Stop;
 pub use text::{TextError, check_text};
+pub use walk::find_plan;
