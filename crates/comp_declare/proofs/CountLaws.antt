@@ -8,8 +8,7 @@ use Rattle.std.proofs.lemmas.Grind.{fold-append}
 use Rattle.std.proofs.lemmas.List.{append-nil, take_more}
 use Rattle.comp_entity.specs.Entity.{EntityTree}
 use Rattle.comp_entity.specs.Names.{beyond, in_entity}
-use Rattle.comp_mention.specs.declared.what.What.{What}
-use Rattle.comp_mention.specs.Mentions.{mentions_at, picked_in, tree_mentions}
+use Rattle.comp_mention.specs.Mentions.{mentions_at, tree_mentions}
 use Rattle.comp_scope.specs.Closing.{first_mentions}
 use Rattle.comp_table.specs.Plain.{plain_entity}
 use Rattle.comp_table.specs.Trees.{PlainTree, Stands, tree_at}
@@ -53,7 +52,7 @@ all_once seen [] = refl
 all_once seen (n ∷ ns) = all_once (once seen n) ns ∙ ap (λ m. further m ns) (one_more seen n)
 
 -- the largest of some numbers is that of the same, each once
-pub beyond_once : (ns : List ℕ) → beyond (first_mentions ns) ≡ beyond ns
+beyond_once : (ns : List ℕ) → beyond (first_mentions ns) ≡ beyond ns
 unfolding once
 beyond_once ns = all_once [] ns
 
@@ -64,11 +63,12 @@ beyond_more ns i d n most lt is next =
     ∙ sym (fold-append (λ most n. max most (suc n)) 0 (take i ns) (slice_index_or ns i d ∷ []))
     ∙ ap beyond (sym (take_more ns i d lt))
 
--- what one number stands for mentions
-pub counted_once : (w : What) (ts : List PlainTree) (n : ℕ) (e : EntityTree) (keys : List ℕ) → Stands ts n (plain_entity e)
+-- the largest of what is mentioned, each once
+pub counted_once : (keys ns : List ℕ) → keys ≡ first_mentions ns → beyond keys ≡ beyond ns
+counted_once keys ns is = ap beyond is ∙ beyond_once ns
+
+-- what one entity mentions
+pub mentioned_by : (ts : List PlainTree) (n : ℕ) (e : EntityTree) → Stands ts n (plain_entity e)
     → ((d : ℕ) (e : EntityTree) → tree_mentions d (plain_entity e) ≡ in_entity d e)
-    → keys ≡ first_mentions (picked_in w 0 (mentions_at ts (n ∷ [])))
-    → beyond keys ≡ beyond (picked_in w 0 (in_entity 0 e))
-counted_once w ts n e keys s law is =
-    ap beyond is ∙ beyond_once (picked_in w 0 (mentions_at ts (n ∷ [])))
-    ∙ ap (λ ms. beyond (picked_in w 0 ms)) (append-nil (tree_mentions 0 (tree_at ts n)) ∙ ap (tree_mentions 0) s.tree_is ∙ law 0 e)
+    → mentions_at ts (n ∷ []) ≡ in_entity 0 e
+mentioned_by ts n e s law = append-nil (tree_mentions 0 (tree_at ts n)) ∙ ap (tree_mentions 0) s.tree_is ∙ law 0 e

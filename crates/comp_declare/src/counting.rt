@@ -1,14 +1,11 @@
-//! How many names are new in an entity.
+//! How many names of a scope are mentioned.
 
-ghost use Rattle.std.specs.Prelude.{◌≡◌, ◌<◌, ◌+◌, IfOk, length, max};
-ghost use Rattle.comp_entity.specs.Entity.{EntityTree};
-ghost use Rattle.comp_entity.specs.Names.{beyond, counts_at, in_entity};
-ghost use Rattle.comp_mention.specs.Mentions.{picked_in};
+ghost use Rattle.std.specs.Prelude.{◌≡◌, ◌+◌, IfOk, length, max};
+ghost use Rattle.comp_entity.specs.Names.{beyond, counts_at};
+ghost use Rattle.comp_mention.specs.Mentions.{mentions_at, picked_in};
 ghost use Rattle.comp_space.specs.SpaceViews.{counts};
-ghost use Rattle.comp_table.specs.Plain.{plain_entity};
-ghost use Rattle.comp_table.specs.Trees.{Stands};
+ghost use Rattle.comp_table.specs.Trees.{IsBelow};
 
-use comp_mention::laws::trees_mention_as_entities;
 use comp_mention::{What, first_mentioned};
 use comp_space::Counts;
 use comp_table::TypeTable;
@@ -43,25 +40,35 @@ fn beyond(numbers: &[usize]) -> Result<usize, Memory>
     Ok(most)
 }
 
-/// How many of the resources, or of the places that named types, of the scope around an entity it mentions: one more
-/// than the largest of their numbers.
-fn count_of(table: &TypeTable, alloc: Global, what: What, number: usize) -> Result<usize, Memory>
-    requires { number < length table.now }
-    ensures { (e : EntityTree) → Stands table.now number (plain_entity e)
-        → IfOk result (λ n. n ≡ beyond (picked_in what 0 (in_entity 0 e))) }
+/// How many of the resources, or of the places that named types, of the scope so far out some numbers stand for mention:
+/// one more than the largest of their numbers.
+fn count_of(
+    table: &TypeTable,
+    alloc: Global,
+    what: What,
+    out: usize,
+    numbers: &[usize],
+) -> Result<usize, Memory>
+    requires { IsBelow (length table.now) numbers.now }
+    ensures { IfOk result (λ n. n ≡ beyond (picked_in what out (mentions_at table.now numbers.now))) }
 {
-    trees_mention_as_entities();
-    let mentioned = first_mentioned(table, alloc, what, 0, &[number])?;
+    let mentioned = first_mentioned(table, alloc, what, out, numbers)?;
     beyond(mentioned.as_slice())
 }
 
-/// How many resources, and how many places that named types, of the scope around an entity it mentions.
-pub fn counts_of(table: &TypeTable, alloc: Global, number: usize) -> Result<Counts, Memory>
-    requires { number < length table.now }
-    ensures { (e : EntityTree) → Stands table.now number (plain_entity e)
-        → IfOk result (λ c. counts c ≡ counts_at 0 (in_entity 0 e)) }
+/// How many resources, and how many places that named types, of the scope so far out some numbers stand for mention:
+/// of each one more than the largest of their numbers. `Memory` also where more than a thousand types and entities lie
+/// within each other.
+pub fn counts_of(
+    table: &TypeTable,
+    alloc: Global,
+    out: usize,
+    numbers: &[usize],
+) -> Result<Counts, Memory>
+    requires { IsBelow (length table.now) numbers.now }
+    ensures { IfOk result (λ c. counts c ≡ counts_at out (mentions_at table.now numbers.now)) }
 {
-    let resources = count_of(table, alloc, What::Resources, number)?;
-    let places = count_of(table, alloc, What::Places, number)?;
+    let resources = count_of(table, alloc, What::Resources, out, numbers)?;
+    let places = count_of(table, alloc, What::Places, out, numbers)?;
     Ok(Counts { resources, places })
 }

@@ -17,6 +17,7 @@ ghost use Rattle.comp_table.specs.Trees.{Extends, PlainTree, Stands, below_root,
 use crate::counting::counts_of;
 use crate::new_names::{NewNames, new_place, new_resource};
 use comp_format::{Sort, TypeRef};
+use comp_mention::laws::trees_mention_as_entities;
 use comp_rename::renamed;
 use comp_space::nodes::{leaf, node};
 use comp_space::{
@@ -186,11 +187,12 @@ pub fn described_instance(
         → Finds (ShowsDescribed table.new) result (described_instance (new_names new.now) (e, standing.named)) }
 {
     changed_entities_have_changed_trees();
+    trees_mention_as_entities();
     if !is_instance_type(table.head(standing.number)) {
         return Err(ScopeError::Index);
     }
     let closed = with_head(table, alloc, Head::Instance, standing.number)?;
-    let brings = counts_of(table, alloc, closed)?;
+    let brings = counts_of(table, alloc, 0, &[closed])?;
     let number = renamed(table, alloc, new, closed)?;
     Ok(Described {
         standing: Standing {

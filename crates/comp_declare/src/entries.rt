@@ -46,7 +46,7 @@ impl Entries {
     }
 
     /// Whether one has this name, which is in lower case: letter case makes no difference.
-    pub(crate) fn is_taken(&self, name: &Text) -> bool
+    pub fn is_taken(&self, name: &Text) -> bool
         ensures { (table : List PlainTree) (entries : List (List ℕ × scope.Standing)) (given : List ℕ)
             → ShowsEntries table self.now entries → name.now ≡ str_to_ascii_lowercase given
             → result ≡ is_taken given entries }
@@ -55,7 +55,7 @@ impl Entries {
     }
 
     /// Puts one behind the others, under a name that is not taken and in lower case. A refusal changes nothing.
-    pub(crate) fn push(&mut self, number: usize, name: Text) -> Result<(), Memory>
+    pub fn push(&mut self, number: usize, name: Text) -> Result<(), Memory>
         ensures pushed { (table : List PlainTree) (entries : List (List ℕ × scope.Standing)) (e : List ℕ × scope.Standing)
             → ShowsEntries table self.old entries → is_taken e.0 entries ≡ false
             → name ≡ str_to_ascii_lowercase e.0 → Stands table number (plain_entry e)
@@ -74,7 +74,7 @@ impl Entries {
     }
 
     /// Takes the last one away.
-    pub(crate) fn pop(&mut self)
+    pub fn pop(&mut self)
         ensures { (table : List PlainTree) (entries : List (List ℕ × scope.Standing)) (e : List ℕ × scope.Standing)
             → ShowsEntries table self.old (entries ++ e ∷ []) → ShowsEntries table self.new entries }
     {

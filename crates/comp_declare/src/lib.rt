@@ -16,9 +16,10 @@ mod outer_aliases;
 mod scope;
 
 pub use aliases::{add_core_alias, add_export_alias};
+pub use counting::counts_of;
 pub use descriptions::{described, described_instance, described_type};
-pub use entries::Entries;
+pub use entries::{Entries, entry};
 pub use new_names::NewNames;
 pub use outer::{item_at, item_outside};
 pub use outer_aliases::{add_alias, scopes_within};
-pub use scope::Scope;
+pub use scope::{Scope, add_made, counts_with};

@@ -44,8 +44,8 @@ pub struct NamedDescription {
     pub name: Text,
 }
 
-/// Counts, and more.
-fn counts_with(first: Counts, more: Counts) -> Result<Counts, Memory>
+/// Counts, and more. `Memory` where no number holds a sum.
+pub fn counts_with(first: Counts, more: Counts) -> Result<Counts, Memory>
     ensures { IfOk result (λ c. counts c ≡ counts_sum (counts first) (counts more)) }
 {
     let resources = sum(first.resources, more.resources)?;
@@ -74,7 +74,7 @@ fn add_brought(table: &TypeTable, space: &mut Space, described: Described) -> Re
 }
 
 /// Adds what an export makes to the index spaces. A refusal changes nothing.
-fn add_made(table: &TypeTable, space: &mut Space, described: Described) -> Result<(), ScopeError>
+pub fn add_made(table: &TypeTable, space: &mut Space, described: Described) -> Result<(), ScopeError>
     requires { described.standing.number < length table.now }
     ensures found { (s : Spaces) (d : scope.Described)
         → ShowsSpaces table.now space.old s → ShowsDescribed table.now described d

@@ -14,3 +14,5 @@ mod standing;
 pub use exact::fits;
 pub use fit::{fits_as_named, fits_loosely};
 pub use loosen::loosened;
+pub use names::{are_instances, entry_at, names_of};
+pub use pair::{Pair, inner};

@@ -1,8 +1,9 @@
 use Rattle.std.proofs.Common.{◌∙◌}
 use Rattle.std.proofs.lemmas.Result.{IfOk-weaker}
+use Rattle.comp_mention.specs.Mentions.{mentions_at, picked_in}
 use Rattle.comp_declare.proofs.CountLaws.{counted_once}
 use Rattle.comp_declare.proofs.counting.count_of.Goals as goal
 
 pub returns : goal.returns
-returns c = λ e stands.
-    IfOk-weaker c.beyond.result _ _ (λ n is. is ∙ counted_once c.args.what c.args.table.now c.args.number e c.as_slice.result.now stands c.trees_mention_as_entities.ensures (c.as_slice.ensures.keys ∙ c.in_ok-mentioned.ensures)) c.beyond.ensures
+returns c =
+    IfOk-weaker c.beyond.result _ _ (λ n is. is ∙ counted_once c.as_slice.result.now (picked_in c.args.what c.args.out (mentions_at c.args.table.now c.args.numbers.now)) (c.as_slice.ensures.keys ∙ c.in_ok-mentioned.ensures)) c.beyond.ensures
