@@ -1,0 +1,5 @@
+mod ClosingLaws
+mod ResourceLaws
+mod ScopeLaws
+mod TreeLaws
+mod TypeLaws
