@@ -1,0 +1,4 @@
+mod NumberedLaws
+mod ArgumentLaws
+mod ItemLaws
+mod ReadLaws

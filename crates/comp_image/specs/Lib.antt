@@ -1,0 +1,4 @@
+pub mod Views
+pub mod Numbered
+pub mod Progress
+pub mod Read
