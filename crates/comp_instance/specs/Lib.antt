@@ -1,0 +1,7 @@
+pub mod Lifted
+pub mod Items
+pub mod StandingFor
+pub mod OwnModules
+pub mod Renamed
+pub mod Instances
+pub mod Exports
