@@ -1,0 +1,9 @@
+mod CoreLaws
+mod IndexLaws
+mod CanonLaws
+mod ItemLaws
+mod OwnLaws
+mod StandingLaws
+mod RenamedLaws
+mod InstanceLaws
+mod ExportLaws
