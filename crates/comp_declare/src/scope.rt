@@ -74,7 +74,11 @@ fn add_brought(table: &TypeTable, space: &mut Space, described: Described) -> Re
 }
 
 /// Adds what an export makes to the index spaces. A refusal changes nothing.
-pub fn add_made(table: &TypeTable, space: &mut Space, described: Described) -> Result<(), ScopeError>
+pub fn add_made(
+    table: &TypeTable,
+    space: &mut Space,
+    described: Described,
+) -> Result<(), ScopeError>
     requires { described.standing.number < length table.now }
     ensures found { (s : Spaces) (d : scope.Described)
         → ShowsSpaces table.now space.old s → ShowsDescribed table.now described d
