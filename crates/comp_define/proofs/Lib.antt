@@ -1,4 +1,5 @@
 mod ClosingLaws
+mod NumberLaws
 mod ResourceLaws
 mod ScopeLaws
 mod TreeLaws

@@ -8,6 +8,7 @@
 mod closing;
 mod core_types;
 mod declarations;
+pub mod laws;
 mod resources;
 mod scope_types;
 
