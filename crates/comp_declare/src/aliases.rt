@@ -157,7 +157,7 @@ fn add_own_module(space: &mut Space, number: usize) -> Result<(), Memory>
 
 /// Adds a core item of which nothing is known but its sort. Whatever the answer, the numbers given so far keep their
 /// meaning; a refusal adds nothing to the scope.
-fn add_unknown(
+pub fn add_unknown(
     table: &mut TypeTable,
     alloc: Global,
     space: &mut Space,

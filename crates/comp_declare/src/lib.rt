@@ -15,7 +15,7 @@ mod outer;
 mod outer_aliases;
 mod scope;
 
-pub use aliases::{add_core_alias, add_export_alias};
+pub use aliases::{add_core_alias, add_export_alias, add_unknown};
 pub use counting::counts_of;
 pub use descriptions::{described, described_instance, described_type};
 pub use entries::{Entries, entry};
