@@ -7,3 +7,4 @@ pub mod Standing
 pub mod Stages
 pub mod FeedFaults
 pub mod Included
+pub mod Refusals
