@@ -1,5 +1,5 @@
 -- That replies which show what is asked have no fault but want of memory.
-use Rattle.std.proofs.Common.{◌≡◌, ◌<◌, ◌⊎◌, ◌∷◌, [], inl, inr, List, ℕ, Bool, true, false, Option, Some, None, Ok, refl, sym, ◌∙◌, ap, subst, arith}
+use Rattle.std.proofs.Common.{◌≡◌, inl, inr, List, ℕ, Bool, true, false, Option, Some, None, Ok, refl, sym, ◌∙◌, ap, subst, arith}
 use Rattle.std.specs.Prelude.{Result, Err}
 use Rattle.std.proofs.lemmas.Bool.{false≢true}
 use Rattle.serde_json.specs.Data.{Data}
@@ -16,11 +16,10 @@ use Rattle.warg_exchange.specs.declared.checkpoint.SignedCheckpoint.{SignedCheck
 use Rattle.warg_exchange.specs.declared.proof.InclusionResponse.{InclusionResponse}
 use Rattle.warg_exchange.specs.declared.proof.ConsistencyResponse.{ConsistencyResponse}
 use Rattle.warg_exchange.specs.Body.{Meaning}
-use Rattle.warg_exchange.specs.Replies.{says, ReplyFault, Refused, page_in, checkpoint_in, bundles_in, proof_in}
+use Rattle.warg_exchange.specs.Replies.{says, Refused, page_in, checkpoint_in, bundles_in, proof_in}
 use Rattle.warg_exchange.specs.Requests.{Asker}
 use Rattle.warg_exchange.specs.Views.{Page}
 use Rattle.warg_verify.specs.Shown.{Includes, Continues}
-use Rattle.warg_verify.specs.Faults.{IsInclusionFault, IsConsistencyFault}
 use Rattle.warg_api.specs.declared.error.ClientError.{ClientError}
 use Rattle.warg_api.specs.declared.error.ClientError.TheVariants as call
 use Rattle.warg_api.specs.Calls.{IsReplyFault, IsMeaningless}
@@ -42,10 +41,10 @@ use Rattle.warg_update.specs.declared.succession.Succession.TheVariants as how
 use Rattle.warg_update.specs.Errors.{call_wants_memory, page_wants_memory, presence_wants_memory, signature_wants_memory}
 use Rattle.warg_update.specs.FeedFaults.{IsCheckpointFault, LeavesEmpty, IsTurnFault, IsHeadsFault, IsContinuationFault}
 use Rattle.warg_update.specs.NotFound.{IsNoPageFault}
-use Rattle.warg_update.specs.Proved.{IsSigned, Succeeds, AsksInclusion, AsksConsistency, checkpoint_text}
+use Rattle.warg_update.specs.Proved.{IsSigned, Succeeds, checkpoint_text}
 use Rattle.warg_update.specs.Signature.{IsSignatureFault}
 use Rattle.warg_update.specs.Standing.{AreTrusted}
-use Rattle.warg_update.specs.Succession.{StandsTo}
+use Rattle.warg_update.specs.Succession.{MayFollow, StandsTo}
 use Rattle.warg_update.proofs.KeptLaws.{none-empty}
 use Rattle.warg_update.proofs.ShownLaws.{heads-shown, continuation-shown}
 
@@ -115,6 +114,11 @@ signature-good signature.BadSignature accepts operator c signed other bad =
     false≢true (sym bad.2 ∙ ap (λ (k : List ℕ). accepts k (checkpoint_text c.contents) c.signature) same ∙ signed.accepted)
 signature-good signature.Memory accepts operator c signed other bad = false≢true (sym other)
 
+pub signature-taken : (e : SignatureError) (accepts : Accepts) (operator : List Kept) (c : SignedCheckpoint) → IsSigned accepts operator c → IsSignatureFault e accepts operator c → e ≡ signature.Memory
+signature-taken (signature.UnknownKey key_id) accepts operator c signed bad = absurd (signature-good (signature.UnknownKey key_id) accepts operator c signed refl bad)
+signature-taken signature.BadSignature accepts operator c signed bad = absurd (signature-good signature.BadSignature accepts operator c signed refl bad)
+signature-taken signature.Memory accepts operator c signed bad = refl
+
 none-left : (e : PresenceError) (accepts : Accepts) (c : SignedCheckpoint) (page : Page) (after : Logs) → LeavesNoneEmpty after.packages page.packages → (page.more ≡ false → AreTrusted accepts after c) → presence_wants_memory e ≡ false
     → LeavesEmpty e page after → ⊥
 none-left e accepts c page after kept trusted other (inl listed) = all-listed e after.packages page.packages kept other listed.1
@@ -135,15 +139,20 @@ turn-taken laws e accepts before after c page brings kept lawful trusted bad = a
 
 -- ---- the inclusion
 
-not-rewound : (a : Asker) (stored : Option SignedCheckpoint) (c : Checkpoint) (rest : List Exchange) (from to : ℕ) → Succeeds a stored c rest → StandsTo stored c (how.Rewound from to) → ⊥
-not-rewound a None c rest from to succeeds bad = bad
-not-rewound a (Some old) c rest from to (inl settled) bad = let same = settled.0.same_length in absurd (omega (arith, same, bad.0, bad.1, bad.2))
-not-rewound a (Some old) c rest from to (inr longer) bad = let less = longer.0 in absurd (omega (arith, less, bad.0, bad.1, bad.2))
+pub may-follow : (a : Asker) (stored : Option SignedCheckpoint) (c : Checkpoint) (rest : List Exchange) → Succeeds a stored c rest → MayFollow stored c
+may-follow a None c rest succeeds = tt
+may-follow a (Some old) c rest (inl settled) = inl settled.0
+may-follow a (Some old) c rest (inr longer) = inr longer.0
 
-not-changed : (a : Asker) (stored : Option SignedCheckpoint) (c : Checkpoint) (rest : List Exchange) (n : ℕ) → Succeeds a stored c rest → StandsTo stored c (how.Changed n) → ⊥
-not-changed a None c rest n succeeds bad = bad
-not-changed a (Some old) c rest n (inl settled) bad = bad.2 settled.0
-not-changed a (Some old) c rest n (inr longer) bad = let less = longer.0 in absurd (omega (arith, less, bad.0, bad.1))
+not-rewound : (stored : Option SignedCheckpoint) (c : Checkpoint) (from to : ℕ) → MayFollow stored c → StandsTo stored c (how.Rewound from to) → ⊥
+not-rewound None c from to follows bad = bad
+not-rewound (Some old) c from to (inl settled) bad = let same = settled.same_length in absurd (omega (arith, same, bad.0, bad.1, bad.2))
+not-rewound (Some old) c from to (inr less) bad = absurd (omega (arith, less, bad.0, bad.1, bad.2))
+
+not-changed : (stored : Option SignedCheckpoint) (c : Checkpoint) (n : ℕ) → MayFollow stored c → StandsTo stored c (how.Changed n) → ⊥
+not-changed None c n follows bad = bad
+not-changed (Some old) c n (inl settled) bad = bad.2 settled
+not-changed (Some old) c n (inr less) bad = absurd (omega (arith, less, bad.0, bad.1))
 
 inclusion-error : (e : ClientError) (x : ProofFault) → x ≡ fault.Memory → e ≡ inclusion_error x → call_wants_memory e ≡ true
 inclusion-error e x memory is = ap call_wants_memory (is ∙ ap inclusion_error memory)
@@ -151,30 +160,31 @@ inclusion-error e x memory is = ap call_wants_memory (is ∙ ap inclusion_error 
 consistency-error : (e : ClientError) (x : ProofFault) → x ≡ fault.Memory → e ≡ consistency_error x → call_wants_memory e ≡ true
 consistency-error e x memory is = ap call_wants_memory (is ∙ ap consistency_error memory)
 
-pub heads-taken : (e : UpdateError) (a : Asker) (logs : Logs) (c : Checkpoint) (stored : Option SignedCheckpoint) (x : Exchange) (rest : List Exchange) → AsksInclusion a c logs x → Succeeds a stored c rest → IsHeadsFault e logs c stored x.reply
-    → e ≡ update.Memory
-heads-taken (update.Api e) a logs c stored x rest asks succeeds bad = elim bad.1 [
-  | inl refused ↦ absurd (reply-taken proof_error e x.reply bundles_in asks.bundles asks.came bad.0 refused)
+pub heads-taken : (e : UpdateError) (logs : Logs) (c : Checkpoint) (stored : Option SignedCheckpoint) (reply : Reply) (bundles : InclusionResponse) → says bundles_in reply ≡ Ok bundles → Includes c (indices_of logs) (leafs_of logs) bundles
+    → MayFollow stored c → IsHeadsFault e logs c stored reply → e ≡ update.Memory
+heads-taken (update.Api e) logs c stored reply bundles came includes follows bad = elim bad.1 [
+  | inl refused ↦ absurd (reply-taken proof_error e reply bundles_in bundles came bad.0 refused)
   | inr unshown ↦
-      let same : asks.bundles ≡ unshown.0 = one-value bundles_in x.reply asks.bundles unshown.0 asks.came unshown.1 in
-      let shown : Includes c (indices_of logs) (leafs_of logs) unshown.0 = subst (Includes c (indices_of logs) (leafs_of logs)) same asks.includes in
+      let same : bundles ≡ unshown.0 = one-value bundles_in reply bundles unshown.0 came unshown.1 in
+      let shown : Includes c (indices_of logs) (leafs_of logs) unshown.0 = subst (Includes c (indices_of logs) (leafs_of logs)) same includes in
       absurd (false≢true (sym bad.0 ∙ inclusion-error e unshown.2 (heads-shown c (indices_of logs) (leafs_of logs) unshown.0 unshown.2 shown unshown.4) unshown.3))
 ]
-heads-taken (update.Rewound from to) a logs c stored x rest asks succeeds bad = absurd (not-rewound a stored c rest from to succeeds bad.1)
-heads-taken (update.Changed n) a logs c stored x rest asks succeeds bad = absurd (not-changed a stored c rest n succeeds bad.1)
-heads-taken update.Memory a logs c stored x rest asks succeeds bad = refl
-heads-taken e a logs c stored x rest asks succeeds bad = absurd bad
+heads-taken (update.Rewound from to) logs c stored reply bundles came includes follows bad = absurd (not-rewound stored c from to follows bad.1)
+heads-taken (update.Changed n) logs c stored reply bundles came includes follows bad = absurd (not-changed stored c n follows bad.1)
+heads-taken update.Memory logs c stored reply bundles came includes follows bad = refl
+heads-taken e logs c stored reply bundles came includes follows bad = absurd bad
 
 -- ---- the consistency
 
-pub continuation-taken : (e : UpdateError) (a : Asker) (old new : Checkpoint) (x : Exchange) → AsksConsistency a old new x → IsContinuationFault e old new x.reply → e ≡ update.Memory
-continuation-taken (update.Api e) a old new x asks bad = elim bad.1 [
-  | inl refused ↦ absurd (reply-taken proof_error e x.reply proof_in asks.shown asks.came bad.0 refused)
+pub continuation-taken : (e : UpdateError) (old new : Checkpoint) (reply : Reply) (shown : ConsistencyResponse) → says proof_in reply ≡ Ok shown → Continues old.log_length new.log_length old.log_root new.log_root shown.proof
+    → IsContinuationFault e old new reply → e ≡ update.Memory
+continuation-taken (update.Api e) old new reply shown came continues bad = elim bad.1 [
+  | inl refused ↦ absurd (reply-taken proof_error e reply proof_in shown came bad.0 refused)
   | inr unshown ↦
-      let same : asks.shown ≡ unshown.0 = one-value proof_in x.reply asks.shown unshown.0 asks.came unshown.1 in
-      let shown : Continues old.log_length new.log_length old.log_root new.log_root unshown.0.proof =
-      subst (λ (s : ConsistencyResponse). Continues old.log_length new.log_length old.log_root new.log_root s.proof) same asks.continues in
-      absurd (false≢true (sym bad.0 ∙ consistency-error e unshown.2 (continuation-shown old.log_length new.log_length old.log_root new.log_root unshown.0.proof unshown.2 shown unshown.4) unshown.3))
+      let same : shown ≡ unshown.0 = one-value proof_in reply shown unshown.0 came unshown.1 in
+      let holds : Continues old.log_length new.log_length old.log_root new.log_root unshown.0.proof =
+      subst (λ (s : ConsistencyResponse). Continues old.log_length new.log_length old.log_root new.log_root s.proof) same continues in
+      absurd (false≢true (sym bad.0 ∙ consistency-error e unshown.2 (continuation-shown old.log_length new.log_length old.log_root new.log_root unshown.0.proof unshown.2 holds unshown.4) unshown.3))
 ]
-continuation-taken update.Memory a old new x asks bad = refl
-continuation-taken e a old new x asks bad = absurd bad
+continuation-taken update.Memory old new reply shown came continues bad = refl
+continuation-taken e old new reply shown came continues bad = absurd bad

@@ -1,5 +1,5 @@
 -- That the last record of each proved log is in the registry's log and in its map.
-use Rattle.std.proofs.Common.{◌≡◌, ◌<◌, ◌⊎◌, ◌++◌, ◌∷◌, [], inl, inr, List, ℕ, zero, suc, Option, Some, None, refl, sym, ◌∙◌, ap, subst, length, map, get_or, arith}
+use Rattle.std.proofs.Common.{◌≡◌, ◌<◌, ◌⊎◌, ◌++◌, ◌∷◌, [], inl, inr, List, ℕ, zero, suc, Option, Some, None, sym, ◌∙◌, ap, length, get_or, arith}
 use Rattle.std.specs.Prelude.{Contains, slice_get, option_map, IsSomeAnd}
 use Rattle.std.specs.List.{filter_map, cons_option}
 use Rattle.std.specs.Int.{w32, to_be_bytes, bytes_high_first}
@@ -9,18 +9,15 @@ use Rattle.sha2.specs.Sha256.{sha256, digest_bytes}
 use Rattle.sha2.proofs.Facts256.{length-sha256}
 use Rattle.warg_hash.specs.Hash.{IsDigest}
 use Rattle.warg_log.specs.Rules.{Accepts}
-use Rattle.warg_proof.specs.declared.leaf.LogLeaf.{LogLeaf}
 use Rattle.warg_proof.specs.Leaves.{log_entry, map_value}
 use Rattle.warg_proof.specs.LogProofs.{ProvesInclusion}
 use Rattle.warg_proof.specs.LogTree.{root, path_root, inclusion_clash}
-use Rattle.warg_proof.specs.MapProofs.{MapPath, siblings, log_key, ProvesValue}
+use Rattle.warg_proof.specs.MapProofs.{siblings, log_key, ProvesValue}
 use Rattle.warg_proof.specs.MapTree.{Entries, IsMap, IsMapClash, value_at, map_root, map_path_root, map_clash}
 use Rattle.warg_proof.specs.Merkle.{AreBytes, AreHashes, IsClash}
 use Rattle.warg_exchange.specs.declared.exchange.Exchange.{Exchange}
-use Rattle.warg_exchange.specs.declared.checkpoint.Checkpoint.{Checkpoint}
 use Rattle.warg_exchange.specs.declared.checkpoint.SignedCheckpoint.{SignedCheckpoint}
 use Rattle.warg_exchange.specs.Requests.{Asker}
-use Rattle.warg_verify.specs.Shown.{InLog, InMap, Includes}
 use Rattle.warg_info.specs.Kept.{Kept, last_kept}
 use Rattle.warg_page.specs.Logs.{Logs, head_in, heads_of, index_in, indices_of, leaf_in, leafs_of, logs_by_id}
 use Rattle.warg_update.specs.Included.{StandsAt, HasValue}

@@ -1,5 +1,5 @@
 -- How a call tells that a log is not found, and what is answered then.
-use Rattle.std.proofs.Common.{◌≡◌, ◌⊎◌, inl, inr, List, ℕ, Bool, true, false, Option, Some, None, refl, sym, ◌∙◌, ap, subst}
+use Rattle.std.proofs.Common.{◌≡◌, ◌⊎◌, inl, inr, List, ℕ, Bool, false, Option, Some, None, refl, sym, ◌∙◌, ap, subst}
 use Rattle.std.specs.Prelude.{Result, Err, Contains, codes}
 use Rattle.std.proofs.lemmas.Bool.{false≢true}
 use Rattle.http_header.specs.FieldValue.{FieldValue}
@@ -9,7 +9,7 @@ use Rattle.warg_hint.specs.declared.settings.HintSettings.{HintSettings}
 use Rattle.warg_exchange.specs.declared.exchange.Reply.{Reply}
 use Rattle.warg_exchange.specs.declared.service.ServiceError.{ServiceError}
 use Rattle.warg_exchange.specs.declared.service.ServiceError.TheVariants.{CheckpointNotFound, LogNotFound, FetchTokenNotFound, RecordNotFound, RecordNotSourcing, NamespaceNotDefined, NamespaceImported, Unauthorized, ConflictPendingPublish, Rejection, ContentDigestNotFound, LeafNotFound, Message}
-use Rattle.warg_exchange.specs.Replies.{says, first_header, ReplyFault, NoMeaning, Refused, page_in}
+use Rattle.warg_exchange.specs.Replies.{says, first_header, ReplyFault, Refused, page_in}
 use Rattle.warg_exchange.specs.Views.{Page}
 use Rattle.warg_api.specs.declared.error.ClientError.{ClientError}
 use Rattle.warg_api.specs.declared.error.ClientError.TheVariants as call

@@ -1,9 +1,8 @@
 -- Where a package stands by the id of its log.
-use Rattle.std.proofs.Common.{◌≡◌, ◌≢◌, ◌<◌, ◌≤◌, ◌∷◌, [], List, ℕ, zero, suc, Option, Some, None, refl, sym, ◌∙◌, ap, subst, length, map, get_or, arith}
+use Rattle.std.proofs.Common.{◌≡◌, ◌≢◌, ◌<◌, ◌≤◌, ◌∷◌, [], List, ℕ, zero, suc, Option, Some, None, sym, ◌∙◌, ap, length, map, get_or, arith}
 use Rattle.std.specs.Borrow.{Bor}
 use Rattle.std.specs.Prelude.{slice_get, Contains, IfSome, IfNone}
 use Rattle.std.specs.Slice.{IsItemAt}
-use Rattle.std.proofs.lemmas.Option.{slice_get-get_or, slice_get_within}
 use Rattle.warg_hash.specs.Hash.{package_log_id}
 use Rattle.warg_info.specs.Kept.{Kept}
 use Rattle.warg_info.specs.declared.package.PackageInfo.{PackageInfo}

@@ -15,17 +15,18 @@ use Rattle.warg_exchange.specs.Requests.{Asker, checkpoint_request, inclusion_re
 use Rattle.warg_exchange.specs.Views.{Page}
 use Rattle.warg_info.specs.Kept.{Kept}
 use Rattle.warg_info.specs.Info.{IsLawfulLog}
-use Rattle.warg_page.specs.Logs.{Logs, Brings, LeavesNoneEmpty, IsLawfulPackage, EachIsLawful, AreLawful, indices_of}
+use Rattle.warg_page.specs.Logs.{Logs, Brings, IsLawfulPackage, EachIsLawful, AreLawful, indices_of}
 use Rattle.warg_update.specs.declared.error.UpdateError.{UpdateError}
 use Rattle.warg_update.specs.declared.error.UpdateError.TheVariants as update
 use Rattle.warg_update.specs.declared.stage.Stage.{Stage}
 use Rattle.warg_update.specs.declared.stage.Stage.TheVariants as stage
 use Rattle.warg_update.specs.declared.step.UpdateStep.{UpdateStep}
-use Rattle.warg_update.specs.FeedFaults.{IsTurnFault, HasTurnFault, IsHeadsFault, IsContinuationFault, IsFaultIn, IsFeedFault}
+use Rattle.warg_update.specs.FeedFaults.{IsTurnFault, HasTurnFault, IsContinuationFault, IsFaultIn, IsFeedFault}
 use Rattle.warg_update.specs.NotFound.{IsNoPageFault}
+use Rattle.warg_update.specs.Refusals.{IsFaultBehind, of_checkpoint, of_page, of_inclusion, of_consistency}
 use Rattle.warg_update.specs.Proved.{page_request, AsksCheckpoint, AsksInclusion, AsksConsistency, Turns, Pages, Succeeds, Start, Proves, Opens, Shows}
 use Rattle.warg_update.specs.Standing.{request_in, request_at, logs_of, hints_of, Reached, AreTrusted, Stands}
-use Rattle.warg_update.proofs.FitLaws.{PageLaws, one-value, checkpoint-taken, page-came, turn-taken, heads-taken, continuation-taken}
+use Rattle.warg_update.proofs.FitLaws.{PageLaws, one-value, checkpoint-taken, page-came, turn-taken, may-follow, heads-taken, continuation-taken}
 use Rattle.warg_update.proofs.StandingLaws.{some-same, page-asked}
 
 head-is : {A : Type 0} (x y : A) (xs ys : List A) → x ∷ xs ≡ y ∷ ys → x ≡ y
@@ -219,11 +220,11 @@ taken-in laws stage.Page e accepts settings said a start before x after mid logs
 taken-in laws stage.Page e accepts settings said a start before x after mid logs None c reached p bad = absurd bad
 taken-in laws stage.Inclusion e accepts settings said a start before x after mid logs (Some known) c reached p bad =
     let heads = next-heads laws accepts a start before x after mid logs known c reached.0 p in
-    heads-taken e a mid known.contents start.stored x after heads.0 heads.1 bad
+    heads-taken e mid known.contents start.stored x.reply heads.0.bundles heads.0.came heads.0.includes (may-follow a start.stored known.contents after heads.1) bad
 taken-in laws stage.Inclusion e accepts settings said a start before x after mid logs None c reached p bad = absurd bad
 taken-in laws (stage.Consistency from) e accepts settings said a start before x after mid logs (Some known) c reached p bad =
     let asks = next-continuation laws accepts a start before x after mid logs reached.1 known c reached.3 p in
-    continuation-taken e a reached.1.contents known.contents x asks (subst (λ (k : Checkpoint). IsContinuationFault e k known.contents x.reply) reached.2 bad)
+    continuation-taken e reached.1.contents known.contents x.reply asks.shown asks.came asks.continues (subst (λ (k : Checkpoint). IsContinuationFault e k known.contents x.reply) reached.2 bad)
 taken-in laws (stage.Consistency from) e accepts settings said a start before x after mid logs None c reached p bad = absurd bad
 taken-in laws stage.Proved e accepts settings said a start before x after mid logs ck c reached p bad = absurd bad
 taken-in laws stage.Refused e accepts settings said a start before x after mid logs ck c reached p bad = absurd bad
@@ -261,3 +262,25 @@ run-taken laws accepts a start before x after logs c step r said e p stands asks
 run-taken laws accepts a start before x after logs c step r said e p stands asks (inr bad) =
     taken-in laws step.stage e accepts (hints_of step) said a start before x after (logs_of step) logs step.checkpoint c stands.reached p
     (subst (λ (s : Option SignedCheckpoint). IsFaultIn step.stage e accepts (hints_of step) said (logs_of step) step.checkpoint s x.reply) stands.stored bad)
+
+-- ---- by what came
+
+behind-in : (st : Stage) (e : UpdateError) (accepts : Accepts) (settings : HintSettings) (said : Bool → Bool) (a : Asker) (start : Start) (xs : List Exchange) (logs : Logs) (ck : Option SignedCheckpoint) (reply : Reply)
+    → Reached st accepts a start xs logs ck → IsFaultIn st e accepts settings said logs ck start.stored reply → IsFaultBehind e accepts settings said a start xs reply
+behind-in stage.Checkpoint e accepts settings said a start xs logs ck reply reached bad = of_checkpoint reached.0 bad
+behind-in stage.Page e accepts settings said a start xs logs (Some c) reply reached bad = of_page c logs reached bad
+behind-in stage.Page e accepts settings said a start xs logs None reply reached bad = absurd bad
+behind-in stage.Inclusion e accepts settings said a start xs logs (Some c) reply reached bad = of_inclusion c logs reached.0 bad
+behind-in stage.Inclusion e accepts settings said a start xs logs None reply reached bad = absurd bad
+behind-in (stage.Consistency from) e accepts settings said a start xs logs (Some c) reply reached bad =
+    of_consistency reached.1 c logs reached.3 (subst (λ (k : Checkpoint). IsContinuationFault e k c.contents reply) reached.2 bad)
+behind-in (stage.Consistency from) e accepts settings said a start xs logs None reply reached bad = absurd bad
+behind-in stage.Proved e accepts settings said a start xs logs ck reply reached bad = absurd bad
+behind-in stage.Refused e accepts settings said a start xs logs ck reply reached bad = absurd bad
+
+pub fault-behind : (accepts : Accepts) (a : Asker) (start : Start) (xs : List Exchange) (step : UpdateStep) (r : Request) (said : Bool → Bool) (reply : Reply) (e : UpdateError)
+    → Stands accepts a start step xs → request_at a step ≡ Some r → IsFeedFault e accepts said step reply → IsFaultBehind e accepts (hints_of step) said a start xs reply
+fault-behind accepts a start xs step r said reply e stands asks (inl silent) = absurd (asks-none (request_at a step) r asks (silent.1 a))
+fault-behind accepts a start xs step r said reply e stands asks (inr bad) =
+    behind-in step.stage e accepts (hints_of step) said a start xs (logs_of step) step.checkpoint reply stands.reached
+    (subst (λ (s : Option SignedCheckpoint). IsFaultIn step.stage e accepts (hints_of step) said (logs_of step) step.checkpoint s reply) stands.stored bad)

@@ -1,21 +1,20 @@
 -- That what shows leaves, or a continuation, has no fault.
-use Rattle.std.proofs.Common.{◌≡◌, ◌≢◌, ◌<◌, ◌≤◌, List, [], ℕ, Option, Some, None, inl, inr, sym, ◌∙◌, ap, subst, length, arith, refl}
+use Rattle.std.proofs.Common.{◌≡◌, ◌<◌, ◌≤◌, List, ℕ, Option, Some, None, inl, inr, sym, ◌∙◌, ap, subst, length, arith, refl}
 use Rattle.std.specs.Prelude.{slice_get}
-use Rattle.std.specs.Option.{IsSomeAnd, IsSome}
+use Rattle.std.specs.Option.{IsSomeAnd}
 use Rattle.warg_proof.specs.declared.fault.ProofFault.{ProofFault}
 use Rattle.warg_proof.specs.declared.fault.ProofFault.TheVariants.{Form, WrongCount, WrongLeaf, WrongLength, MissingHash, OtherRoot, Memory}
 use Rattle.warg_proof.specs.declared.leaf.LogLeaf.{LogLeaf}
-use Rattle.warg_proof.specs.declared.node.Consistency.{Consistency}
 use Rattle.warg_proof.specs.declared.node.Inclusion.{Inclusion}
 use Rattle.warg_proof.specs.Leaves.{log_entry, map_value}
 use Rattle.warg_proof.specs.LogTree.{path_root, two_roots}
 use Rattle.warg_proof.specs.MapTree.{map_path_root}
-use Rattle.warg_proof.specs.LogProofs.{LogProofs, IsLogBundle, log_text, asked_inclusion, asked_consistency, AsksInclusion, AsksConsistency, IsOfOtherLength, IsOfOtherLeaf, IsOtherRoot, inclusion_path, consistency_hashes, ProvesInclusion, ProvesConsistency}
-use Rattle.warg_proof.specs.MapProofs.{MapPath, IsMapBundle, map_text, siblings, log_key, ProvesValue}
+use Rattle.warg_proof.specs.LogProofs.{LogProofs, asked_inclusion, asked_consistency, IsOfOtherLength, IsOfOtherLeaf, IsOtherRoot, inclusion_path, consistency_hashes, ProvesInclusion, ProvesConsistency}
+use Rattle.warg_proof.specs.MapProofs.{MapPath, siblings, log_key, ProvesValue}
 use Rattle.warg_exchange.specs.declared.checkpoint.Checkpoint.{Checkpoint}
 use Rattle.warg_exchange.specs.declared.proof.InclusionResponse.{InclusionResponse}
 use Rattle.warg_verify.specs.Shown.{InLog, InMap, IncludesInLog, IncludesInMap, Includes, Continues}
-use Rattle.warg_verify.specs.Faults.{IsLogPathFault, IsMapPathFault, IsFirstFault, IsLogFault, IsMapFault, IsInclusionFault, IsConsistencyProofFault, IsConsistencyFault}
+use Rattle.warg_verify.specs.Faults.{IsLogPathFault, IsMapPathFault, IsLogFault, IsMapFault, IsInclusionFault, IsConsistencyProofFault, IsConsistencyFault}
 use Rattle.warg_update.proofs.BundleLaws.{one-log-bundle, one-map-bundle}
 
 some-is : {A : Type 0} (x y : A) → Some x ≡ Some y → x ≡ y
