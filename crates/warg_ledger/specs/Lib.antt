@@ -1,1 +1,3 @@
 pub mod Registry
+pub mod Replies
+pub mod Honest
