@@ -1,0 +1,149 @@
+-- Where the last records of an honest registry's logs stand in its log and in its map.
+use Rattle.std.proofs.Common.{◌≡◌, ◌+◌, ◌++◌, ◌∷◌, [], List, ℕ, zero, suc, Bool, true, false, Option, Some, None, refl, sym, ◌∙◌, ap, subst, map, get_or, arith}
+use Rattle.std.specs.Prelude.{Contains, slice_get, bytes_eq, cond, option_map}
+use Rattle.std.specs.List.{All, AllByRecursion}
+use Rattle.std.specs.Int.{w32, to_be_bytes, bytes_high_first}
+use Rattle.std.proofs.lemmas.Slice.Eq.{bytes_eq-Decides}
+use Rattle.std.proofs.lemmas.Bool.{false≢true}
+use Rattle.hex.specs.Hex.{IsBytes}
+use Rattle.sha2.specs.Sha256.{sha256, digest_bytes}
+use Rattle.sha2.proofs.Facts256.{length-sha256}
+use Rattle.warg_hash.specs.Hash.{IsDigest}
+use Rattle.warg_record.specs.Envelope.{Signed}
+use Rattle.warg_log.specs.History.{last_or}
+use Rattle.warg_proof.specs.Leaves.{map_value}
+use Rattle.warg_proof.specs.MapProofs.{log_key}
+use Rattle.warg_proof.specs.MapTree.{Entries, IsMap, value_at}
+use Rattle.warg_info.specs.Kept.{Kept, last_kept}
+use Rattle.warg_ledger.specs.Registry.{log_from, heads_before}
+
+-- ---- digests
+
+no_bytes : IsBytes []
+no_bytes i = omega arith
+
+bytes-append : (xs ys : List ℕ) → IsBytes xs → IsBytes ys → IsBytes (xs ++ ys)
+bytes-append [] ys h k i = k i
+bytes-append (x ∷ xs) ys h k zero = h zero
+bytes-append (x ∷ xs) ys h k (suc i) = bytes-append xs ys (λ j. h (suc j)) k i
+
+bytes-high_first : (k n : ℕ) → IsBytes (bytes_high_first k n)
+bytes-high_first zero n i = omega arith
+bytes-high_first (suc zero) n zero = omega arith
+bytes-high_first (suc (suc k)) n zero = omega arith
+bytes-high_first (suc k) n (suc i) = bytes-high_first k n i
+
+bytes-digest : (words : List ℕ) (n : ℕ) → IsBytes (digest_bytes words n)
+unfolding digest_bytes
+bytes-digest words zero = no_bytes
+bytes-digest words (suc n) = bytes-append (digest_bytes words n) (to_be_bytes w32 (get_or words n 0)) (bytes-digest words n) (bytes-high_first 4 (get_or words n 0))
+
+bytes-sha256 : (m : List ℕ) → IsBytes (sha256 m)
+unfolding sha256
+bytes-sha256 m = bytes-digest _ 8
+
+is-digest : (m : List ℕ) → IsDigest (sha256 m)
+is-digest m = (length-sha256 m, bytes-sha256 m)
+
+-- ---- the entry of a record
+
+-- the entry at a place, counted from a first place, is this record of this log
+pub record IsEntryOf (id : List ℕ) (place : ℕ) (entries : List (List ℕ × Signed)) (k : Kept) : Type 0 where
+  pub at : ℕ
+  pub index : k.registry_index ≡ place + at
+  pub entry : slice_get entries at ≡ Some (id, k.signed)
+
+entries-further : (id : List ℕ) (place : ℕ) (e : List ℕ × Signed) (entries : List (List ℕ × Signed)) (ks : List Kept) → AllByRecursion (IsEntryOf id (place + 1) entries) ks → AllByRecursion (IsEntryOf id place (e ∷ entries)) ks
+entries-further id place e entries [] are = tt
+entries-further id place e entries (k ∷ ks) are = let index = are.0.index in (record { at = suc are.0.at; index = omega (arith, index); entry = are.0.entry }, entries-further id place e entries ks are.1)
+
+entry-by-id : (b : Bool) (id : List ℕ) (place : ℕ) (e : List ℕ × Signed) (entries : List (List ℕ × Signed)) (k : Kept) (ks : List Kept) → bytes_eq e.0 id ≡ b → k.registry_index ≡ place → k.signed ≡ e.1
+    → AllByRecursion (IsEntryOf id place (e ∷ entries)) ks → AllByRecursion (IsEntryOf id place (e ∷ entries)) (cond b (k ∷ ks) ks)
+entry-by-id true id place e entries k ks is index signed rest =
+    let same : e.0 ≡ id = (bytes_eq-Decides e.0 id).0 is in (
+      record { at = 0; index = omega (arith, index); entry = ap (λ (i : List ℕ). Some (i, e.1)) same ∙ ap (λ (s : Signed). Some (id, s)) (sym signed) },
+      rest,
+    )
+entry-by-id false id place e entries k ks is index signed rest = rest
+
+all-entries : (token : ℕ → List ℕ) (id : List ℕ) (place : ℕ) (entries : List (List ℕ × Signed)) → AllByRecursion (IsEntryOf id place entries) (log_from token id place entries)
+unfolding log_from
+all-entries token id place [] = tt
+all-entries token id place (e ∷ entries) =
+    entry-by-id (bytes_eq e.0 id) id place e entries (record { signed = e.1; registry_index = place; fetch_token = token place }) (log_from token id (place + 1) entries) refl refl refl
+    (entries-further id place e entries (log_from token id (place + 1) entries) (all-entries token id (place + 1) entries))
+
+last-of : (P : Kept → Type 0) (d : Option Kept) (ks : List Kept) (k : Kept) → ((j : Kept) → d ≡ Some j → P j) → AllByRecursion P ks → last_or d (map (λ j. Some j) ks) ≡ Some k → P k
+last-of P d [] k known are last = known k last
+last-of P d (x ∷ ks) k known are last = last-of P (Some x) ks k (λ j is. subst P (some-is x j is) are.0) are.1 last
+  where
+    some-is : (x y : Kept) → Some x ≡ Some y → x ≡ y
+    some-is x y e = cc e
+
+none-some : (P : Kept → Type 0) (j : Kept) → None ≡ Some j → P j
+none-some P j e = absurd cc
+
+-- the last record of a log stands among the entries, at its index
+pub last-entry : (token : ℕ → List ℕ) (id : List ℕ) (entries : List (List ℕ × Signed)) (k : Kept) → last_kept (log_from token id 0 entries) ≡ Some k → IsEntryOf id 0 entries k
+last-entry token id entries k last = last-of (IsEntryOf id 0 entries) None (log_from token id 0 entries) k (none-some (IsEntryOf id 0 entries)) (all-entries token id 0 entries) last
+
+-- ---- the value of a log
+
+abbrev value_of : Kept → List ℕ
+value_of k = map_value (sha256 k.signed.contents)
+
+further : {A : Type 0} (x y : A) (xs : List A) → Contains xs y → Contains (x ∷ xs) y
+further x y xs there = let lt = there.1 in (suc there.0, omega (arith, lt), there.2)
+
+-- with one entry more in front, as the last record so far
+value-by-id : (b : Bool) (key v : List ℕ) (k : Kept) (d : Option Kept) (other : Option (List ℕ)) → value_of k ≡ v → other ≡ option_map value_of d → cond b (Some v) other ≡ option_map value_of (cond b (Some k) d)
+value-by-id true key v k d other is known = ap (λ (x : List ℕ). Some x) (sym is)
+value-by-id false key v k d other is known = known
+
+last-by-id : (b : Bool) (d : Option Kept) (k : Kept) (ks : List Kept) → last_or (cond b (Some k) d) (map (λ j. Some j) ks) ≡ last_or d (map (λ j. Some j) (cond b (k ∷ ks) ks))
+last-by-id true d k ks = refl
+last-by-id false d k ks = refl
+
+-- the key of an entry is that of the log just where the entry is one of it
+same-test : (a id : List ℕ) (b : Bool) → bytes_eq a id ≡ b → (log_key a ≡ log_key id → a ≡ id) → bytes_eq (log_key a) (log_key id) ≡ b
+same-test a id true is one = (bytes_eq-Decides (log_key a) (log_key id)).1 (ap log_key ((bytes_eq-Decides a id).0 is))
+same-test a id false is one = by_test (bytes_eq (log_key a) (log_key id)) refl
+  where
+    by_test : (t : Bool) → bytes_eq (log_key a) (log_key id) ≡ t → bytes_eq (log_key a) (log_key id) ≡ false
+    by_test true same = absurd (false≢true (sym is ∙ (bytes_eq-Decides a id).1 (one ((bytes_eq-Decides (log_key a) (log_key id)).0 same))))
+    by_test false other = other
+
+value-behind : (token : ℕ → List ℕ) (id : List ℕ) (place : ℕ) (entries : List (List ℕ × Signed)) (others : Entries) (d : Option Kept) → ((e : List ℕ × Signed) → Contains entries e → log_key e.0 ≡ log_key id → e.0 ≡ id)
+    → value_at others (log_key id) ≡ option_map value_of d → value_at (heads_before entries others) (log_key id) ≡ option_map value_of (last_or d (map (λ j. Some j) (log_from token id place entries)))
+unfolding log_from heads_before
+value-behind token id place [] others d one known = known
+value-behind token id place (e ∷ entries) others d one known =
+    let b = bytes_eq e.0 id in
+    let k : Kept = record { signed = e.1; registry_index = place; fetch_token = token place } in
+    let v = map_value (sha256 e.1.contents) in
+    let test : bytes_eq (log_key e.0) (log_key id) ≡ b = same-test e.0 id b refl (one e (0, omega arith, refl)) in
+    let next : value_at ((log_key e.0, v) ∷ others) (log_key id) ≡ option_map value_of (cond b (Some k) d) =
+    ap (λ (t : Bool). cond t (Some v) (value_at others (log_key id))) test ∙ value-by-id b (log_key id) v k d (value_at others (log_key id)) refl known in
+    value-behind token id (place + 1) entries ((log_key e.0, v) ∷ others) (cond b (Some k) d) (λ f there. one f (further e f entries there)) next
+    ∙ ap (option_map value_of) (last-by-id b d k (log_from token id (place + 1) entries))
+
+-- the map has the last record of a log at its key
+pub last-value : (token : ℕ → List ℕ) (id : List ℕ) (entries : List (List ℕ × Signed)) (k : Kept) → ((e : List ℕ × Signed) → Contains entries e → log_key e.0 ≡ log_key id → e.0 ≡ id)
+    → last_kept (log_from token id 0 entries) ≡ Some k → value_at (heads_before entries []) (log_key id) ≡ Some (map_value (sha256 k.signed.contents))
+last-value token id entries k one last = value-behind token id 0 entries [] None one refl ∙ ap (option_map value_of) last
+
+-- ---- the map's form
+
+is-map-before : ((record_id : List ℕ) → IsBytes (map_value record_id)) → (entries : List (List ℕ × Signed)) (others : Entries) → AllByRecursion (λ entry. IsDigest entry.0 × IsBytes entry.1) others
+    → AllByRecursion (λ entry. IsDigest entry.0 × IsBytes entry.1) (heads_before entries others)
+unfolding heads_before
+is-map-before values [] others are = are
+is-map-before values (e ∷ entries) others are = is-map-before values entries ((log_key e.0, map_value (sha256 e.1.contents)) ∷ others) ((is-digest e.0, values (sha256 e.1.contents)), are)
+
+by-index : {A : Type 0} (P : A → Type 0) (xs : List A) → AllByRecursion P xs → All P xs
+by-index P [] are i d lt = absurd (omega (arith, lt))
+by-index P (x ∷ xs) are zero d lt = are.0
+by-index P (x ∷ xs) are (suc i) d lt = by-index P xs are.1 i d (omega (arith, lt))
+
+pub is-map : ((record_id : List ℕ) → IsBytes (map_value record_id)) → (entries : List (List ℕ × Signed)) → IsMap (heads_before entries [])
+is-map values entries = by-index (λ entry. IsDigest entry.0 × IsBytes entry.1) (heads_before entries []) (is-map-before values entries [] tt)
