@@ -118,14 +118,62 @@ const REPORTED: HintSettings = HintSettings {
 /// text begins.
 const MISSED: [(HintSettings, bool, &str, &str, &str); 9] = [
     (HEEDED, true, "", MISSING, "the registry has no package a:b"),
-    (HEEDED, false, "a=b.test", MISSING, "the registry tells of another registry for a:b"),
-    (HEEDED, true, "b=b.test", MISSING, "the registry has no package a:b"),
-    (HEEDED, true, "a=", MISSING, "the registry has no package a:b"),
-    (IGNORED, true, "a=b.test", MISSING, "the registry has no package a:b"),
-    (ASKED, true, "a=b.test", MISSING, "the registry tells of another registry for a:b"),
-    (ASKED, false, "a=b.test", MISSING, "the registry has no package a:b"),
-    (REPORTED, false, "b=b.test", MISSING, "the registry tells of another registry for a:b"),
-    (HEEDED, true, "a=b.test", MISSING_OPERATOR, "the registry has no log"),
+    (
+        HEEDED,
+        false,
+        "a=b.test",
+        MISSING,
+        "the registry tells of another registry for a:b",
+    ),
+    (
+        HEEDED,
+        true,
+        "b=b.test",
+        MISSING,
+        "the registry has no package a:b",
+    ),
+    (
+        HEEDED,
+        true,
+        "a=",
+        MISSING,
+        "the registry has no package a:b",
+    ),
+    (
+        IGNORED,
+        true,
+        "a=b.test",
+        MISSING,
+        "the registry has no package a:b",
+    ),
+    (
+        ASKED,
+        true,
+        "a=b.test",
+        MISSING,
+        "the registry tells of another registry for a:b",
+    ),
+    (
+        ASKED,
+        false,
+        "a=b.test",
+        MISSING,
+        "the registry has no package a:b",
+    ),
+    (
+        REPORTED,
+        false,
+        "b=b.test",
+        MISSING,
+        "the registry tells of another registry for a:b",
+    ),
+    (
+        HEEDED,
+        true,
+        "a=b.test",
+        MISSING_OPERATOR,
+        "the registry has no log",
+    ),
 ];
 
 /// The update of the package `a:b` and of its registry's operator, of which nothing is kept.
