@@ -18,3 +18,12 @@ pub fn closing_forgets_numbers()
     changed_entities_have_changed_trees();
     one_entity();
 }
+
+/// What is closed is settled: closing it again changes nothing.
+pub fn closed_scopes_are_settled()
+    ensures { (sides : Sides) → numbered (numbered sides) ≡ numbered sides }
+{
+    trees_mention_as_entities();
+    changed_entities_have_changed_trees();
+    one_entity();
+}
