@@ -1,6 +1,8 @@
 mod ClosingLaws
+mod KeptLaws
 mod NumberLaws
 mod OtherLaws
+mod PlaceLaws
 mod ResourceLaws
 mod ScopeLaws
 mod SettledLaws

@@ -1,3 +1,4 @@
 pub mod Sides
 pub mod ScopeTypes
 pub mod OtherNumbers
+pub mod Orders

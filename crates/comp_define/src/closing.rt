@@ -1,6 +1,6 @@
 //! What a scope imports and exports, with what it makes numbered by first mention.
 
-ghost use Rattle.std.specs.Prelude.{◌≡◌, ◌<◌, ℕ, IfOk, List, length};
+ghost use Rattle.std.specs.Prelude.{◌≡◌, ◌<◌, ℕ, IfOk, List, length, true};
 ghost use Rattle.comp_declare.specs.Scopes.{IsScope, ShowsEntries, ShowsScope};
 ghost use Rattle.comp_define.specs.Sides.{IsOrderOf, ShowsSides, place_in, plain_side};
 ghost use Rattle.comp_entity.specs.Entity as entity;
@@ -13,6 +13,8 @@ ghost use Rattle.comp_scope.specs.Spaces.{Known, entries_in};
 ghost use Rattle.comp_table.specs.Plain.{plain_entries};
 ghost use Rattle.comp_table.specs.Trees.{Extends, Stands, tree};
 
+use crate::laws::what_stands_in_order_stays;
+use crate::orders::is_in_order;
 use comp_declare::{Entries, Scope};
 use comp_entity::{ResourceNo, TypeNo};
 use comp_mention::laws::trees_mention_as_entities;
@@ -162,6 +164,34 @@ fn renumbered(
     renamed(table, alloc, order, side)
 }
 
+/// Imports and exports with what their scope makes numbered in the order in which they mention it first.
+fn with_numbers(
+    table: &mut TypeTable,
+    alloc: Global,
+    order: &FirstMentions,
+    sides: Sides,
+) -> Result<Sides, Memory>
+    requires { (s : views.Sides) × ShowsSides table.old sides s }
+    ensures extends { Extends table.old table.new }
+    ensures found { (s : views.Sides) → IsOrderOf order.now s → ShowsSides table.old sides s
+        → IfOk result (λ numbers. ShowsSides table.new numbers (numbered s)) }
+{
+    let imports = renumbered(table, alloc, order, sides.imports)?;
+    let exports = renumbered(table, alloc, order, sides.exports)?;
+    Ok(Sides { imports, exports })
+}
+
+/// Whether imports and exports with this order of first mention are numbered in it already.
+fn is_settled(order: &FirstMentions) -> bool
+    ensures { (s : views.Sides) → IsOrderOf order.now s → result ≡ true → numbered s ≡ s }
+{
+    what_stands_in_order_stays();
+    if !is_in_order(&order.resources) {
+        return false;
+    }
+    is_in_order(&order.places)
+}
+
 /// Imports and exports with what their scope makes numbered by first mention, exports before imports.
 fn numbered(table: &mut TypeTable, alloc: Global, sides: Sides) -> Result<Sides, Memory>
     requires { (s : views.Sides) × ShowsSides table.old sides s }
@@ -170,7 +200,8 @@ fn numbered(table: &mut TypeTable, alloc: Global, sides: Sides) -> Result<Sides,
         → IfOk result (λ numbers. ShowsSides table.new numbers (numbered s)) }
 {
     let order = first_mentions(&*table, alloc, sides)?;
-    let imports = renumbered(table, alloc, &order, sides.imports)?;
-    let exports = renumbered(table, alloc, &order, sides.exports)?;
-    Ok(Sides { imports, exports })
+    if is_settled(&order) {
+        return Ok(sides);
+    }
+    with_numbers(table, alloc, &order, sides)
 }

@@ -9,6 +9,7 @@ mod closing;
 mod core_types;
 mod declarations;
 pub mod laws;
+mod orders;
 mod resources;
 mod scope_types;
 
