@@ -46,16 +46,6 @@ pub struct FirstMentions {
     pub places: IndexSet<usize>,
 }
 
-/// The place of a number in an order, behind which all others stand.
-fn place_in(order: &IndexSet<usize>, number: usize) -> usize
-    ensures { result ≡ place_in order.now.keys number }
-{
-    match order.get_index_of(&number) {
-        Some(place) => place,
-        None => order.len(),
-    }
-}
-
 impl Renaming for FirstMentions {
     ghost resources = { λ order. renumbered order.resources.keys };
 
@@ -75,6 +65,16 @@ impl Renaming for FirstMentions {
         } else {
             Some(place)
         }
+    }
+}
+
+/// The place of a number in an order, behind which all others stand.
+fn place_in(order: &IndexSet<usize>, number: usize) -> usize
+    ensures { result ≡ place_in order.now.keys number }
+{
+    match order.get_index_of(&number) {
+        Some(place) => place,
+        None => order.len(),
     }
 }
 
