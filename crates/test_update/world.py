@@ -180,6 +180,11 @@ CONTINUES = log_bundle({(0, 0): node(0, 0), (0, 1): node(0, 1), (0, 2): node(0, 
 FORKED = log_bundle({(0, 0): sha(b"x"), (0, 1): node(0, 1), (0, 2): node(0, 2)}, [(1, 3)], [])
 WHOLE = [published(1), published(2)]
 
+
+def included(log, map_paths=MAP):
+    return {"log": b64(log), "map": b64(map_paths)}
+
+
 REPLIES = [
     ("CHECKPOINT", "The checkpoint of three records.", checkpoint(contents(3))),
     ("OTHER_ROOT", "The same with another root of the log.", checkpoint(contents(3, log_root=sha(b"x")))),
@@ -194,9 +199,18 @@ REPLIES = [
     ("DAMAGED", "A page with bytes that are no record.", page(False, [published(0)], {PACKAGE_LOG: [published(1, b"x")]})),
     ("UNLAWFUL", "A page that leaves the package's first record out.", page(False, [published(0)], {PACKAGE_LOG: WHOLE[1:]})),
     ("INCLUSION", "The inclusion of both last records.", {"log": b64(LOG), "map": b64(MAP)}),
+    ("NO_PROOF", "The same without the second proof in the log.", included(log_bundle(NODES, [], [(3, 0)]))),
+    ("SWAPPED", "The same with the proofs in the log in the other order.", included(log_bundle(NODES, [], [(3, 2), (3, 0)]))),
+    ("SHORTER", "The same with proofs in a log of two records.", included(log_bundle(NODES, [], [(2, 0), (2, 1)]))),
+    ("LACKING", "The same without a hash that is needed.", included(log_bundle({(0, 1): node(0, 1), (0, 2): node(0, 2)}, [], [(3, 0), (3, 2)]))),
+    ("OTHER_HASH", "The same with another hash.", included(log_bundle(NODES | {(1, 0): sha(b"x")}, [], [(3, 0), (3, 2)]))),
+    ("CUT", "The same, cut by the last byte of the log's bundle.", included(LOG[:-1])),
     ("HALF", "The same without the second path in the map.", {"log": b64(LOG), "map": b64(map_bundle([path(KEYS, sha(OPERATOR_LOG))]))}),
     ("CONTINUES", "The consistency of one record with three.", {"proof": b64(CONTINUES)}),
     ("FORKED", "A proof that begins with another record.", {"proof": b64(FORKED)}),
+    ("FROM_OTHER", "The consistency of two records with three.", {"proof": b64(log_bundle({(0, 0): node(0, 0), (0, 1): node(0, 1), (0, 2): node(0, 2)}, [(2, 3)], []))}),
+    ("TWICE", "The consistency of one record with three, twice.", {"proof": b64(log_bundle({(0, 0): node(0, 0), (0, 1): node(0, 1), (0, 2): node(0, 2)}, [(1, 3), (1, 3)], []))}),
+    ("EMPTY", "A page that names the package's log without a record, behind which more is to come.", page(True, [published(0)], {PACKAGE_LOG: []})),
     ("MISSING", "That the package's log is not found.", {"type": "logNotFound", "id": text(PACKAGE_LOG)}),
     ("MISSING_OPERATOR", "That the operator's log is not found.", {"type": "logNotFound", "id": text(OPERATOR_LOG)}),
 ]

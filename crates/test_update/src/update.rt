@@ -1,9 +1,10 @@
 //! What becomes of an update over recorded replies.
 
 use crate::world::{
-    CHECKED, CHECKPOINT, CONTINUES, DAMAGED, FIRST_MAP, FIRST_ROOT, FORKED, FRONT, HALF, INCLUSION,
-    KEY_ID, MAP, MISSING, MISSING_OPERATOR, NO_OPERATOR, NO_PACKAGE, OTHER_KEY, OTHER_LOG,
-    OTHER_ROOT, PAGE, REST, ROOT, UNLAWFUL, UNSIGNED,
+    CHECKED, CHECKPOINT, CONTINUES, CUT, DAMAGED, EMPTY, FIRST_MAP, FIRST_ROOT, FORKED, FROM_OTHER,
+    FRONT, HALF, INCLUSION, KEY_ID, LACKING, MAP, MISSING, MISSING_OPERATOR, NO_OPERATOR,
+    NO_PACKAGE, NO_PROOF, OTHER_HASH, OTHER_KEY, OTHER_LOG, OTHER_ROOT, PAGE, REST, ROOT, SHORTER,
+    SWAPPED, TWICE, UNLAWFUL, UNSIGNED,
 };
 use std::alloc::Global;
 use std::test::Fail;
@@ -19,7 +20,7 @@ use warg_update::{AskError, Settings, UpdateError, UpdateStep};
 
 /// Bodies of replies, in the order in which they come, and what becomes of an update that begins with nothing: how many
 /// records are proved of the operator's log and of the package's, or the beginning of the error's text.
-const FRESH: [(&[&str], &str); 13] = [
+const FRESH: [(&[&str], &str); 20] = [
     (&[CHECKPOINT, PAGE, INCLUSION], "proved 1 2"),
     (&[CHECKPOINT, FRONT, REST, INCLUSION], "proved 1 2"),
     (&[INCLUSION], "the reply"),
@@ -48,13 +49,29 @@ const FRESH: [(&[&str], &str); 13] = [
         "the bundle does not hold the proofs",
     ),
     (
+        &[CHECKPOINT, PAGE, NO_PROOF],
+        "the bundle does not hold the proofs",
+    ),
+    (
+        &[CHECKPOINT, PAGE, SWAPPED],
+        "the proof is about another leaf",
+    ),
+    (
+        &[CHECKPOINT, PAGE, SHORTER],
+        "the proof is about another length",
+    ),
+    (&[CHECKPOINT, PAGE, LACKING], "the bundle lacks a hash"),
+    (&[CHECKPOINT, PAGE, OTHER_HASH], "a proof gives the root"),
+    (&[CHECKPOINT, PAGE, CUT], "the bytes are no proof bundle"),
+    (&[CHECKPOINT, EMPTY], "the registry sends no record of a:b"),
+    (
         &[CHECKPOINT, FRONT, FRONT, FRONT],
         "the registry sends more pages than the limit allows",
     ),
 ];
 
 /// The length and the roots of a stored checkpoint, the bodies that come, and what becomes of the update.
-const STORED: [(u64, &str, &str, &[&str], &str); 5] = [
+const STORED: [(u64, &str, &str, &[&str], &str); 8] = [
     (3, ROOT, MAP, &[CHECKPOINT, PAGE, INCLUSION], "proved 1 2"),
     (
         1,
@@ -69,6 +86,27 @@ const STORED: [(u64, &str, &str, &[&str], &str); 5] = [
         FIRST_MAP,
         &[CHECKPOINT, PAGE, INCLUSION, FORKED],
         "a proof gives the root",
+    ),
+    (
+        1,
+        FIRST_ROOT,
+        FIRST_MAP,
+        &[CHECKPOINT, PAGE, INCLUSION, FROM_OTHER],
+        "the proof is about another length",
+    ),
+    (
+        1,
+        FIRST_ROOT,
+        FIRST_MAP,
+        &[CHECKPOINT, PAGE, INCLUSION, TWICE],
+        "the bundle does not hold the proofs",
+    ),
+    (
+        3,
+        ROOT,
+        FIRST_MAP,
+        &[CHECKPOINT, PAGE, INCLUSION],
+        "the registry's log of 3 records is another",
     ),
     (
         4,
