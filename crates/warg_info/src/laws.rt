@@ -25,8 +25,8 @@ pub fn growth_is_taken()
         → Grows kind old ps new → Grows kind old ps other → new ≡ other }
     ensures apart { (kind : Kind) (old new : List Kept) (ps qs : List Published)
         → Grows kind old (ps ++ qs) new → (mid : List Kept) × Grows kind old ps mid × Grows kind mid qs new }
-    ensures never_refused { (kind : Kind) (accepts : Accepts) (old new : List Kept) (ps : List Published) (e : TakeError)
-        (kept : List Kept) → Grows kind old ps new → IsLawfulLog kind accepts new
+    ensures never_refused { (kind : Kind) (accepts : Accepts) (old new : List Kept) (ps : List Published)
+        (e : TakeError) (kept : List Kept) → Grows kind old ps new → IsLawfulLog kind accepts new
         → FirstFault e kind accepts old ps kept → e ≡ WantsMemory }
 {
     one_envelope();

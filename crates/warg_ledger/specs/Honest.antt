@@ -24,13 +24,14 @@ IsStoredOf w None n = Unit {0}
 IsStoredOf w (Some old) n = IsCheckpointOf w old.contents × (old.contents.log_length ≤ n)
 
 -- a checkpoint of the registry, signed by a key of its operator's log below that length
-pub record IsHonestCheckpoint (accepts : Accepts) (w : Registry) (stored : Option SignedCheckpoint) (c : SignedCheckpoint) :
-    Type 0 where
+pub record IsHonestCheckpoint (accepts : Accepts) (w : Registry) (stored : Option SignedCheckpoint)
+    (c : SignedCheckpoint) : Type 0 where
   pub is : IsCheckpointOf w c.contents
   pub signed : IsSigned accepts (log_below w c.contents.log_length operator_log_id) c
   pub follows : IsStoredOf w stored c.contents.log_length
 
-pub record GivesCheckpoint (accepts : Accepts) (w : Registry) (stored : Option SignedCheckpoint) (reply : Reply) : Type 0 where
+pub record GivesCheckpoint (accepts : Accepts) (w : Registry) (stored : Option SignedCheckpoint) (reply : Reply) :
+    Type 0 where
   pub checkpoint : SignedCheckpoint
   pub came : says checkpoint_in reply ≡ Ok checkpoint
   pub honest : IsHonestCheckpoint accepts w stored checkpoint
@@ -64,8 +65,8 @@ pub record GivesGrowth (w : Registry) (old new : ℕ) (reply : Reply) : Type 0 w
 -- ---- a reply, and several
 
 -- behind these exchanges of an update, the reply gives what was asked of the registry
-pub record IsHonestNext (accepts : Accepts) (w : Registry) (a : Asker) (start : Start) (xs : List Exchange) (reply : Reply) :
-    Type 0 where
+pub record IsHonestNext (accepts : Accepts) (w : Registry) (a : Asker) (start : Start) (xs : List Exchange)
+    (reply : Reply) : Type 0 where
   pub checkpoint : xs ≡ [] → GivesCheckpoint accepts w start.stored reply
   pub page : (c : SignedCheckpoint) (logs : Logs) → Opens a start xs c logs true
       → GivesPage w c.contents.log_length logs reply
@@ -77,4 +78,5 @@ pub record IsHonestNext (accepts : Accepts) (w : Registry) (a : Asker) (start : 
 -- so does each reply of these exchanges
 abbrev pub AreHonest : Accepts → Registry → Asker → Start → List Exchange → Type 0
 AreHonest accepts w a start xs =
-    (before after : List Exchange) (x : Exchange) → xs ≡ before ++ x ∷ after → IsHonestNext accepts w a start before x.reply
+    (before after : List Exchange) (x : Exchange) → xs ≡ before ++ x ∷ after
+    → IsHonestNext accepts w a start before x.reply

@@ -24,7 +24,8 @@ pub record ShowHeads (w : Registry) (n : ℕ) (logs : Logs) (bundles : Inclusion
   pub map_bytes : bundles.map ≡ map_text paths
   pub in_map : IsMapBundleOf paths (heads w n) (map (λ h. h.0) (heads_of logs))
 
--- the bundle holds just the proof that the log of a length continues that of an older one, with the hashes that it needs
+-- the bundle holds just the proof that the log of a length continues that of an older one, with the hashes that it
+-- needs
 pub record ShowsGrowth (w : Registry) (old new : ℕ) (bytes : List ℕ) : Type 0 where
   pub log : LogProofs
   pub log_bytes : bytes ≡ log_text log

@@ -94,8 +94,8 @@ pub fn honest_bundles_show()
     leaves_are_bytes();
 }
 
-/// Over an honest registry an update is never refused: behind exchanges of which each reply gives what was asked, such a
-/// reply has no fault but want of memory. So each feed of it is `Ok` or want of memory.
+/// Over an honest registry an update is never refused: behind exchanges of which each reply gives what was asked, such
+/// a reply has no fault but want of memory. So each feed of it is `Ok` or want of memory.
 pub fn honest_replies_are_taken()
     ensures { (accepts : Accepts) (w : Registry) (a : Asker) (start : Start) (xs : List Exchange) (step : Step)
         (request : Sent) (said : Bool → Bool) (reply : Answer) (e : Refusal)

@@ -11,8 +11,8 @@ ghost use Rattle.warg_page.specs.declared.page.PageError.TheVariants.{Memory as 
 use warg_info::laws::growth_is_taken;
 use warg_log::laws::fronts_are_lawful;
 
-/// A page leaves logs in one way. Where each log that it leaves is lawful, so was each before it, and the page has no fault
-/// but want of memory.
+/// A page leaves logs in one way. Where each log that it leaves is lawful, so was each before it, and the page has no
+/// fault but want of memory.
 pub fn brought_pages_are_taken()
     ensures one { (before after other : Logs) (page : Page)
         → Brings before page after → Brings before page other → after ≡ other }

@@ -52,7 +52,8 @@ LeavesEmpty e page after =
     ⊎ ((page.more ≡ false) × IsPresenceFault e after)
 
 -- the last page leaves lawful logs, and no key of the operator's signed the checkpoint
-pub record IsUnsigned (e : SignatureError) (accepts : Accepts) (c : SignedCheckpoint) (page : Page) (after : Logs) : Type 0 where
+pub record IsUnsigned (e : SignatureError) (accepts : Accepts) (c : SignedCheckpoint) (page : Page) (after : Logs) :
+    Type 0 where
   pub last : page.more ≡ false
   pub lawful : AreLawful accepts after
   pub fault : IsSignatureFault e accepts after.operator c
@@ -68,7 +69,8 @@ IsTurnFault error.Memory accepts logs c page = Unit {0}
 IsTurnFault other accepts logs c page = ⊥
 
 -- the reply gives a page with this fault
-pub record HasTurnFault (e : UpdateError) (accepts : Accepts) (logs : Logs) (c : SignedCheckpoint) (reply : Reply) : Type 0 where
+pub record HasTurnFault (e : UpdateError) (accepts : Accepts) (logs : Logs) (c : SignedCheckpoint) (reply : Reply) :
+    Type 0 where
   pub page : Page
   pub came : says page_in reply ≡ Ok page
   pub fault : IsTurnFault e accepts logs c page
@@ -111,20 +113,21 @@ IsContinuationFault other old new reply = ⊥
 
 -- ---- a step
 
--- by the stage, the logs so far, the checkpoint that came and the stored one, and by what is done about hints, the reply has
--- this fault
+-- by the stage, the logs so far, the checkpoint that came and the stored one, and by what is done about hints, the reply
+-- has this fault
 abbrev pub IsFaultIn : Stage → UpdateError → Accepts → HintSettings → (Bool → Bool) → Logs → Option SignedCheckpoint
     → Option SignedCheckpoint → Reply → Type 0
 IsFaultIn stage.Checkpoint e accepts settings said logs c stored reply = IsCheckpointFault e reply
 IsFaultIn stage.Page e accepts settings said logs (Some c) stored reply =
     IsNoPageFault e settings said logs.packages reply ⊎ HasTurnFault e accepts logs c reply
-IsFaultIn stage.Inclusion e accepts settings said logs (Some c) stored reply = IsHeadsFault e logs c.contents stored reply
+IsFaultIn stage.Inclusion e accepts settings said logs (Some c) stored reply =
+    IsHeadsFault e logs c.contents stored reply
 IsFaultIn (stage.Consistency from) e accepts settings said logs (Some c) stored reply =
     IsContinuationFault e from c.contents reply
 IsFaultIn other e accepts settings said logs c stored reply = ⊥
 
--- the step asks nothing, and so no reply was awaited; or the reply has this fault, by what may be said where a decision is
--- asked
+-- the step asks nothing, and so no reply was awaited; or the reply has this fault, by what may be said where a decision
+-- is asked
 abbrev pub IsFeedFault : UpdateError → Accepts → (Bool → Bool) → UpdateStep → Reply → Type 0
 IsFeedFault e accepts said step reply =
     ((e ≡ error.NotAsked) × ((a : Asker) → request_at a step ≡ None))

@@ -10,8 +10,8 @@ StandsAt entries index entry =
     (slice_get entries index ≡ Some entry)
     ⊎ ((path : List (List ℕ)) × IsSomeAnd (inclusion_clash entries index entry path) IsClash)
 
--- the map has the value at the key; or from siblings two different byte strings of equal SHA-256 are computed, or one whose
--- SHA-256 is 32 zero bytes, the hash of an empty leaf
+-- the map has the value at the key; or from siblings two different byte strings of equal SHA-256 are computed, or one
+-- whose SHA-256 is 32 zero bytes, the hash of an empty leaf
 abbrev pub HasValue : Entries → List ℕ → List ℕ → Type 0
 HasValue m key value =
     (value_at m key ≡ Some value)

@@ -1,5 +1,5 @@
--- That a registry gives no page: where it does not find the log of a package, what is done about a hint at another registry
--- says what is answered.
+-- That a registry gives no page: where it does not find the log of a package, what is done about a hint at another
+-- registry says what is answered.
 use Rattle.std.specs.Prelude.{◌≡◌, ◌⊎◌, ℕ, Bool, false, List, codes, Contains, Option, Err}
 use Rattle.warg_hash.specs.Hash.{package_log_id}
 use Rattle.warg_hint.specs.Hint.{IsReported, IsFollowed, IsLeft}
@@ -24,8 +24,9 @@ pub record IsNotFound (name : List ℕ) (packages : List (List ℕ × List Kept)
 abbrev pub hint_in : Reply → Option (List ℕ)
 hint_in reply = header (codes "warg-registry-hint") reply
 
--- what is answered of a package that is not found, by what may be said where a decision is asked: that it does not exist,
--- where a hint is left; or that hints are not followed and not reported, where one would be. Want of memory says nothing
+-- what is answered of a package that is not found, by what may be said where a decision is asked: that it does not
+-- exist, where a hint is left; or that hints are neither followed nor reported, where one would be. Want of memory says
+-- nothing
 abbrev pub IsAnswered : UpdateError → HintSettings → (Bool → Bool) → List ℕ → Option (List ℕ) → Type 0
 IsAnswered (error.PackageDoesNotExist known) settings said name hint = (known ≡ name) × IsLeft settings said name hint
 IsAnswered (error.NotBuilt known) settings said name hint =
@@ -38,7 +39,8 @@ abbrev pub IsNoPageFault : UpdateError → HintSettings → (Bool → Bool) → 
 IsNoPageFault (error.PackageDoesNotExist name) settings said packages reply =
     IsNotFound name packages reply × IsLeft settings said name (hint_in reply)
 IsNoPageFault (error.NotBuilt name) settings said packages reply =
-    IsNotFound name packages reply × (IsReported settings (hint_in reply) ⊎ IsFollowed settings said name (hint_in reply))
+    IsNotFound name packages reply
+    × (IsReported settings (hint_in reply) ⊎ IsFollowed settings said name (hint_in reply))
 IsNoPageFault (error.Api e) settings said packages reply =
     (call_wants_memory e ≡ false) × IsReplyFault logs_error e reply page_in
     × ((name : List ℕ) → IsNotFound name packages reply → ⊥)

@@ -13,7 +13,8 @@ use Rattle.warg_update.specs.NotFound.{IsNoPageFault}
 use Rattle.warg_update.specs.Proved.{Start, Opens, Shows}
 
 -- behind these exchanges of an update the next reply has this fault: it gives no checkpoint; or no page, or one with a
--- fault; or the inclusion is not shown, or the checkpoint does not follow the stored one; or the consistency is not shown
+-- fault; or the inclusion is not shown, or the checkpoint does not follow the stored one; or the consistency is not
+-- shown
 pub data IsFaultBehind (e : UpdateError) (accepts : Accepts) (settings : HintSettings) (said : Bool → Bool) (a : Asker)
     (start : Start) (xs : List Exchange) (reply : Reply) : Type 0 where
   of_checkpoint : xs ≡ [] → IsCheckpointFault e reply → IsFaultBehind e accepts settings said a start xs reply

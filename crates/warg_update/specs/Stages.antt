@@ -27,8 +27,8 @@ FollowsPage accepts c more after stage.Inclusion = (more ≡ false) × AreTruste
 FollowsPage accepts c more after other = ⊥
 
 -- the page leaves these logs, none that it lists without a record, and this is the stage behind it
-pub record IsTurned (accepts : Accepts) (c : SignedCheckpoint) (before : Logs) (page : Page) (after : Logs) (next : Stage) :
-    Type 0 where
+pub record IsTurned (accepts : Accepts) (c : SignedCheckpoint) (before : Logs) (page : Page) (after : Logs)
+    (next : Stage) : Type 0 where
   pub brings : Brings before page after
   pub kept : LeavesNoneEmpty after.packages page.packages
   pub follows : FollowsPage accepts c page.more after next

@@ -57,8 +57,8 @@ pub fn exchanges_come_in_turn()
         → AsksConsistency a old.contents c.contents x → Proves accepts a start (xs ++ x ∷ []) logs c }
 {}
 
-/// Exchanges that prove logs are never refused. An update that stands behind the first of them asks for the next as it was
-/// asked for, and the next reply has no fault but want of memory.
+/// Exchanges that prove logs are never refused. An update that stands behind the first of them asks what the next one
+/// asked, and the next reply has no fault but want of memory.
 pub fn proving_exchanges_are_taken()
     ensures asked { (accepts : Accepts) (a : Asker) (start : Start) (before : List Exchange) (x : Exchange)
         (after : List Exchange) (logs : Logs) (c : Signed) (step : Step) (request : Sent)
@@ -72,9 +72,9 @@ pub fn proving_exchanges_are_taken()
     brought_pages_are_taken();
 }
 
-/// What is proved is included: the last record of each log, the operator's and each package's, stands at its place in any
-/// entries of the checkpoint's length and log root, and at its log's key in any map of the checkpoint's map root. Or else
-/// two different byte strings of equal SHA-256 are computed, or one whose SHA-256 is 32 zero bytes.
+/// What is proved is included: the last record of each log, the operator's and each package's, stands at its place in
+/// any entries of the checkpoint's length and log root, and at its log's key in any map of the checkpoint's map root. Or
+/// else two different byte strings of equal SHA-256 are computed, or one whose SHA-256 is 32 zero bytes.
 pub fn proved_records_are_included()
     ensures log { (accepts : Accepts) (a : Asker) (start : Start) (xs : List Exchange) (logs : Logs) (c : Signed)
         (entries : List (List ℕ)) (l : List ℕ × List Kept) (k : Kept) → Proves accepts a start xs logs c
@@ -91,9 +91,9 @@ pub fn proved_records_are_included()
     leaves_are_bytes();
 }
 
-/// A reply that is refused has a fault by the exchanges before it. A reply that gives what is asked has none but want of
-/// memory: a checkpoint; a page, but for faults of the page itself; bundles that show the last records, where the checkpoint
-/// may follow the stored one; a bundle that shows the consistency.
+/// A reply that is refused has a fault by the exchanges before it. A reply that gives what is asked has none but want
+/// of memory: a checkpoint; a page, but for faults of the page itself; bundles that show the last records, where the
+/// checkpoint may follow the stored one; a bundle that shows the consistency.
 pub fn refusals_are_of_what_came()
     ensures behind { (accepts : Accepts) (a : Asker) (start : Start) (xs : List Exchange) (step : Step) (request : Sent)
         (said : Bool → Bool) (reply : Answer) (e : Refusal) → Stands accepts a start step xs

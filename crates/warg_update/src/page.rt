@@ -191,9 +191,9 @@ fn answer_or(answer: Option<UpdateError>, error: ClientError) -> UpdateError
 
 /// The page that a reply gives.
 ///
-/// Where the registry does not find the log of a package, the answer is `PackageDoesNotExist`, or `NotBuilt` where the reply
-/// has a hint at another registry that would be followed or reported. The decision is asked at most once, and only where
-/// nothing else decides. Any other reply without a page is `Api`.
+/// Where the registry does not find the log of a package, the answer is `PackageDoesNotExist`, or `NotBuilt` where the
+/// reply has a hint at another registry that would be followed or reported. The decision is asked at most once, and only
+/// where nothing else decides. Any other reply without a page is `Api`.
 pub fn read_page<D: Decide>(
     alloc: Global,
     settings: &HintSettings,

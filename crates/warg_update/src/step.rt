@@ -420,9 +420,10 @@ impl UpdateStep {
     ///
     /// The first fault is answered, in this order: what the reply says; of a page, each record, the operator's first; of
     /// the last page, that each log has a record, and the checkpoint's signature; of the inclusion, its proofs, and how the
-    /// checkpoint stands to the stored one; of the consistency, its proof. Where the log of a package is not found, a hint
-    /// at another registry decides between `PackageDoesNotExist` and `NotBuilt`, and the decision is asked where nothing else
-    /// says whether the hint would be followed. Where nothing was asked, the answer is `NotAsked`, and nothing changes.
+    /// checkpoint stands to the stored one; of the consistency, its proof. Where the log of a package is not found, a
+    /// hint at another registry decides between `PackageDoesNotExist` and `NotBuilt`, and the decision is asked where
+    /// nothing else says whether the hint would be followed. Where nothing was asked, the answer is `NotAsked`, and
+    /// nothing changes.
     pub fn feed<V: Verifier, D: Decide>(
         &mut self,
         alloc: Global,
