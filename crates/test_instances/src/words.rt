@@ -8,60 +8,102 @@ use comp_space::ScopeError;
 use std::alloc::Global;
 use warg_values::{Memory, Sequence, Text};
 
-/// A resource type: the resource of a number of the scope that is so many scopes further out.
-fn resource(out: usize, number: usize) -> Result<Entity, Memory> {
+/// The resource of a number of the scope that is so many scopes further out.
+fn resource(out: usize, number: usize) -> Result<ResourceNo, Memory> {
     match ResourceNo::new(out, number) {
-        Some(resource) => Ok(Entity::Ty(TypeShape::Resource(resource))),
+        Some(resource) => Ok(resource),
         None => Err(Memory),
     }
+}
+
+/// A resource type.
+fn of_resource(resource: ResourceNo) -> Entity {
+    Entity::Ty(TypeShape::Resource(resource))
 }
 
 /// A function that gives a resource.
-fn giver(alloc: Global, out: usize, number: usize) -> Result<Entity, Memory> {
-    match ResourceNo::new(out, number) {
-        Some(resource) => Ok(Entity::Func(FuncShape {
-            params: Vec::new(alloc),
-            result: Some(ValueShape::Own(resource)),
-        })),
-        None => Err(Memory),
-    }
+fn giver(alloc: Global, resource: ResourceNo) -> Entity {
+    Entity::Func(FuncShape {
+        params: Vec::new(alloc),
+        result: Some(ValueShape::Own(resource)),
+    })
 }
 
-/// Two entities under these names.
-fn pair(
+/// Puts a resource type behind other entities, under a name.
+fn push_resource(
     alloc: Global,
-    first: &str,
-    one: Entity,
-    second: &str,
-    other: Entity,
-) -> Result<Vec<(Text, Entity)>, Memory> {
-    let mut entries = Vec::new(alloc);
-    entries.push((Text::copy_of(alloc, first)?, one))?;
-    entries.push((Text::copy_of(alloc, second)?, other))?;
-    Ok(entries)
+    entries: &mut Vec<(Text, Entity)>,
+    name: &str,
+    out: usize,
+    number: usize,
+) -> Result<(), Memory> {
+    let resource = resource(out, number)?;
+    let name = Text::copy_of(alloc, name)?;
+    entries.push((name, of_resource(resource)))?;
+    Ok(())
+}
+
+/// Puts a function that gives a resource behind other entities, under a name.
+fn push_giver(
+    alloc: Global,
+    entries: &mut Vec<(Text, Entity)>,
+    name: &str,
+    out: usize,
+    number: usize,
+) -> Result<(), Memory> {
+    let resource = resource(out, number)?;
+    let name = Text::copy_of(alloc, name)?;
+    entries.push((name, giver(alloc, resource)))?;
+    Ok(())
+}
+
+/// A resource and a function that gives it, as a component imports them.
+fn file_and_open(alloc: Global) -> Result<Vec<(Text, Entity)>, Memory> {
+    let mut imports = Vec::new(alloc);
+    push_resource(alloc, &mut imports, "file", 1, 0)?;
+    push_giver(alloc, &mut imports, "open", 1, 0)?;
+    Ok(imports)
+}
+
+/// A resource of the scope around of this number, and one that is made.
+fn kept_and_made(alloc: Global, number: usize) -> Result<Vec<(Text, Entity)>, Memory> {
+    let mut exports = Vec::new(alloc);
+    push_resource(alloc, &mut exports, "kept", 1, number)?;
+    push_resource(alloc, &mut exports, "made", 0, 0)?;
+    Ok(exports)
 }
 
 /// A component that imports a resource and a function that gives it, and exports that resource and one that it makes.
 fn keeper(alloc: Global) -> Result<Entity, Memory> {
-    let imports = pair(alloc, "file", resource(1, 0)?, "open", giver(alloc, 1, 0)?)?;
-    let exports = pair(alloc, "kept", resource(1, 0)?, "made", resource(0, 0)?)?;
+    let imports = file_and_open(alloc)?;
+    let exports = kept_and_made(alloc, 0)?;
     Ok(Entity::Component(ComponentShape { imports, exports }))
+}
+
+/// The instance of the keeper whose import is the first resource.
+fn kept(alloc: Global) -> Result<Entity, Memory> {
+    let exports = kept_and_made(alloc, 1)?;
+    Ok(Entity::Instance(InstanceShape { exports }))
+}
+
+/// An instance of a resource and of a function that gives another one.
+fn members(alloc: Global) -> Result<Entity, Memory> {
+    let mut exports = Vec::new(alloc);
+    push_resource(alloc, &mut exports, "a", 1, 1)?;
+    push_giver(alloc, &mut exports, "b", 1, 2)?;
+    Ok(Entity::Instance(InstanceShape { exports }))
 }
 
 /// The entity of a word in a row.
 pub fn entity(alloc: Global, word: &str) -> Result<Entity, Memory> {
     match word {
         "keeper" => keeper(alloc),
-        "file" => resource(1, 1),
-        "other" => resource(1, 2),
-        "open-file" => giver(alloc, 1, 1),
-        "open-other" => giver(alloc, 1, 2),
-        "kept" => Ok(Entity::Instance(InstanceShape {
-            exports: pair(alloc, "kept", resource(1, 1)?, "made", resource(0, 0)?)?,
-        })),
-        "members" => Ok(Entity::Instance(InstanceShape {
-            exports: pair(alloc, "a", resource(1, 1)?, "b", giver(alloc, 1, 2)?)?,
-        })),
+        "file" => Ok(of_resource(resource(1, 1)?)),
+        "other" => Ok(of_resource(resource(1, 2)?)),
+        "open-file" => Ok(giver(alloc, resource(1, 1)?)),
+        "open-other" => Ok(giver(alloc, resource(1, 2)?)),
+        "kept" => kept(alloc),
+        "members" => members(alloc),
         _ => Err(Memory),
     }
 }
