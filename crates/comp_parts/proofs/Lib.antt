@@ -1,0 +1,7 @@
+mod SettledLaws
+mod KeptLaws
+mod WholeLaws
+mod ValueLaws
+mod ItemLaws
+mod ShapeLaws
+mod PartLaws
