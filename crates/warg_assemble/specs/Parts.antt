@@ -83,8 +83,8 @@ learnt_by f (p ∷ ps) = learnt_by (learnt f p) ps
 
 -- ---- when a part is right
 
--- an update of one package begins with the operator's log and the checkpoint that are known of the registry, and with no
--- log of the package
+-- an update of one package begins with the operator's log and the checkpoint that are known of the registry, and with
+-- no log of the package
 abbrev pub start_of : Known → Registry → List ℕ → Start
 start_of known registry name = record {
   logs = record { operator = known.operator registry; packages = (name, []) ∷ [] };
@@ -103,7 +103,8 @@ Comes a None digest xs bytes = Downloads a digest xs bytes
 module _ (accepts : Accepts) (asker : Registry → Asker) (Reads : Content → Type 0) where
   -- the exchanges prove the logs
   abbrev pub IsUpdate : Known → Update → Type 0
-  IsUpdate known u = Proves accepts (asker u.registry) (start_of known u.registry u.name) u.exchanges (logs_of u) u.checkpoint
+  IsUpdate known u =
+      Proves accepts (asker u.registry) (start_of known u.registry u.name) u.exchanges (logs_of u) u.checkpoint
 
   -- the bytes come, have the digest, and are read so
   pub record IsLoad (known : Known) (l : Load) : Type 0 where

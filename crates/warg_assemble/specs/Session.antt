@@ -1,5 +1,5 @@
--- The session of a plan: its parts in turn, each of which is what the walk asks for next; and the plan over the logs that
--- the exchanges of a session prove.
+-- The session of a plan: its parts in turn, each of which is what the walk asks for next; and the plan over the logs
+-- that the exchanges of a session prove.
 use Rattle.std.specs.Prelude.{◌≡◌, ◌≢◌, ℕ, List, [], ◌∷◌, Some, Result, Err}
 use Rattle.std.specs.List.{flat_map}
 use Rattle.sha2.specs.Sha256.{sha256}
@@ -15,7 +15,8 @@ use Rattle.warg_plan.specs.Plan.{IsPlan}
 use Rattle.warg_assemble.specs.Known.{Known, registry_of}
 use Rattle.warg_assemble.specs.Parts.{Part, Updated, Loaded, known_after, learnt, updated_under, releases_in, IsPart, HasLog}
 
--- what a plan is made of: the settings of its text, the key at which it begins, and how many keys may be open at one place
+-- what a plan is made of: the settings of its text, the key at which it begins, and how many keys may be open at one
+-- place
 pub record Wanted : Type 0 where
   pub settings : Settings
   pub root : Key
@@ -79,7 +80,8 @@ module _ (accepts : Accepts) (asker : Registry → Asker) (Reads : Content → T
 
   -- what is known is what the exchanges prove, and contents with their digests
   pub record AreFacts (known : Known) (xs : List Exchange) (f : Facts) : Type 0 where
-    pub logs : (name : List ℕ) (releases : List Release) → log_in f name ≡ Some releases → AreProved known xs name releases
+    pub logs : (name : List ℕ) (releases : List Release) → log_in f name ≡ Some releases
+        → AreProved known xs name releases
     pub contents : (digest : List ℕ) (c : Content) → content_in f digest ≡ Some c → IsRead digest c
 
   -- a plan over the logs that packages have by what is known and by these exchanges

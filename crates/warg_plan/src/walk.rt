@@ -245,9 +245,9 @@ fn entries_of(alloc: Global, found: IndexMap<PlanKey, Found<'_>>) -> Result<Vec<
 
 /// The plan from a root on, by a text and over what is known; or why there is none yet, or none at all.
 ///
-/// It is the one that the walk finds, and a stop is the walk's. At most 1,000 keys are open at one place, since each takes
-/// some of the machine's stack: past them the stop is `TooDeep`. The contents are lent while the walk goes, and copied
-/// once, when the plan is found.
+/// It is the one that the walk finds, and a stop is the walk's. At most 1,000 keys are open at one place, since each
+/// takes some of the machine's stack: past them the stop is `TooDeep`. The contents are lent while the walk goes, and
+/// copied once, when the plan is found.
 pub fn find_plan(alloc: Global, question: &Question<'_>, root: &PlanKey) -> Result<Plan, Stop>
     ensures { Gives stop_view plan_view result (spec.walk
         (spec.node_of (settings_of question.now.config.now) (facts_view question.now.facts.now))
