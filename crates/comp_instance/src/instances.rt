@@ -6,7 +6,6 @@ ghost use Rattle.comp_entity.specs.Entity.{Entries, EntityTree, IsComponent, IsI
 ghost use Rattle.comp_fit.specs.Known.{IsEntity};
 ghost use Rattle.comp_format.specs.declared.types.InstanceItem.TheVariants as InstanceItem;
 ghost use Rattle.comp_instance.specs.Instances.{AreHalves, AreSides, ShowsInstantiating, ShowsNewCounts, component_instance, instance_at, is_component, sides_in};
-ghost use Rattle.comp_instance.specs.Items.{ShowsInstance};
 ghost use Rattle.comp_scope.specs.Instances.{with_instance};
 ghost use Rattle.comp_scope.specs.Spaces.{Spaces};
 ghost use Rattle.comp_space.specs.Descriptions.{ShowsDescribed};

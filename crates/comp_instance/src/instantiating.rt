@@ -1,7 +1,7 @@
 //! How what a component or a description mentions is called in the scope in which it is instantiated or exported.
 
 ghost use Rattle.std.specs.Prelude.{◌≡◌, ◌+◌, ◌==◌, ◌&&◌, nat_le, IfSome, None, unwrap_or};
-ghost use Rattle.comp_entity.specs.Entity.{Name, made};
+ghost use Rattle.comp_entity.specs.Entity.{made};
 ghost use Rattle.comp_instance.specs.Renamed.{component_place, component_resource, description_place, description_resource};
 ghost use Rattle.comp_instance.specs.StandingFor.{place_found, resource_found};
 ghost use Rattle.comp_scope.specs.Exports.{is_new};

@@ -1,12 +1,10 @@
 //! Items under names, as the exports of an instance.
 
 ghost use Rattle.std.specs.Prelude.{◌≡◌, ◌<◌, ◌&&◌, [], IfOk, List, length, map};
-ghost use Rattle.std.specs.Cmp.{partial_equiv_from_equiv};
-ghost use Rattle.comp_declare.specs.Scopes.{plain_entry};
-ghost use Rattle.comp_entity.specs.Entity.{EntityTree, IsInstance};
+ghost use Rattle.comp_entity.specs.Entity.{EntityTree};
 ghost use Rattle.comp_instance.specs.Items.{ShowsInstance, ShowsItems, differ, items_of, name_key};
 ghost use Rattle.comp_scope.specs.Instances.{given, members};
-ghost use Rattle.comp_scope.specs.Spaces.{Spaces, entries_in, has_bit};
+ghost use Rattle.comp_scope.specs.Spaces.{Spaces, has_bit};
 ghost use Rattle.comp_space.specs.Faults.{Finds};
 ghost use Rattle.comp_space.specs.Heads.{has_name};
 ghost use Rattle.comp_space.specs.SpaceViews.{IsSpace, ShowsSpaces};

@@ -4,7 +4,7 @@
 ghost use Rattle.std.specs.Prelude.{◌≡◌, ◌<◌, ◌&&◌, ◌∷◌, [], ℕ, List, Bool, true, length, map, IfOk, OnOk};
 ghost use Rattle.std.specs.Option.{option_map_or};
 ghost use Rattle.comp_entity.specs.Entity.{Entries, EntityTree};
-ghost use Rattle.comp_entity.specs.Fits.{ForResource, all_stand, for_place, stands, under};
+ghost use Rattle.comp_entity.specs.Fits.{all_stand, for_place, stands, under};
 ghost use Rattle.comp_fit.specs.Known.{AreNames, IsEntity, is_instance};
 ghost use Rattle.comp_fit.specs.Standing.{resource_head};
 ghost use Rattle.comp_instance.specs.StandingFor.{Adds, AreCovered, ShowsStanding, called, for_resource, head_stands, place_head, place_stands, value_place};
