@@ -5,3 +5,4 @@ mod ValueLaws
 mod ItemLaws
 mod ShapeLaws
 mod PartLaws
+mod ComponentLaws

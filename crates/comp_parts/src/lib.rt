@@ -4,11 +4,13 @@
 //! The terms are those of the Component Model's `Explainer.md`.
 #![tactic(auto)]
 
+mod component;
 mod error;
 mod items;
 mod parts;
 mod shape;
 
-pub use error::PartError;
+pub use component::shape_of;
+pub use error::{PartError, ShapeError};
 pub use parts::read_scope;
 pub use shape::shape_at;
