@@ -45,7 +45,8 @@ pub fn shape_of(alloc: Global, items: &[Item<'_>]) -> Result<Shape, ShapeError>
 fn number_of(table: &mut TypeTable, alloc: Global, items: &[Item<'_>]) -> Result<usize, ShapeError>
     requires { (parts : Parts) × Expands (map item_tree items.now) parts }
     ensures found { IfOk result (λ n. (parts : Parts) → Expands (map item_tree items.now) parts
-        → Found (λ n k. ShowsEntity table.new n (component_of k)) n (after_parts bounded [] (nothing_known true) parts)) }
+        → Found (λ n k. ShowsEntity table.new n (component_of k)) n
+        (after_parts bounded [] (nothing_known true) parts)) }
     ensures refused { IfErr result (λ e. (parts : Parts) → Expands (map item_tree items.now) parts
         → TellsFault e (after_parts bounded [] (nothing_known true) parts)) }
     ensures first { IfErr result (λ e. (parts : Parts) → Expands (map item_tree items.now) parts

@@ -25,7 +25,7 @@ pub enum ShapeError {
     /// The imports and exports have more than a million nodes.
     #[error("the imports and exports of a component have more than a million parts: divide it")]
     TooBig,
-    /// No memory was left, or more than a thousand types and entities lie within each other.
+    /// No memory was left, or more than a thousand types and entities lie within each other, or more than 200 scopes.
     #[error("out of memory, or more than a thousand types lie in each other: free some memory, or nest less")]
     Memory,
 }

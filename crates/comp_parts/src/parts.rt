@@ -177,8 +177,10 @@ fn scope_of(
     Ok(scope)
 }
 
-/// The scope of a component of these items, which were read from its bytes. Whatever the answer, the numbers given so far
-/// keep their meaning. An item has its fault exactly where it is the first that has one, up to want of memory.
+/// The scope of a component of these items, which were read from its bytes. Whatever the answer, the numbers given so
+/// far keep their meaning. An item has its fault exactly where it is the first that has one, up to want of memory.
+/// `Memory` also where more than 200 scopes are open at one place within a nested component: each takes some of the
+/// machine's stack where its items are read.
 pub fn read_scope(
     table: &mut TypeTable,
     alloc: Global,
