@@ -1,0 +1,4 @@
+mod RecordingSteps
+mod RunSteps
+mod TakenReplies
+mod TurnSteps

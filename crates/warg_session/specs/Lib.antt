@@ -1,0 +1,5 @@
+pub mod Recording
+pub mod RecordingLaws
+pub mod Refusals
+pub mod Turns
+pub mod Updating
