@@ -1,0 +1,97 @@
+-- What is known, and what is a client's own, after what an update writes.
+use Rattle.std.proofs.Common.{◌≡◌, ℕ, Bool, true, false, cond, List, [], ◌∷◌, Option, Some, None, refl, sym, ap, subst, ◌∙◌, inl, inr}
+use Rattle.std.specs.List.{AllByRecursion}
+use Rattle.warg_record.specs.Record.{Operator, Package as OfPackage}
+use Rattle.warg_log.specs.Rules.{Accepts}
+use Rattle.warg_exchange.specs.declared.checkpoint.SignedCheckpoint.{SignedCheckpoint}
+use Rattle.warg_info.specs.Info.{IsLawfulLog}
+use Rattle.warg_info.specs.Kept.{Kept}
+use Rattle.warg_store.specs.Entry.{Entry, Absent, Whole, Unreadable, SameEntries, with_entry}
+use Rattle.warg_store.specs.Held.{Registry, Package, Info, Held, SameHeld, Tells, is_registry, is_package}
+use Rattle.warg_assemble.specs.Known.{Known}
+use Rattle.warg_assemble.specs.Parts.{Update, Updated, known_after}
+use Rattle.warg_fetch.specs.Stored.{value_in, log_in, KnowsRegistries, IsOwn, IsOwnStore}
+use Rattle.warg_fetch.specs.Writes.{Write, OperatorLog, PackageLog, LastCheckpoint, with_write, without_write, with_writes, HoldsFront, info_by, writes_of}
+
+-- ---- what is known
+
+log_with : (b : Bool) (info : Info) (e : Entry Info) (log : List Kept) → log_in e ≡ log → log_in (cond b (Whole info) e) ≡ cond b info.log log
+log_with true info e log h = refl
+log_with false info e log h = h
+
+value_with : {X : Type 0} (b : Bool) (x : X) (e : Entry X) (o : Option X) → value_in e ≡ o → value_in (cond b (Whole x) e) ≡ cond b (Some x) o
+value_with true x e o h = refl
+value_with false x e o h = h
+
+-- after what an update writes just this is known besides
+pub knows_after : (known : Known) (old new : Option Held) (u : Update) (k : KnowsRegistries old known) → Tells new (with_writes k.held (writes_of u)) → KnowsRegistries new (known_after known (Updated u))
+knows_after known old new u k t = record {
+  held = t.now;
+  tells = t.tells;
+  operator = λ r. ap log_in (t.same.operators r) ∙ log_with (is_registry u.registry r) (info_by u u.operator) (k.held.operators r) (known.operator r) (k.operator r);
+  checkpoint = λ r. ap value_in (t.same.checkpoints r) ∙ value_with (is_registry u.registry r) u.checkpoint (k.held.checkpoints r) (known.checkpoint r) (k.checkpoint r);
+}
+
+-- ---- what is a client's own
+
+-- a log that is written is lawful
+abbrev pub IsLawfulWrite : Accepts → Write → Type 0
+IsLawfulWrite accepts (OperatorLog r info) = IsLawfulLog Operator accepts info.log
+IsLawfulWrite accepts (PackageLog p info) = IsLawfulLog OfPackage accepts info.log
+IsLawfulWrite accepts (LastCheckpoint r c) = Unit {0}
+
+info_is : (a b : Info) → Whole a ≡ Whole b → a ≡ b
+info_is a b e = cc
+
+-- a value that is written is so
+whole_is : (Is : Info → Type 0) (info : Info) → Is info → (i : Info) → Whole info ≡ Whole i → Is i
+whole_is Is info is i e = subst Is (info_is info i e) is
+
+module _ {K : Type 0} (Is : Info → Type 0) (is_key : K → K → Bool) (held : K → Entry Info) (key : K) where
+  read_with : (b : Bool) (k : K) (new : Entry Info) (info : Info) → ((i : Info) → new ≡ Whole i → Is i) → ((i : Info) → held k ≡ Whole i → Is i) → cond b new (held k) ≡ Whole info → Is info
+  read_with true k new info here there e = here info e
+  read_with false k new info here there e = there info e
+
+  -- each entry that can be read is still so
+  entries_with : (new : Entry Info) → ((i : Info) → new ≡ Whole i → Is i) → ((k : K) (i : Info) → held k ≡ Whole i → Is i) → (k : K) (i : Info) → with_entry is_key held key new k ≡ Whole i → Is i
+  entries_with new here there k i e = read_with (is_key key k) k new i here (there k) e
+
+module _ (accepts : Accepts) where
+  own_write : (held : Held) (w : Write) → IsOwn accepts held → IsLawfulWrite accepts w → IsOwn accepts (with_write held w)
+  own_write held (OperatorLog r info) own is = record {
+    operators = entries_with (λ i. IsLawfulLog Operator accepts i.log) is_registry held.operators r (Whole info) (whole_is (λ i. IsLawfulLog Operator accepts i.log) info is) own.operators;
+    packages = own.packages;
+  }
+  own_write held (PackageLog p info) own is = record {
+    operators = own.operators;
+    packages = entries_with (λ i. IsLawfulLog OfPackage accepts i.log) is_package held.packages p (Whole info) (whole_is (λ i. IsLawfulLog OfPackage accepts i.log) info is) own.packages;
+  }
+  own_write held (LastCheckpoint r c) own is = record { operators = own.operators; packages = own.packages }
+
+  own_without : (held : Held) (w : Write) → IsOwn accepts held → IsOwn accepts (without_write held w)
+  own_without held (OperatorLog r info) own = record {
+    operators = entries_with (λ i. IsLawfulLog Operator accepts i.log) is_registry held.operators r Unreadable (λ i e. absurd cc) own.operators;
+    packages = own.packages;
+  }
+  own_without held (PackageLog p info) own = record {
+    operators = own.operators;
+    packages = entries_with (λ i. IsLawfulLog OfPackage accepts i.log) is_package held.packages p Unreadable (λ i e. absurd cc) own.packages;
+  }
+  own_without held (LastCheckpoint r c) own = record { operators = own.operators; packages = own.packages }
+
+  own_told : (told : Option Held) (held : Held) → IsOwn accepts held → Tells told held → IsOwnStore accepts told
+  own_told told held own t = record {
+    held = t.now;
+    tells = t.tells;
+    own = record {
+      operators = λ r info e. own.operators r info (sym (t.same.operators r) ∙ e);
+      packages = λ p info e. own.packages p info (sym (t.same.packages p) ∙ e);
+    };
+  }
+
+  -- a store that holds what was its client's own, and some of what its client writes, is its client's own
+  pub own_front : (told : Option Held) (held : Held) (ws : List Write) → IsOwn accepts held → AllByRecursion (IsLawfulWrite accepts) ws → HoldsFront told held ws → IsOwnStore accepts told
+  own_front told held [] own are front = own_told told held own front
+  own_front told held (w ∷ ws) own are (inl here) = own_told told held own here
+  own_front told held (w ∷ ws) own are (inr (inl spoilt)) = own_told told (without_write held w) (own_without held w own) spoilt
+  own_front told held (w ∷ ws) own are (inr (inr later)) = own_front told (with_write held w) ws (own_write held w own are.0) are.1 later

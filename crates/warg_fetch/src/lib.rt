@@ -1,0 +1,16 @@
+//! What a plan needs of registries, fetched: the logs of packages, by updates from what stores hold, and contents, from
+//! a store or by a download.
+#![tactic(auto)]
+
+mod content;
+mod error;
+mod keep;
+mod package;
+mod registry;
+mod start;
+
+pub use content::fetch_content;
+pub use error::{FetchError, LoadError};
+pub use keep::keep_update;
+pub use package::{Fetcher, PackageUpdate};
+pub use registry::registry_for;

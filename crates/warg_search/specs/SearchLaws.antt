@@ -1,0 +1,48 @@
+-- A search goes on with each part that is learnt, and is a session where each part is right by what is known.
+use Rattle.std.proofs.Common.{◌≡◌, ℕ, List, [], ◌∷◌, ◌++◌, refl, sym, subst, Err}
+use Rattle.warg_log.specs.Rules.{Accepts}
+use Rattle.warg_exchange.specs.Requests.{Asker}
+use Rattle.warg_store.specs.Held.{Registry}
+use Rattle.warg_plan.specs.Walk.{Content, Facts, Stop}
+use Rattle.warg_assemble.specs.Known.{Known}
+use Rattle.warg_assemble.specs.Parts.{Part, known_after, known_by, learnt, learnt_by, IsPart}
+use Rattle.warg_assemble.specs.Session.{Wanted, walked, Serves, IsSession}
+use Rattle.warg_search.specs.Search.{IsLearnt, AreLearnt}
+
+module _ {T : Type 0} (w : Wanted) (Learns : T → Stop → Part → T → Type 0) where
+  -- one part more
+  pub learnt_more : (f : Facts) (old mid new : T) (parts : List Part) (p : Part) → AreLearnt w Learns f old parts mid → IsLearnt w Learns (learnt_by f parts) mid p new → AreLearnt w Learns f old (parts ++ p ∷ []) new
+  unfolding AreLearnt
+  learnt_more f old mid new [] p are one = (new, subst (λ t. IsLearnt w Learns f t p new) are one, refl)
+  learnt_more f old mid new (q ∷ parts) p are one = (are.0, are.1, learnt_more (learnt f q) are.0 mid new parts p are.2 one)
+
+  pub learns_by : (f : Facts) (parts : List Part) (p : Part) → learnt_by f (parts ++ p ∷ []) ≡ learnt (learnt_by f parts) p
+  learns_by f [] p = refl
+  learns_by f (q ∷ parts) p = learns_by (learnt f q) parts p
+
+  -- ---- sessions
+
+  -- in a state this is known
+  module _ (Knows : T → Known → Type 0) (accepts : Accepts) (asker : Registry → Asker) (Reads : Content → Type 0) where
+    -- where it is asked for and learnt, a part gives what was asked for, and is right, and is known from then on
+    pub record IsRight (old : T) (stop : Stop) (p : Part) (new : T) (known : Known) : Type 0 where
+      pub serves : Serves known stop p
+      pub is : IsPart accepts asker Reads known p
+      pub knows : Knows new (known_after known p)
+
+    pub record IsSessionFrom (known : Known) (f : Facts) (parts : List Part) (new : T) : Type 0 where
+      pub is : IsSession accepts asker Reads w known f parts
+      pub knows : Knows new (known_by known parts)
+
+    -- the parts of a search are a session, where each is right
+    pub search_session : ((old new : T) (stop : Stop) (p : Part) (known : Known) → Knows old known → Learns old stop p new → IsRight old stop p new known)
+        → (known : Known) (f : Facts) (old new : T) (parts : List Part) → Knows old known → AreLearnt w Learns f old parts new → IsSessionFrom known f parts new
+    unfolding AreLearnt IsSession
+    search_session right known f old new [] knows are = record { is = record {}; knows = subst (λ t. Knows t known) (sym are) knows }
+    search_session right known f old new (p ∷ parts) knows are =
+        let here = right old are.0 are.1.stop p known knows are.1.learns in
+        let later = search_session right (known_after known p) (learnt f p) are.0 new parts here.knows are.2 in
+        record {
+          is = (record { stop = are.1.stop; stops = are.1.stops; serves = here.serves }, here.is, later.is);
+          knows = later.knows;
+        }
