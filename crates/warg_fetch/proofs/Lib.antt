@@ -1,3 +1,4 @@
+pub mod ContentLaws
 pub mod StoredLaws
 pub mod UpdateLaws
 pub mod UpdateSteps

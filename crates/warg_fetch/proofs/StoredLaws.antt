@@ -81,7 +81,7 @@ own_still accepts old new o kept =
     let t : Tells new o.held = if_some (Tells new) old o.held o.tells kept in
     record { held = t.now; tells = t.tells; own = same_own accepts t.now o.held t.same o.own }
 
-rose_before : (a b c : ℕ) → a ≤ b → Rose b c → Rose a c
+pub rose_before : (a b c : ℕ) → a ≤ b → Rose b c → Rose a c
 rose_before a b c le rose = omega arith
 
 -- a load that is refused later is refused by what was told before

@@ -95,3 +95,7 @@ module _ (accepts : Accepts) where
   own_front told held (w ∷ ws) own are (inl here) = own_told told held own here
   own_front told held (w ∷ ws) own are (inr (inl spoilt)) = own_told told (without_write held w) (own_without held w own) spoilt
   own_front told held (w ∷ ws) own are (inr (inr later)) = own_front told (with_write held w) ws (own_write held w own are.0) are.1 later
+
+  -- and so is one that holds a front of what an update with lawful logs writes
+  pub own_after : (told : Option Held) (held : Held) (u : Update) → IsOwn accepts held → IsLawfulLog Operator accepts u.operator → IsLawfulLog OfPackage accepts u.log → HoldsFront told held (writes_of u) → IsOwnStore accepts told
+  own_after told held u own operator log front = own_front told held (writes_of u) own (operator, (log, (record {}, record {}))) front

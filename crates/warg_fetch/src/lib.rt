@@ -5,6 +5,7 @@
 mod content;
 mod error;
 mod keep;
+pub mod laws;
 mod package;
 mod registry;
 mod start;

@@ -32,6 +32,12 @@ module _ {T : Type 0} (w : Wanted) (Learns : T → Stop → Part → T → Type 
     pub parts : List Part
     pub are : AreLearnt nothing_known old parts new
 
+  -- these parts were learnt since a moment, and just what they teach is known
+  pub record IsUnderWay (old now : T) (f : Facts) : Type 0 where
+    pub parts : List Part
+    pub are : AreLearnt nothing_known old parts now
+    pub knows : f ≡ learnt_by nothing_known parts
+
   -- over what they teach the walk finds this plan
   pub record Finds (old new : T) (es : List Entry) : Type 0 where
     pub parts : List Part

@@ -1,15 +1,24 @@
--- A search goes on with each part that is learnt, and is a session where each part is right by what is known.
+-- A search goes on with each part that is learnt. Where each part is right by what is known, it is a session, and what it
+-- finds is a plan over the logs that the session proves.
 use Rattle.std.proofs.Common.{◌≡◌, ℕ, List, [], ◌∷◌, ◌++◌, refl, sym, subst, Err}
+use Rattle.std.proofs.lemmas.List.{append-nil}
+use Rattle.std.specs.List.{flat_map}
 use Rattle.warg_log.specs.Rules.{Accepts}
 use Rattle.warg_exchange.specs.Requests.{Asker}
 use Rattle.warg_store.specs.Held.{Registry}
-use Rattle.warg_plan.specs.Walk.{Content, Facts, Stop}
+use Rattle.warg_plan.specs.Walk.{Content, Facts, Stop, Entry, nothing_known}
 use Rattle.warg_assemble.specs.Known.{Known}
-use Rattle.warg_assemble.specs.Parts.{Part, known_after, known_by, learnt, learnt_by, IsPart}
-use Rattle.warg_assemble.specs.Session.{Wanted, walked, Serves, IsSession}
-use Rattle.warg_search.specs.Search.{IsLearnt, AreLearnt}
+use Rattle.warg_assemble.specs.Parts.{Part, exchanges_in, known_after, known_by, learnt, learnt_by, IsPart}
+use Rattle.warg_assemble.specs.Session.{Wanted, walked, Serves, AreOnce, IsSession, IsPlanOf}
+use Rattle.warg_assemble.specs.SessionLaws.{once, session_plan}
+use Rattle.warg_search.specs.Search.{IsLearnt, AreLearnt, Finds}
 
 module _ {T : Type 0} (w : Wanted) (Learns : T → Stop → Part → T → Type 0) where
+  -- before anything is learnt
+  pub none_learnt : (f : Facts) (t : T) → AreLearnt w Learns f t [] t
+  unfolding AreLearnt
+  none_learnt f t = refl
+
   -- one part more
   pub learnt_more : (f : Facts) (old mid new : T) (parts : List Part) (p : Part) → AreLearnt w Learns f old parts mid → IsLearnt w Learns (learnt_by f parts) mid p new → AreLearnt w Learns f old (parts ++ p ∷ []) new
   unfolding AreLearnt
@@ -45,4 +54,23 @@ module _ {T : Type 0} (w : Wanted) (Learns : T → Stop → Part → T → Type 
         record {
           is = (record { stop = are.1.stop; stops = are.1.stops; serves = here.serves }, here.is, later.is);
           knows = later.knows;
+        }
+
+    -- What a search finds is a plan over the logs that the exchanges of its parts prove; each package was updated once; and
+    -- what the parts teach is known.
+    pub record IsPlanFound (known : Known) (parts : List Part) (new : T) (es : List Entry) : Type 0 where
+      pub session : IsSession accepts asker Reads w known nothing_known parts
+      pub once : AreOnce parts
+      pub plan : IsPlanOf accepts asker Reads known (flat_map exchanges_in parts) w es
+      pub knows : Knows new (known_by known parts)
+
+    pub search_finds : ((old new : T) (stop : Stop) (p : Part) (known : Known) → Knows old known → Learns old stop p new → IsRight old stop p new known)
+        → (known : Known) (old new : T) (es : List Entry) → Knows old known → (found : Finds w Learns old new es) → IsPlanFound known found.parts new es
+    search_finds right known old new es knows found =
+        let s = search_session right known nothing_known old new found.parts knows found.are in
+        record {
+          session = s.is;
+          once = once accepts asker Reads w known nothing_known found.parts s.is;
+          plan = session_plan accepts asker Reads known w found.parts (flat_map exchanges_in found.parts) [] es (sym (append-nil (flat_map exchanges_in found.parts))) s.is found.finds;
+          knows = s.knows;
         }

@@ -19,13 +19,10 @@ module _ {T : Type 0} (Learns : T → Stop → Part → T → Type 0) where
     pub part : Part
     pub learns : Learns old asked part new
 
-  -- nothing was asked of the learner, or what it learnt is forgotten
-  abbrev pub IsNothingKnown : Stop → T → T → Type 0
-  IsNothingKnown asked old new = (new ≡ old) ⊎ IsForgotten asked old new
-
   -- why a step teaches nothing, where the walk stopped so
   abbrev pub IsStepFault : {E : Type 0} → (T → Stop → E → T → Type 0) → Stopped → T → T → SearchError E → Type 0
-  IsStepFault Refuses stopped old new (error.NoPlan stop) = (stop ≡ stopped) × (new ≡ old)
+  IsStepFault Refuses stopped old new (error.NoPlan stop) =
+      (told : Stop) × (stop_view stop ≡ Some told) × (stop ≡ stopped) × (new ≡ old)
   IsStepFault Refuses stopped old new (error.Refused e) =
       (asked : Stop) × (stop_view stopped ≡ Some asked) × Refuses old asked e new
   IsStepFault Refuses stopped old new error.Memory =

@@ -3,8 +3,8 @@
 
 mod error;
 mod learn;
-mod search;
+mod plan;
 
 pub use error::SearchError;
 pub use learn::Learn;
-pub use search::search;
+pub use plan::search_plan;

@@ -36,9 +36,11 @@ pub returns-clause-fetched : goal.returns-clause-fetched
 returns-clause-fetched g c = λ known k.
     let start = c.in_ok-start.ensures in
     let proved = c.in_ok-updated.updated.proved in
-    let p = c.in_ok-updated.ensures.proves (start.good _ k.own) in
-    (p.exchanges, fetched_by _ (asker c.args.self.now.client.now) known _ _ _ c.in_ok-registry.registry c.in_ok-start.start.registry c.args.name.now _ c.in_ok-package_update.field-0 proved.operator proved.packages.items proved.checkpoint c.in_ok-registry.ensures (start.registry known k.registries k.namespaces)
-    c.in_ok-package_update.ensures.registry c.in_ok-package_update.ensures.checkpoint (start.begins known k.registries) c.in_ok-package_update.ensures.logs p)
+    let p = c.in_ok-updated.ensures.proves (start.good _ k.own) in (
+      p.exchanges,
+      fetched_by _ (asker c.args.self.now.client.now) known _ _ _ c.in_ok-registry.registry c.in_ok-start.start.registry c.args.name.now _ c.in_ok-package_update.field-0 proved.operator proved.packages.items proved.checkpoint c.in_ok-registry.ensures (start.registry known k.registries k.namespaces)
+          c.in_ok-package_update.ensures.registry c.in_ok-package_update.ensures.checkpoint (start.begins known k.registries) c.in_ok-package_update.ensures.logs p,
+    )
 
 pub returns-clause-good : goal.returns-clause-good
 returns-clause-good g c = λ known k.

@@ -1,8 +1,10 @@
 //! The search of a plan.
 
 ghost use Rattle.std.specs.Prelude.{◌≡◌, Some, IfOk, IfErr, OnOk, OnErr};
+ghost use Rattle.warg_values.specs.Answers.{Gives};
 ghost use Rattle.warg_plan.specs.View.{facts_view, plan_view, stop_view};
 ghost use Rattle.warg_plan.specs.Walk.{NeedsContent, NeedsLog, Stop as Asked};
+ghost use Rattle.warg_assemble.specs.Session.{walked};
 ghost use Rattle.warg_search.specs.Search.{Finds, IsSearchRefusal, wanted_by};
 ghost use Rattle.warg_search.specs.Steps.{IsStep, IsStepFault};
 
@@ -76,11 +78,19 @@ fn learn<A: Learn>(
     }
 }
 
+/// The plan of a text over what is known, or why the walk finds none yet, or none at all.
+fn plan_over(alloc: Global, config: &Config, facts: &Facts) -> Result<Plan, Stop>
+    ensures { Gives stop_view plan_view result (walked (wanted_by config.now) (facts_view facts.now)) }
+{
+    let root = PlanKey::root(alloc)?;
+    find_plan(alloc, &Question { config, facts }, &root)
+}
+
 /// Searches the plan of a text.
 ///
 /// The walk over what is known finds it, or asks for something; that is learnt, and the walk begins anew, over more that is
 /// known. A stop of the walk that asks for nothing ends the search.
-pub fn search<A: Learn>(
+pub fn search_plan<A: Learn>(
     alloc: Global,
     learner: &mut A,
     config: &Config,
@@ -90,19 +100,15 @@ pub fn search<A: Learn>(
     ensures refused { IfErr result (IsSearchRefusal (wanted_by config.now) A.Learns A.Refuses
         (A.told learner.old) (A.told learner.new)) }
 {
-    let Ok(root) = PlanKey::root(alloc) else {
-        return Err(SearchError::Memory);
-    };
     let mut facts = Facts::new(alloc);
     // Each turn adds a log or a content to what is known, and no memory holds so many.
     for _ in 0..u64::MAX {
-        let question = Question {
-            config,
-            facts: &facts,
-        };
-        match find_plan(alloc, &question, &root) {
+        match plan_over(alloc, config, &facts) {
             Ok(plan) => return Ok(plan),
-            Err(stop) => learn(alloc, learner, &mut facts, stop)?,
+            Err(stop) => match learn(alloc, learner, &mut facts, stop) {
+                Ok(()) => {}
+                Err(error) => return Err(error),
+            },
         }
     }
     Err(SearchError::Memory)

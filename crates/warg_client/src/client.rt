@@ -1,0 +1,186 @@
+//! A client of registries.
+
+ghost use Rattle.std.specs.Prelude.{◌≡◌, ◌≢◌, ◌≤◌, [], codes, true, None, Ok, Err, IfOk, IfErr, IfSome, option_copied};
+ghost use Rattle.url.specs.declared.error.ParseError.{ParseError as Fault};
+ghost use Rattle.url.specs.Parts.{Parts, nonempty_host};
+ghost use Rattle.warg_url.specs.RegistryUrl.{IsLocal, IsSafe, ReadsAs, base_of};
+ghost use Rattle.warg_url.specs.declared.error.UrlError.TheVariants.{NotUrl as IsNotUrl, NotHttps as IsNotHttps, Insecure as IsInsecure};
+ghost use Rattle.warg_store.specs.Held.{Tells};
+ghost use Rattle.warg_assemble.specs.Known.{Known};
+ghost use Rattle.warg_fetch.specs.Fetched.{IsLookupFault};
+ghost use Rattle.warg_fetch.specs.Stored.{KnowsNames, KnowsRegistries, registry_for as registry_by_names};
+ghost use Rattle.warg_client.specs.Errors.{IsOfStore, url_refusal};
+ghost use Rattle.warg_client.specs.Shown.{asking, said_by, registry_of, content_of, names_of, verifier_of, decider_of, settings_of, plan_of};
+
+use crate::error::ClientError;
+use crate::settings::Settings;
+use std::alloc::Global;
+use warg_api::{Client as RegistryClient, Link};
+use warg_exchange::Exchange;
+use warg_fetch::registry_for;
+use warg_plan::Plan;
+use warg_session::Recording;
+use warg_store::{NamespaceMapStorage, RegistryStorage};
+use warg_url::{RegistryDomain, RegistryUrl};
+use warg_values::Text;
+
+/// A client of registries: whom it asks and over which link, what it keeps, and what it goes by.
+#[derive(Drop)]
+pub struct Client<L, R, C, N, V, D> {
+    /// As whom it asks registries.
+    api: RegistryClient,
+    /// The link, with the exchanges over it.
+    link: Recording<L>,
+    /// The store of registries.
+    registry: R,
+    /// The store of contents.
+    content: C,
+    /// The store of the registries of namespaces.
+    namespace_map: N,
+    /// Who says which signatures are good.
+    verifier: V,
+    /// Who decides what is not the client's own to decide.
+    decide: D,
+    /// What is set for it.
+    settings: Settings,
+    /// The plan that it found last.
+    last_plan: Option<Plan>,
+}
+
+impl<L: Link, R: Drop, C: Drop, N: Drop, V: Drop, D: Drop> Client<L, R, C, N, V, D> {
+    /// A client of the registry at a URL, which asks it over this link, keeps what it learns in these stores, and goes by
+    /// these signatures, decisions and settings.
+    ///
+    /// The URL is refused as `RegistryUrl::new` refuses it.
+    pub fn new(
+        alloc: Global,
+        url: &str,
+        link: L,
+        registry: R,
+        content: C,
+        namespace_map: N,
+        verifier: V,
+        decide: D,
+        auth_token: Option<Text>,
+        settings: Settings,
+    ) -> Result<Self, ClientError>
+        ensures asks { IfOk result (λ client. (read : Parts) × ReadsAs url.now (Ok read) × IsSafe read
+            × (asking client ≡ record { url = base_of read; auth_token = auth_token; warg_registry = None })) }
+        ensures link { IfOk result (λ client. said_by L.told client
+            ≡ record { link = L.told link; exchanges = []; is_whole = true }) }
+        ensures registry { IfOk result (λ client. registry_of client ≡ registry) }
+        ensures content { IfOk result (λ client. content_of client ≡ content) }
+        ensures names { IfOk result (λ client. names_of client ≡ namespace_map) }
+        ensures verifier { IfOk result (λ client. verifier_of client ≡ verifier) }
+        ensures decider { IfOk result (λ client. decider_of client ≡ decide) }
+        ensures settings { IfOk result (λ client. settings_of client ≡ settings) }
+        ensures plan { IfOk result (λ client. plan_of client ≡ None) }
+        ensures not_url { (result ≡ Err (url_refusal IsNotUrl)) → (e : Fault) × ReadsAs url.now (Err e) }
+        ensures not_https { (result ≡ Err (url_refusal IsNotHttps)) → (read : Parts) × ReadsAs url.now (Ok read)
+            × (read.scheme ≢ codes "https") × (read.scheme ≢ codes "http") }
+        ensures insecure { (result ≡ Err (url_refusal IsInsecure)) → (read : Parts) × ReadsAs url.now (Ok read)
+            × (read.scheme ≡ codes "http") × (IsLocal (nonempty_host read) → ⊥) }
+    {
+        let api = RegistryClient::new(alloc, url, auth_token)?;
+        Ok(Client {
+            api,
+            link: Recording::new(alloc, link),
+            registry,
+            content,
+            namespace_map,
+            verifier,
+            decide,
+            settings,
+            last_plan: None,
+        })
+    }
+
+    /// Where the home registry is.
+    pub fn url(&self) -> &RegistryUrl
+        ensures { result.now ≡ (asking self.now).url }
+    {
+        self.api.url()
+    }
+
+    /// The store of registries.
+    pub fn registry(&self) -> &R
+        ensures { result.now ≡ registry_of self.now }
+    {
+        &self.registry
+    }
+
+    /// The store of contents.
+    pub fn content(&self) -> &C
+        ensures { result.now ≡ content_of self.now }
+    {
+        &self.content
+    }
+
+    /// The store of the registries of namespaces.
+    pub fn namespace_map(&self) -> &N
+        ensures { result.now ≡ names_of self.now }
+    {
+        &self.namespace_map
+    }
+
+    /// The exchanges over the link, in order.
+    pub fn transcript(&self) -> &[Exchange]
+        ensures { result.now ≡ (said_by L.told self.now).exchanges }
+    {
+        self.link.exchanges()
+    }
+
+    /// The plan that was found last.
+    pub fn last_plan(&self) -> Option<&Plan>
+        ensures { option_copied result ≡ plan_of self.now }
+    {
+        self.last_plan.as_ref()
+    }
+
+    /// The stores: those of registries, of contents and of the registries of namespaces.
+    pub fn into_stores(self) -> (R, C, N)
+        ensures registry { result.0 ≡ registry_of self }
+        ensures content { result.1 ≡ content_of self }
+        ensures names { result.2 ≡ names_of self }
+    {
+        (self.registry, self.content, self.namespace_map)
+    }
+}
+
+impl<L: Link, R: RegistryStorage, C, N: NamespaceMapStorage, V, D> Client<L, R, C, N, V, D> {
+    /// The name of the registry that has the packages of a namespace, which the home registry has not: the one of which
+    /// the home registry's operator says so, by the log that is kept, or else the one of the map that is kept.
+    pub fn get_warg_registry(
+        &mut self,
+        alloc: Global,
+        namespace: &str,
+    ) -> Result<Option<RegistryDomain>, ClientError>
+        ensures registries_never_fall { R.faults (registry_of self.old) ≤ R.faults (registry_of self.new) }
+        ensures names_never_fall { N.faults (names_of self.old) ≤ N.faults (names_of self.new) }
+        ensures kept { IfSome (R.told (registry_of self.old)) (Tells (R.told (registry_of self.new))) }
+        ensures names_kept { N.told (names_of self.new) ≡ N.told (names_of self.old) }
+        ensures unasked { said_by L.told self.new ≡ said_by L.told self.old }
+        ensures found { IfOk result (λ registry. (known : Known)
+            → KnowsRegistries (R.told (registry_of self.old)) known → KnowsNames (N.told (names_of self.old)) known
+            → registry ≡ registry_by_names known namespace.now) }
+        ensures cause { IfErr result (λ e. IsOfStore e (λ refusal. IsLookupFault refusal
+            (record {
+              before = R.faults (registry_of self.old);
+              after = R.faults (registry_of self.new);
+              told = R.told (registry_of self.old);
+            })
+            (record {
+              before = N.faults (names_of self.old);
+              after = N.faults (names_of self.new);
+              told = N.told (names_of self.old);
+            }))) }
+    {
+        let registry = registry_for(
+            alloc,
+            &mut self.registry,
+            &mut self.namespace_map,
+            namespace,
+        )?;
+        Ok(registry)
+    }
+}

@@ -1,0 +1,76 @@
+-- How a search goes on, and how it ends.
+use Rattle.std.proofs.Common.{◌≡◌, List, [], ◌∷◌, ◌++◌, Option, Some, None, IfSome, Result, Ok, Err, refl, sym, ap, subst, ◌∙◌, inl, inr}
+use Rattle.warg_plan.specs.Walk.{Facts, Stop, Entry, nothing_known}
+use Rattle.warg_plan.specs.View.{stop_view}
+use Rattle.warg_plan.specs.declared.stop.Stop.{Stop as Stopped}
+use Rattle.warg_plan.specs.declared.stop.Stop.TheVariants as stopped
+use Rattle.warg_assemble.specs.Parts.{Part, learnt, learnt_by}
+use Rattle.warg_assemble.specs.Session.{Wanted, walked}
+use Rattle.warg_search.specs.Search.{IsLearnt, AreLearnt, IsUnderWay, HasLearnt, Finds, Stops, IsUnlearnt, IsSearchRefusal}
+use Rattle.warg_search.specs.SearchLaws.{learnt_more, learns_by}
+use Rattle.warg_search.specs.Steps.{IsStep, IsForgotten, IsStepFault}
+use Rattle.warg_search.specs.declared.error.SearchError.{SearchError}
+use Rattle.warg_search.specs.declared.error.SearchError.TheVariants as error
+
+-- a stop that is no want of memory is one of the walk's
+pub told_by : (s : Stopped) → (s ≡ stopped.Memory → ⊥) → (told : Stop) × (stop_view s ≡ Some told)
+told_by stopped.Memory h = absurd (h refl)
+told_by (stopped.NeedsLog name) h = (_, refl)
+told_by (stopped.NeedsContent name digest) h = (_, refl)
+told_by (stopped.NoPackage key) h = (_, refl)
+told_by (stopped.NoRelease name) h = (_, refl)
+told_by (stopped.BadImportName name) h = (_, refl)
+told_by (stopped.NoSuchImport key name) h = (_, refl)
+told_by (stopped.Cycle key) h = (_, refl)
+told_by stopped.TooDeep h = (_, refl)
+
+some_told : {X : Type 0} (P : X → Type 0) (o : Option X) (x : X) → o ≡ Some x → IfSome o P → P x
+some_told P o x e h = subst (λ o. IfSome o P) e h
+
+module _ {T : Type 0} (w : Wanted) (Learns : T → Stop → Part → T → Type 0) (old : T) where
+  -- the walk over what is known is the one over what was learnt
+  seen : (now : T) (f : Facts) (r : Result (List Entry) Stop) → (u : IsUnderWay w Learns old now f) → walked w f ≡ r → walked w (learnt_by nothing_known u.parts) ≡ r
+  seen now f r u e = ap (walked w) (sym u.knows) ∙ e
+
+  pub finds_by : (now : T) (f : Facts) (es : List Entry) → IsUnderWay w Learns old now f → walked w f ≡ Ok es → Finds w Learns old now es
+  finds_by now f es u e = record { parts = u.parts; are = u.are; finds = seen now f (Ok es) u e }
+
+  -- a part that is learnt where the walk stops is the next
+  learnt_next : (mid new : T) (f : Facts) (stop : Stop) (p : Part) → (u : IsUnderWay w Learns old mid f) → walked w f ≡ Err stop → Learns mid stop p new
+      → AreLearnt w Learns nothing_known old (u.parts ++ p ∷ []) new
+  learnt_next mid new f stop p u e learns =
+      learnt_more w Learns nothing_known old mid new u.parts p u.are (record { stop = stop; stops = seen mid f (Err stop) u e; learns = learns })
+
+  pub goes_on : (mid new : T) (f g : Facts) (stop : Stopped) → IsUnderWay w Learns old mid f → IfSome (stop_view stop) (λ s. walked w f ≡ Err s)
+      → (asked : Stop) → stop_view stop ≡ Some asked → IsStep Learns asked mid new f g → IsUnderWay w Learns old new g
+  goes_on mid new f g stop u stops asked told step = record {
+    parts = u.parts ++ step.part ∷ [];
+    are = learnt_next mid new f asked step.part u (some_told (λ s. walked w f ≡ Err s) (stop_view stop) asked told stops) step.learns;
+    knows = step.knows ∙ ap (λ f. learnt f step.part) u.knows ∙ sym (learns_by w Learns nothing_known u.parts step.part);
+  }
+
+  pub same_learnt : (mid new : T) (f : Facts) → new ≡ mid → IsUnderWay w Learns old mid f → HasLearnt w Learns old new
+  same_learnt mid new f same u = record { parts = u.parts; are = subst (λ t. AreLearnt w Learns nothing_known old u.parts t) (sym same) u.are }
+
+  pub refused_by : {E : Type 0} (Refuses : T → Stop → E → T → Type 0) (mid new : T) (f : Facts) (stop : Stopped) (e : SearchError E) → IsUnderWay w Learns old mid f
+      → IfSome (stop_view stop) (λ s. walked w f ≡ Err s) → IsStepFault Learns Refuses stop mid new e → IsSearchRefusal w Learns Refuses old new e
+  refused_by Refuses mid new f stop (error.NoPlan s) u stops h = record {
+    parts = u.parts;
+    are = subst (λ t. AreLearnt w Learns nothing_known old u.parts t) (sym h.3) u.are;
+    told = h.0;
+    says = h.1;
+    stops = seen mid f (Err h.0) u (some_told (λ s. walked w f ≡ Err s) (stop_view stop) h.0 (ap stop_view (sym h.2) ∙ h.1) stops);
+  }
+  refused_by Refuses mid new f stop (error.Refused e) u stops h = record {
+    parts = u.parts;
+    before = mid;
+    are = u.are;
+    stop = h.0;
+    stops = seen mid f (Err h.0) u (some_told (λ s. walked w f ≡ Err s) (stop_view stop) h.0 h.1 stops);
+    refuses = h.2;
+  }
+  refused_by Refuses mid new f stop error.Memory u stops (inl same) = same_learnt mid new f same u
+  refused_by Refuses mid new f stop error.Memory u stops (inr h) = record {
+    parts = u.parts ++ h.2.part ∷ [];
+    are = learnt_next mid new f h.0 h.2.part u (some_told (λ s. walked w f ≡ Err s) (stop_view stop) h.0 h.1 stops) h.2.learns;
+  }
