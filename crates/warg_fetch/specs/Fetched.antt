@@ -3,7 +3,7 @@ use Rattle.std.specs.Prelude.{◌≡◌, ◌⊎◌, ℕ, List, [], ◌∷◌, Op
 use Rattle.warg_log.specs.Rules.{Accepts}
 use Rattle.warg_exchange.specs.declared.exchange.Exchange.{Exchange}
 use Rattle.warg_exchange.specs.Requests.{Asker}
-use Rattle.warg_info.specs.Info.{operator_log, package_log}
+use Rattle.warg_info.specs.Info.{operator_log, package_log, IsSoundOperator, IsSoundPackage}
 use Rattle.warg_info.specs.declared.package.PackageInfo.{PackageInfo}
 use Rattle.warg_page.specs.Steps.{IsGood, IsGoodOperator}
 use Rattle.warg_api.specs.Link.{Asked}
@@ -54,6 +54,11 @@ pub record IsFetched {T : Type 0} (accepts : Accepts) (asker : Registry → Aske
   pub proves : Proves accepts (asker u.registry) (start_of known u.registry u.name) u.exchanges (logs_of u) u.checkpoint
 
 -- ---- what is good
+
+-- its infos are sound
+pub record IsSoundUpdate (got : PackageUpdate) : Type 0 where
+  pub operator : IsSoundOperator got.operator
+  pub info : IsSoundPackage got.info
 
 -- its infos are sound, and their logs lawful by these signatures
 pub record IsGoodUpdate (accepts : Accepts) (got : PackageUpdate) : Type 0 where

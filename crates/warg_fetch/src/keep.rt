@@ -1,10 +1,9 @@
 //! What a store keeps of an update.
 
 ghost use Rattle.std.specs.Prelude.{◌≤◌, IfErr, IfSome, OnErr, OnOk};
-ghost use Rattle.warg_info.specs.Info.{IsSoundOperator, IsSoundPackage};
 ghost use Rattle.warg_store.specs.Entry.{IsStoreFault};
 ghost use Rattle.warg_store.specs.Held.{Tells};
-ghost use Rattle.warg_fetch.specs.Fetched.{writes_in};
+ghost use Rattle.warg_fetch.specs.Fetched.{IsSoundUpdate, writes_in};
 ghost use Rattle.warg_fetch.specs.Writes.{HoldsFront, with_writes};
 
 use crate::package::PackageUpdate;
@@ -19,8 +18,7 @@ pub fn keep_update<R: RegistryStorage>(
     registries: &mut R,
     update: &PackageUpdate,
 ) -> Result<(), StoreError>
-    requires operator { IsSoundOperator update.now.operator }
-    requires info { IsSoundPackage update.now.info }
+    requires { IsSoundUpdate update.now }
     ensures never_falls { R.faults registries.old ≤ R.faults registries.new }
     ensures stored { OnOk result (IfSome (R.told registries.old) (λ held.
         Tells (R.told registries.new) (with_writes held (writes_in update.now)))) }

@@ -7,14 +7,14 @@ ghost use Rattle.warg_log.specs.Rules.{Accepts};
 ghost use Rattle.warg_exchange.specs.declared.exchange.Exchange.{Exchange as Said};
 ghost use Rattle.warg_api.specs.Asking.{asker};
 ghost use Rattle.warg_page.specs.Steps.{AreGood, IsGoodOperator};
-ghost use Rattle.warg_page.specs.Views.{logs_view};
+ghost use Rattle.warg_page.specs.Views.{AreSound, logs_view};
 ghost use Rattle.warg_session.specs.Recording.{link_of, transcript};
 ghost use Rattle.warg_session.specs.Updating.{IsBegun, IsUpdateRefusal};
 ghost use Rattle.warg_session.specs.declared.error.UpdateRefusal.TheVariants.{LinkFault as IsLinkFault};
 ghost use Rattle.warg_store.specs.Held.{Tells};
 ghost use Rattle.warg_assemble.specs.Known.{Known, registry_of};
 ghost use Rattle.warg_assemble.specs.Parts.{logs_of, start_of};
-ghost use Rattle.warg_fetch.specs.Fetched.{IsFetchFault, IsFetched, IsGoodUpdate, IsOpeningFault, IsSingle, update_of, writes_in};
+ghost use Rattle.warg_fetch.specs.Fetched.{IsFetchFault, IsFetched, IsGoodUpdate, IsOpeningFault, IsSingle, IsSoundUpdate, update_of, writes_in};
 ghost use Rattle.warg_fetch.specs.Stored.{Knows};
 ghost use Rattle.warg_fetch.specs.Writes.{writes_of};
 ghost use Rattle.warg_fetch.specs.declared.error.FetchError.TheVariants.{Update as IsUpdateFault};
@@ -83,6 +83,8 @@ fn package_update(
     ensures checkpoint { IfOk result (λ got. got.checkpoint ≡ updated.proved.checkpoint) }
     ensures writes { IfOk result (λ got. (xs : List Said) → writes_in got ≡ writes_of (update_of got xs)) }
     ensures pages { IfOk result (λ got. got.pages_left ≡ updated.pages_left) }
+    ensures sound { IfOk result (λ got. AreSound updated.proved.operator updated.proved.packages.items
+        → IsSoundUpdate got) }
     ensures good { IfOk result (λ got. (accepts : Accepts) → IsGoodOperator accepts updated.proved.operator
         → AreGood accepts updated.proved.packages.items → IsGoodUpdate accepts got) }
 {

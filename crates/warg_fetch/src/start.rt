@@ -5,6 +5,7 @@ ghost use Rattle.warg_hash.specs.Hash.{package_log_id};
 ghost use Rattle.warg_log.specs.Rules.{Accepts};
 ghost use Rattle.warg_info.specs.Info.{operator_log, IsSoundOperator};
 ghost use Rattle.warg_page.specs.Steps.{id_of};
+ghost use Rattle.warg_page.specs.Views.{AreSound};
 ghost use Rattle.warg_session.specs.Updating.{IsGoodStart, start_view};
 ghost use Rattle.warg_store.specs.Entry.{IsLoadFault};
 ghost use Rattle.warg_store.specs.Held.{Tells};
@@ -57,6 +58,7 @@ fn start_of<R: RegistryStorage>(
         → start_view start ≡ start_by known registry name.now) }
     ensures good { IfOk result (λ start. (accepts : Accepts) → IsOwnStore accepts (R.told registries.old)
         → IsGoodStart accepts start) }
+    ensures sound { IfOk result (λ start. AreSound start.operator start.packages.items) }
     ensures ids { IfOk result (λ start. map id_of start.packages.items ≡ package_log_id name.now ∷ []) }
     ensures fault { IfErr result (λ e. IsStartFault e registry
         (record {
@@ -95,6 +97,7 @@ pub fn load_start<R: RegistryStorage, N: NamespaceMapStorage>(
         → start_view start ≡ start_by known start.registry name.now) }
     ensures good { IfOk result (λ start. (accepts : Accepts) → IsOwnStore accepts (R.told registries.old)
         → IsGoodStart accepts start) }
+    ensures sound { IfOk result (λ start. AreSound start.operator start.packages.items) }
     ensures ids { IfOk result (λ start. map id_of start.packages.items ≡ package_log_id name.now ∷ []) }
     ensures fault { IfErr result (λ e. (known : Known) → KnowsRegistries (R.told registries.old) known
         → KnowsNames (N.told namespaces.old) known → IsOpeningFault e (registry_of known name.now)
