@@ -9,7 +9,7 @@ use Rattle.warg_store.specs.declared.error.StoreError.{StoreError}
 use Rattle.warg_store.specs.declared.error.StoreError.TheVariants as store
 use Rattle.warg_assemble.specs.Known.{Known}
 use Rattle.warg_assemble.specs.Parts.{Comes}
-use Rattle.warg_fetch.specs.Loaded.{IsContentFetched, IsLoadRefusal, IsStoreCause, IsUnstored}
+use Rattle.warg_fetch.specs.Loaded.{IsContentFetched, IsLoadRefusal, IsStoreCause}
 use Rattle.warg_fetch.specs.Stored.{KnowsContents}
 use Rattle.warg_fetch.specs.declared.error.LoadError.{LoadError}
 use Rattle.warg_fetch.specs.declared.error.LoadError.TheVariants as error

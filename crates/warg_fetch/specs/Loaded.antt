@@ -4,7 +4,6 @@ use Rattle.warg_exchange.specs.declared.exchange.Exchange.{Exchange}
 use Rattle.warg_exchange.specs.Requests.{Asker}
 use Rattle.warg_api.specs.Download.{Downloads, IsDownloadFault}
 use Rattle.warg_api.specs.Link.{Asked}
-use Rattle.warg_api.specs.declared.error.ClientError.{ClientError}
 use Rattle.warg_session.specs.Recording.{Transcript, IsRecorded, AreKept}
 use Rattle.warg_store.specs.declared.error.StoreError.{StoreError}
 use Rattle.warg_store.specs.Contents.{Contents, TellsContents, LeavesContent, IsContentFault, IsStoreContentFault, with_content}

@@ -1,13 +1,12 @@
 -- What is known, and what is a client's own, after what an update writes.
-use Rattle.std.proofs.Common.{◌≡◌, ℕ, Bool, true, false, cond, List, [], ◌∷◌, Option, Some, None, refl, sym, ap, subst, ◌∙◌, inl, inr}
+use Rattle.std.proofs.Common.{◌≡◌, Bool, true, false, cond, List, [], ◌∷◌, Option, Some, refl, sym, ap, subst, ◌∙◌, inl, inr}
 use Rattle.std.specs.List.{AllByRecursion}
 use Rattle.warg_record.specs.Record.{Operator, Package as OfPackage}
 use Rattle.warg_log.specs.Rules.{Accepts}
-use Rattle.warg_exchange.specs.declared.checkpoint.SignedCheckpoint.{SignedCheckpoint}
 use Rattle.warg_info.specs.Info.{IsLawfulLog}
 use Rattle.warg_info.specs.Kept.{Kept}
-use Rattle.warg_store.specs.Entry.{Entry, Absent, Whole, Unreadable, SameEntries, with_entry}
-use Rattle.warg_store.specs.Held.{Registry, Package, Info, Held, SameHeld, Tells, is_registry, is_package}
+use Rattle.warg_store.specs.Entry.{Entry, Whole, Unreadable, with_entry}
+use Rattle.warg_store.specs.Held.{Info, Held, Tells, is_registry, is_package}
 use Rattle.warg_assemble.specs.Known.{Known}
 use Rattle.warg_assemble.specs.Parts.{Update, Updated, known_after}
 use Rattle.warg_fetch.specs.Stored.{value_in, log_in, KnowsRegistries, IsOwn, IsOwnStore}

@@ -2,7 +2,7 @@
 use Rattle.std.specs.Prelude.{◌⊎◌, List, [], ◌∷◌, Option, Some}
 use Rattle.warg_exchange.specs.declared.checkpoint.SignedCheckpoint.{SignedCheckpoint}
 use Rattle.warg_info.specs.Kept.{Kept}
-use Rattle.warg_store.specs.Entry.{Entry, Whole, Unreadable}
+use Rattle.warg_store.specs.Entry.{Whole, Unreadable}
 use Rattle.warg_store.specs.Held.{Registry, Package, Info, Held, Tells, with_checkpoint, with_operator, with_package}
 use Rattle.warg_assemble.specs.Parts.{Update}
 

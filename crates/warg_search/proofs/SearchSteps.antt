@@ -1,14 +1,14 @@
 -- How a search goes on, and how it ends.
-use Rattle.std.proofs.Common.{◌≡◌, List, [], ◌∷◌, ◌++◌, Option, Some, None, IfSome, Result, Ok, Err, refl, sym, ap, subst, ◌∙◌, inl, inr}
+use Rattle.std.proofs.Common.{◌≡◌, List, [], ◌∷◌, ◌++◌, Option, Some, IfSome, Result, Ok, Err, refl, sym, ap, subst, ◌∙◌, inl, inr}
 use Rattle.warg_plan.specs.Walk.{Facts, Stop, Entry, nothing_known}
 use Rattle.warg_plan.specs.View.{stop_view}
 use Rattle.warg_plan.specs.declared.stop.Stop.{Stop as Stopped}
 use Rattle.warg_plan.specs.declared.stop.Stop.TheVariants as stopped
 use Rattle.warg_assemble.specs.Parts.{Part, learnt, learnt_by}
 use Rattle.warg_assemble.specs.Session.{Wanted, walked}
-use Rattle.warg_search.specs.Search.{IsLearnt, AreLearnt, IsUnderWay, HasLearnt, Finds, Stops, IsUnlearnt, IsSearchRefusal}
+use Rattle.warg_search.specs.Search.{AreLearnt, IsUnderWay, HasLearnt, Finds, IsSearchRefusal}
 use Rattle.warg_search.specs.SearchLaws.{learnt_more, learns_by}
-use Rattle.warg_search.specs.Steps.{IsStep, IsForgotten, IsStepFault}
+use Rattle.warg_search.specs.Steps.{IsStep, IsStepFault}
 use Rattle.warg_search.specs.declared.error.SearchError.{SearchError}
 use Rattle.warg_search.specs.declared.error.SearchError.TheVariants as error
 

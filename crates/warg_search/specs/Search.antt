@@ -1,5 +1,5 @@
 -- The search of a plan: its parts in turn, each learnt where the walk asks for it, and what it ends with.
-use Rattle.std.specs.Prelude.{◌≡◌, ◌⊎◌, ℕ, List, [], ◌∷◌, codes, Option, Some, Ok, Err}
+use Rattle.std.specs.Prelude.{◌≡◌, List, [], ◌∷◌, codes, Some, Ok, Err}
 use Rattle.compose_config.specs.View.{settings_of}
 use Rattle.compose_config.specs.declared.config.Config.{Config}
 use Rattle.warg_plan.specs.Keys.{Named}

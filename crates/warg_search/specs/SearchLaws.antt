@@ -1,6 +1,6 @@
 -- A search goes on with each part that is learnt. Where each part is right by what is known, it is a session, and what it
 -- finds is a plan over the logs that the session proves.
-use Rattle.std.proofs.Common.{◌≡◌, ℕ, List, [], ◌∷◌, ◌++◌, refl, sym, subst, Err}
+use Rattle.std.proofs.Common.{◌≡◌, List, [], ◌∷◌, ◌++◌, refl, sym, subst}
 use Rattle.std.proofs.lemmas.List.{append-nil}
 use Rattle.std.specs.List.{flat_map}
 use Rattle.warg_log.specs.Rules.{Accepts}
@@ -9,7 +9,7 @@ use Rattle.warg_store.specs.Held.{Registry}
 use Rattle.warg_plan.specs.Walk.{Content, Facts, Stop, Entry, nothing_known}
 use Rattle.warg_assemble.specs.Known.{Known}
 use Rattle.warg_assemble.specs.Parts.{Part, exchanges_in, known_after, known_by, learnt, learnt_by, IsPart}
-use Rattle.warg_assemble.specs.Session.{Wanted, walked, Serves, AreOnce, IsSession, IsPlanOf}
+use Rattle.warg_assemble.specs.Session.{Wanted, Serves, AreOnce, IsSession, IsPlanOf}
 use Rattle.warg_assemble.specs.SessionLaws.{once, session_plan}
 use Rattle.warg_search.specs.Search.{IsLearnt, AreLearnt, Finds}
 

@@ -1,4 +1,4 @@
-use Rattle.std.proofs.Common.{arith, ap, ◌∙◌}
+use Rattle.std.proofs.Common.{arith}
 use Rattle.std.proofs.lemmas.Result.{err_from_is_err_and}
 use Rattle.warg_api.specs.Asking.{asker}
 use Rattle.warg_fetch.proofs.UpdateSteps.{store_fault, update_fault, begun_by, cause_by, fetched_by, named_by}
