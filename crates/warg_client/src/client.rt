@@ -48,8 +48,8 @@ pub struct Client<L, R, C, N, V, D> {
 }
 
 impl<L: Link, R: Drop, C: Drop, N: Drop, V: Drop, D: Drop> Client<L, R, C, N, V, D> {
-    /// A client of the registry at a URL, which asks it over this link, keeps what it learns in these stores, and goes by
-    /// these signatures, decisions and settings.
+    /// A client of the registry at a URL, which asks it over this link, keeps what it learns in these stores, and goes
+    /// by these signatures, decisions and settings.
     ///
     /// The URL is refused as `RegistryUrl::new` refuses it.
     pub fn new(

@@ -76,14 +76,17 @@ pub record Loads (T : Type 0) : Type 0 where
 -- which registry has the packages of a namespace can't be loaded
 abbrev pub IsLookupFault : StoreError → Loads Held → Loads (Entry Names) → Type 0
 IsLookupFault e registries names =
-    IsLoadFault e kind.Operator registries.before registries.after (option_map (λ (h : Held). h.operators None) registries.told)
+    IsLoadFault e kind.Operator registries.before registries.after
+    (option_map (λ (h : Held). h.operators None) registries.told)
     ⊎ IsLoadFault e kind.Namespaces names.before names.after names.told
 
 -- what is kept of a registry can't be loaded
 abbrev pub IsStartFault : StoreError → Registry → Loads Held → Type 0
 IsStartFault e r registries =
-    IsLoadFault e kind.Operator registries.before registries.after (option_map (λ (h : Held). h.operators r) registries.told)
-    ⊎ IsLoadFault e kind.Checkpoint registries.before registries.after (option_map (λ (h : Held). h.checkpoints r) registries.told)
+    IsLoadFault e kind.Operator registries.before registries.after
+    (option_map (λ (h : Held). h.operators r) registries.told)
+    ⊎ IsLoadFault e kind.Checkpoint registries.before registries.after
+    (option_map (λ (h : Held). h.checkpoints r) registries.told)
 
 -- what an update begins with can't be loaded
 abbrev pub IsOpeningFault : StoreError → Registry → Loads Held → Loads (Entry Names) → Type 0

@@ -52,7 +52,8 @@ module _ {T : Type 0} (a : Asker) (digest : List ℕ) (Steps : T → Asked → T
   -- gives nothing. Want of memory says nothing
   abbrev pub IsLoadRefusal : LoadError → Loads Contents → Type 0
   IsLoadRefusal (error.Store e) contents =
-      IsContentFault e digest contents.before contents.after (option_map (λ (held : Contents). held digest) contents.told)
+      IsContentFault e digest contents.before contents.after
+      (option_map (λ (held : Contents). held digest) contents.told)
       ⊎ IsUnstored e contents.before contents.after
   IsLoadRefusal (error.Call e) contents =
       IfSome contents.told (λ held. held digest ≡ None) × IsDownloadFault a digest e (IsRecorded Steps) begun now

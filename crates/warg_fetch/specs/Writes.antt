@@ -27,11 +27,12 @@ abbrev pub with_writes : Held → List Write → Held
 with_writes held [] = held
 with_writes held (w ∷ ws) = with_writes (with_write held w) ws
 
--- A refused store tells that it holds what was held with a front of the writes; the entry of the write behind them may be
--- one that can't be read.
+-- A refused store tells that it holds what was held with a front of the writes; the entry of the write behind them may
+-- be one that can't be read.
 abbrev pub HoldsFront : Option Held → Held → List Write → Type 0
 HoldsFront told held [] = Tells told held
-HoldsFront told held (w ∷ ws) = Tells told held ⊎ Tells told (without_write held w) ⊎ HoldsFront told (with_write held w) ws
+HoldsFront told held (w ∷ ws) =
+    Tells told held ⊎ Tells told (without_write held w) ⊎ HoldsFront told (with_write held w) ws
 
 -- a log that an update proves, as it is kept
 abbrev pub info_by : Update → List Kept → Info

@@ -98,8 +98,8 @@ pub fn fetch_content<L: Link, C: ContentStorage>(
     ensures refused { OnErr result (IfSome (C.told contents.old) (λ held.
         LeavesFetch (asker client.now (option_copied registry.entry)) digest.now L.Steps
         (transcript L.told link.old) (transcript L.told link.new) (C.told contents.new) held)) }
-    ensures cause { IfErr result (λ e. IsLoadRefusal (asker client.now (option_copied registry.entry)) digest.now L.Steps
-        (transcript L.told link.old) (transcript L.told link.new) e
+    ensures cause { IfErr result (λ e. IsLoadRefusal (asker client.now (option_copied registry.entry)) digest.now
+        L.Steps (transcript L.told link.old) (transcript L.told link.new) e
         (record { before = C.faults contents.old; after = C.faults contents.new; told = C.told contents.old })) }
 {
     match contents.load_content(alloc, digest)? {

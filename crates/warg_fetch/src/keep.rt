@@ -11,8 +11,8 @@ use std::alloc::Global;
 use warg_store::{RegistryStorage, StoreError};
 
 /// Keeps what the update of a package has proved: the log of the registry's operator, that of the package, and then the
-/// checkpoint, under the registry that the package's log is of. A refusal leaves a front of these; the one behind it may
-/// be one that can't be read.
+/// checkpoint, under the registry that the package's log is of. A refusal leaves a front of these; the one behind it
+/// may be one that can't be read.
 pub fn keep_update<R: RegistryStorage>(
     alloc: Global,
     registries: &mut R,

@@ -16,8 +16,8 @@ pub fn what_is_kept_is_known()
         → Tells new (with_writes before.held (writes_of u)) → KnowsRegistries new (known_after known (Updated u)) }
 {}
 
-/// A store that its client alone has filled is so still once it holds a front of what an update writes, where the logs of
-/// the update are lawful.
+/// A store that its client alone has filled is so still once it holds a front of what an update writes, where the logs
+/// of the update are lawful.
 pub fn what_is_kept_is_own()
     ensures { (accepts : Accepts) (told : Option Held) (held : Held) (u : Update) → IsOwn accepts held
         → IsLawfulLog Operator accepts u.operator → IsLawfulLog Package accepts u.log

@@ -108,8 +108,8 @@ fn package_update(
 }
 
 impl<V: Verifier> Fetcher<'_, V> {
-    /// Updates the log of a package, from the beginning on, under the registry that has the package by what is kept, and
-    /// behind the operator's log and the checkpoint that are kept of that registry. Nothing is kept of it yet.
+    /// Updates the log of a package, from the beginning on, under the registry that has the package by what is kept,
+    /// and behind the operator's log and the checkpoint that are kept of that registry. Nothing is kept of it yet.
     ///
     /// The stores are asked before the registry is: a store's refusal is the first that is answered.
     pub fn update_package<L: Link, R: RegistryStorage, N: NamespaceMapStorage, D: Decide>(

@@ -18,8 +18,8 @@ use warg_store::{EntryKind, NamespaceMapStorage, RegistryStorage, StoreError};
 use warg_url::RegistryDomain;
 use warg_values::{Memory, Text};
 
-/// What a registry's operator says of a namespace, where it says something: that its registry has the packages, or which
-/// one has them.
+/// What a registry's operator says of a namespace, where it says something: that its registry has the packages, or
+/// which one has them.
 fn said_of(
     alloc: Global,
     operator: &OperatorInfo,

@@ -43,8 +43,8 @@ fn operator_of<R: RegistryStorage>(
     }
 }
 
-/// What the update of a package under a registry begins with: the operator's log and the checkpoint that are kept of the
-/// registry, and an empty log of the package.
+/// What the update of a package under a registry begins with: the operator's log and the checkpoint that are kept of
+/// the registry, and an empty log of the package.
 fn start_of<R: RegistryStorage>(
     alloc: Global,
     registries: &mut R,
@@ -79,8 +79,8 @@ fn start_of<R: RegistryStorage>(
     })
 }
 
-/// What the update of a package begins with: its registry's name, by what is kept of the home registry and of namespaces;
-/// the operator's log and the checkpoint that are kept of that registry; and an empty log of the package.
+/// What the update of a package begins with: its registry's name, by what is kept of the home registry and of
+/// namespaces; the operator's log and the checkpoint that are kept of that registry; and an empty log of the package.
 pub fn load_start<R: RegistryStorage, N: NamespaceMapStorage>(
     alloc: Global,
     registries: &mut R,

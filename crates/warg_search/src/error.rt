@@ -1,12 +1,8 @@
 //! Why no plan is found.
 
-ghost use Rattle.std.specs.Prelude.{◌≡◌};
-
-use std::alloc::{AllocError, AllocFailed};
 use std::fmt;
 use thiserror::Error;
 use warg_plan::Stop;
-use warg_values::Memory;
 
 /// Why no plan is found.
 #[derive(Debug, Drop, Error)]

@@ -1,6 +1,6 @@
 //! The search of a plan.
 
-ghost use Rattle.std.specs.Prelude.{◌≡◌, Some, IfOk, IfErr, OnOk, OnErr};
+ghost use Rattle.std.specs.Prelude.{◌≡◌, Some, IfOk, IfErr, OnOk};
 ghost use Rattle.warg_values.specs.Answers.{Gives};
 ghost use Rattle.warg_plan.specs.View.{facts_view, plan_view, stop_view};
 ghost use Rattle.warg_plan.specs.Walk.{NeedsContent, NeedsLog, Stop as Asked};
@@ -88,8 +88,8 @@ fn plan_over(alloc: Global, config: &Config, facts: &Facts) -> Result<Plan, Stop
 
 /// Searches the plan of a text.
 ///
-/// The walk over what is known finds it, or asks for something; that is learnt, and the walk begins anew, over more that is
-/// known. A stop of the walk that asks for nothing ends the search.
+/// The walk over what is known finds it, or asks for something; that is learnt, and the walk begins anew, over more
+/// that is known. A stop of the walk that asks for nothing ends the search.
 pub fn search_plan<A: Learn>(
     alloc: Global,
     learner: &mut A,
