@@ -1,5 +1,0 @@
-pub mod FirstLaws
-pub mod OtherLaws
-pub mod PartLaws
-pub mod ShapeLaws
-pub mod NameLaws
