@@ -1,6 +1,6 @@
 //! Laws of shapes: each is a function that does nothing, and is proved of all bytes.
 
-ghost use Rattle.std.specs.Prelude.{◌≡◌, ◌<◌, ◌×◌, All, List, length, ℕ};
+ghost use Rattle.std.specs.Prelude.{◌≡◌, ◌<◌, All, List, length, ℕ};
 ghost use Rattle.comp_entity.specs.Entity.{ShapeTree};
 ghost use Rattle.comp_shape.specs.Refusal.{IsRefused};
 ghost use Rattle.comp_shape.specs.Shape.{HasShape};
