@@ -110,12 +110,12 @@ fn build(alloc: Global, component: &Component<'_>) -> Result<ComponentBuilder, E
     Ok(builder)
 }
 
-/// The component that nests `component`, makes one instance of it, and exports that instance's exports, of whatever sort.
+/// The component that nests `component`, makes one instance of it, and exports that instance's exports, of every sort.
 ///
-/// `NotBuilt` is answered exactly where the component imports something, or an export mentions a resource: such
-/// components are not linked yet. `TooLarge` is answered exactly where a length, a count or an index to be written is
-/// above 2^32 - 1, and has that number: the length of the component, of a name, of a section or of its items, or the
-/// number of items of a sort.
+/// `NotBuilt` is answered exactly where the component imports something, or an export mentions a resource: such a
+/// component is not linked yet. `TooLarge` is answered exactly where a length, a count or an index to be written is above
+/// 2^32 - 1, and has that number: the length of the component, of a name, of a section or of its items, or the number of
+/// items of one sort.
 pub fn link_root(alloc: Global, component: &Component<'_>) -> Result<Vec<u8>, ComposeError>
     ensures linked { IfOk result
         (λ bytes. IsLinked (bytes_of component.now) (link_exports (shape_of component.now)) bytes.items) }
