@@ -148,10 +148,7 @@ fn what_is_no_component_or_is_not_linked_yet_is_refused(rt: HostRuntime) -> Resu
         ("a resource", RESOURCE, "refused NotBuilt\n"),
     ];
     for (name, root, line) in rows {
-        assert!(rt;
-            ends(rt.alloc(), of_root(root), 6, line, None)?,
-            "{name}"
-        );
+        assert!(rt; ends(rt.alloc(), of_root(root), 6, line, None)?, "{name}");
     }
     Ok(())
 }
