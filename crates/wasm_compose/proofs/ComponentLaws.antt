@@ -31,5 +31,5 @@ is_read bytes h = case (component_at (length bytes) bytes) refl h
 -- what holds of the names of trees holds of the names of what they show
 pub all_named : (es : List (List ℕ × Entity)) → All (λ e. 0 < length e.0) (named_entities es) → All (λ e. 0 < length e.0) es
 all_named es h = λ i d lt.
-    subst (λ (name : List ℕ). 0 < length name) (ap (λ e. e.0) (get_or-map (λ (e : List ℕ × Entity). (e.0, entity_tree e.1)) es i d (d.0, entity_tree d.1) lt))
+    subst (λ (name : List ℕ). 0 < length name) (ap (λ (e : List ℕ × EntityTree). e.0) (get_or-map (λ (e : List ℕ × Entity). (e.0, entity_tree e.1)) es i d (d.0, entity_tree d.1) lt))
     (h i (d.0, entity_tree d.1) (omega (arith, lt, length-map {B = List ℕ × EntityTree} es (λ e. (e.0, entity_tree e.1)))))
