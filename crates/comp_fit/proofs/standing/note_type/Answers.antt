@@ -1,8 +1,8 @@
 use Rattle.std.proofs.lemmas.Result.{IfOk-weaker}
 use Rattle.comp_fit.specs.Standing.{resource_head}
-use Rattle.comp_instance.specs.StandingFor.{for_resource, place_head, place_stands, value_place}
-use Rattle.comp_instance.proofs.StandingLaws.{adds_both}
-use Rattle.comp_instance.proofs.standing_for.note_type.Goals as goal
+use Rattle.comp_fit.specs.Standing.{for_resource, place_head, place_stands, value_place}
+use Rattle.comp_fit.proofs.StandingLaws.{adds_both}
+use Rattle.comp_fit.proofs.standing.note_type.Goals as goal
 
 pub returns : goal.returns
 returns c =

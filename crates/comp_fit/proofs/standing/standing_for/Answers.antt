@@ -1,6 +1,6 @@
 use Rattle.comp_entity.specs.Fits.{stands}
-use Rattle.comp_instance.proofs.StandingLaws.{found_is_all}
-use Rattle.comp_instance.proofs.standing_for.standing_for.Goals as goal
+use Rattle.comp_fit.proofs.StandingLaws.{found_is_all}
+use Rattle.comp_fit.proofs.standing.standing_for.Goals as goal
 
 pub returns : goal.returns
 returns c = λ given asked s u.

@@ -1,9 +1,9 @@
 use Rattle.std.proofs.Common.{rules, ◌≡◌, subst, None, Some}
 use Rattle.std.specs.BTreeMap.{get, Updates}
-use Rattle.comp_instance.proofs.StandingLaws.{adds_place}
-use Rattle.comp_instance.specs.StandingFor.{called_cmp}
-use Rattle.comp_instance.specs.declared.standing_for.Called.{Called}
-use Rattle.comp_instance.proofs.standing_for.add_place.Goals as goal
+use Rattle.comp_fit.proofs.StandingLaws.{adds_place}
+use Rattle.comp_fit.specs.Standing.{called_cmp}
+use Rattle.comp_fit.specs.declared.standing.Called.{Called}
+use Rattle.comp_fit.proofs.standing.add_place.Goals as goal
 
 pub returns-in_ok-insert-in-None : goal.returns-in_ok-insert-in-None
 returns-in_ok-insert-in-None c =
