@@ -38,6 +38,23 @@ alias_counts kind old new name e =
     ap (next_index kind) e ∙ ap (numbered kind) (items_push old item) ∙ sum_by-append _ (items_of old) (item ∷ [])
     ∙ ap (λ b. numbered kind (items_of old) + (0 + cond b 1 0)) (eq-eqb (space_of kind) (space_of kind) refl)
 
+-- What was added so far are the component and its instance.
+module _ (entries : List Entry) (root : List ℕ) (begun : entries ≡ singles (instance_items root)) where
+  pub begun_items : items_of entries ≡ instance_items root
+  begun_items = ap items_of begun ∙ items_single (instance_items root)
+
+  pub begun_single : entries ≡ singles (items_of entries)
+  begun_single = begun ∙ ap singles (sym begun_items)
+
+  pub begun_room : (kind : Sort) → next_index kind entries < 2 ^ 32
+  begun_room kind = subst (λ n. n < 2 ^ 32) (sym (next_is kind entries (instance_items root) begun)) (by (eqb (space_of sort.Component) (space_of kind)) (eqb (space_of sort.Instance) (space_of kind)))
+    where
+      by : (b c : Bool) → 0 + cond b 1 0 + cond c 1 0 < 2 ^ 32
+      by true true = omega arith
+      by true false = omega arith
+      by false true = omega arith
+      by false false = omega arith
+
 -- two items more in the index space of the export's sort, and none in the others
 pub more_of : (kind : Sort) (items : List ItemTree) (e : NamedSort) → numbered kind (linking items e) ≡ numbered kind items + cond (eqb (space_of e.1) (space_of kind)) 2 0
 more_of kind items e = sum_by-append _ items (link_export (numbered e.1 items) e) ∙ ap (λ n. numbered kind items + n) (by (eqb (space_of e.1) (space_of kind)))
