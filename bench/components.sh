@@ -6,6 +6,7 @@
 #   aliases N     a type, and N outer aliases, each of the one before
 #   instances N   a component with 100 exports, nested, and N instances of it
 #   doubled N     18 tuples, each of the one before twice, and N lists of the last but one
+#   sections N    N blocks of about a megabyte, each of custom sections, core modules and nested components
 #
 # usage: components.sh KIND N
 set -eu
@@ -79,6 +80,9 @@ case $kind in
     exports)
         "$here/root.sh" "$count"
         ;;
+    sections)
+        "$here/sections.sh" "$count"
+        ;;
     instances)
         inner=$(mktemp)
         trap 'rm -f "$inner"' EXIT
@@ -93,7 +97,7 @@ case $kind in
         sections
         ;;
     *)
-        printf 'components.sh: %s is no kind: exports, types, aliases, instances or doubled\n' "$kind" >&2
+        printf 'components.sh: %s is no kind: exports, types, aliases, instances, doubled or sections\n' "$kind" >&2
         exit 2
         ;;
 esac

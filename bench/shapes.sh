@@ -11,7 +11,7 @@ set -eu
 here=$(CDPATH='' cd -- "$(dirname "$0")" && pwd -P)
 . "$here/measure.sh"
 [ $# -gt 0 ] || set -- exports 100000 exports 200000 exports 400000 types 50000 types 100000 aliases 250000 aliases 500000 \
-    instances 5000 instances 10000 doubled 10000 doubled 20000
+    instances 5000 instances 10000 doubled 10000 doubled 20000 sections 32 sections 64
 
 build_over shape_reader 'comp_shape warg_values anyhow' <<'RT'
 //! Reads the shape of the component that the standard input is, and prints how long that took, in nanoseconds, and how many

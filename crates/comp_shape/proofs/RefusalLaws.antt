@@ -1,12 +1,11 @@
 -- Bytes have one shape, and those that have one are refused for want of memory alone.
-use Rattle.std.proofs.Common.{◌≡◌, ◌∙◌, ◌⊎◌, ℕ, zero, suc, true, List, [], Result, Ok, Err, inl, inr, sym, subst, ap, refl}
+use Rattle.std.proofs.Common.{◌≡◌, ◌∙◌, ◌⊎◌, ℕ, zero, suc, true, List, [], Result, Ok, Err, inl, inr, sym, ap, refl}
 use Rattle.warg_values.specs.ReadingLaws.{ok_is}
 use Rattle.comp_entity.specs.Bounds.{ShapeFault, bounded}
 use Rattle.comp_entity.specs.Entity.{ShapeTree}
 use Rattle.comp_format.specs.Fault.{Fault, Form, NotCarried, TooDeep}
 use Rattle.comp_format.specs.Sections.{Sections, ComponentForm, component_at}
-use Rattle.comp_scope.specs.Shape.{Parts, nothing, then_part, HasParts, after_part, after_parts, as_shape, shape_within}
-use Rattle.comp_scope.specs.Closing.{closed}
+use Rattle.comp_scope.specs.Shape.{Parts, nothing, then_part, HasParts, after_parts, shape_within}
 use Rattle.comp_scope.specs.Spaces.{Known, nothing_known}
 use Rattle.comp_shape.specs.Refusal.{IsRefused}
 use Rattle.comp_shape.specs.Shape.{FirstFault, HasShape}
