@@ -1,5 +1,5 @@
 -- What components show.
-use Rattle.std.proofs.Common.{◌≡◌, ◌<◌, sym, subst, ap, arith, ℕ, Bool, List, length, All, map, Result, Ok, Err, is_ok, true, false, true≢false, refl}
+use Rattle.std.proofs.Common.{◌≡◌, ◌<◌, sym, subst, ap, arith, ℕ, List, length, All, Result, Ok, Err, is_ok, true, false, true≢false, refl}
 use Rattle.std.proofs.lemmas.List.{get_or-map, length-map}
 use Rattle.comp_format.specs.Items.{ItemTree}
 use Rattle.comp_format.specs.Fits.{IsComponent}

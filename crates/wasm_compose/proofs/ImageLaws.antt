@@ -11,7 +11,7 @@ use Rattle.comp_format.specs.declared.types.Alias.TheVariants as alias
 use Rattle.comp_format.specs.Items.{ItemTree, ExportTree, Aliased, Export}
 use Rattle.comp_format.specs.Spaces.{space_of}
 use Rattle.comp_encoder.specs.Writing.{numbered}
-use Rattle.comp_scope.specs.Image.{Image, Exported, Progress, Indexed, OfComponent, PartOf, Made, image, seen, seen_all, space, indexed, numbering, with_export, as_export, as_part, nothing_seen}
+use Rattle.comp_scope.specs.Image.{Image, Progress, Indexed, OfComponent, PartOf, Made, image, seen, seen_all, space, indexed, numbering, with_export, as_export, as_part, nothing_seen}
 use Rattle.wasm_compose.specs.Link.{NamedSort, link_export, linking, instance_items, link_items, link_image}
 use Rattle.wasm_compose.proofs.LinkLaws.{more_of}
 

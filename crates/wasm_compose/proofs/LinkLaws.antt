@@ -1,22 +1,22 @@
 -- The items of a linked component, and their image.
-use Rattle.std.proofs.Common.{◌≡◌, ◌∙◌, subst, take, drop, get_or, sym, ap, refl, eqb, cond, true, false, Bool, ℕ, ◌+◌, ◌^◌, ◌<◌, ◌≤◌, All, Contains, List, [], ◌∷◌, ◌++◌, length, map, Option, Some, None, slice_get, filter, option_map, option_and_then, arith, inl, inr}
+use Rattle.std.proofs.Common.{◌≡◌, ◌∙◌, subst, take, drop, get_or, sym, ap, refl, eqb, cond, true, false, Bool, ℕ, ◌+◌, ◌^◌, ◌<◌, ◌≤◌, All, Contains, List, [], ◌∷◌, ◌++◌, length, arith, inl, inr}
 use Rattle.std.specs.List.{fold}
 use Rattle.std.specs.Prelude.{count_by}
 use Rattle.std.proofs.lemmas.Bool.{cases_Bool, eq-eqb, eqb-true}
-use Rattle.std.proofs.lemmas.List.{append-nil, map-append, get_or-map, length-map, append_assoc, length-append, take_all, take_more, take-append-drop}
-use Rattle.std.proofs.lemmas.List.Elements.{filter-append, All-push, All-nil}
+use Rattle.std.proofs.lemmas.List.{map-append, get_or-map, length-map, append_assoc, take_all, take_more, take-append-drop}
+use Rattle.std.proofs.lemmas.List.Elements.{All-push, All-nil}
 use Rattle.std.proofs.lemmas.List.Sums.{fold_more, fold-append, sum_by-append}
 use Rattle.comp_format.specs.declared.types.Sort.{Sort}
 use Rattle.comp_format.specs.declared.types.Sort.TheVariants as sort
 use Rattle.comp_format.specs.declared.types.Alias.TheVariants as alias
-use Rattle.comp_format.specs.Items.{ItemTree, Aliased, Export}
+use Rattle.comp_format.specs.Items.{ItemTree, Aliased}
 use Rattle.comp_format.specs.Spaces.{space_of}
 use Rattle.comp_encoder.specs.Writing.{Entry, Single, GivenSection, items_of, item_sort, numbers, numbered, next_index}
 use Rattle.comp_entity.specs.declared.entity.Entity.{Entity}
 use Rattle.comp_entity.specs.Entity.{EntityTree}
 use Rattle.comp_entity.specs.Views.{entity_tree, named_entities}
 use Rattle.comp_scope.specs.Spaces.{sort_of}
-use Rattle.wasm_compose.specs.Link.{NamedSort, ExportsFit, IsOfExports, link_export, linking, instance_items, named_sorts, singles}
+use Rattle.wasm_compose.specs.Link.{NamedSort, ExportsFit, link_export, linking, instance_items, named_sorts, singles}
 
 -- items that are added one by one
 pub items_single : (items : List ItemTree) → items_of (singles items) ≡ items

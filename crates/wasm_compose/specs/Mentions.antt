@@ -1,5 +1,5 @@
 -- Whether a value type, a function or an entity mentions a resource, by what it holds.
-use Rattle.std.specs.Prelude.{Bool, true, false, ◌||◌, List, Option, Some, None, Box}
+use Rattle.std.specs.Prelude.{Bool, true, false, ◌||◌, Option, Some, None, Box}
 use Rattle.std.specs.Global.{Global}
 use Rattle.std.specs.List.{list_any}
 use Rattle.std.specs.Option.{option_map_or}

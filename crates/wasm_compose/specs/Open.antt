@@ -1,5 +1,5 @@
 -- Components that are not linked yet: they import something, or mention a resource where they export.
-use Rattle.std.specs.Prelude.{◌≡◌, ℕ, Bool, true, ◌||◌, length, nat_lt}
+use Rattle.std.specs.Prelude.{◌≡◌, Bool, true, ◌||◌, length, nat_lt}
 use Rattle.std.specs.List.{list_any}
 use Rattle.comp_entity.specs.Entity.{EntityTree, ShapeTree}
 use Rattle.comp_entity.specs.Names.{in_entity, is_resource}

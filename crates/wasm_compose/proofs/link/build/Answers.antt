@@ -1,4 +1,4 @@
-use Rattle.std.proofs.Common.{◌≡◌, ◌∙◌, List, ℕ, Result, Err, refl, sym, ap, subst, inr}
+use Rattle.std.proofs.Common.{◌≡◌, ◌∙◌, Result, Err, refl, sym, ap, subst, inr}
 use Rattle.std.proofs.lemmas.Result.{err_from_is_err_and}
 use Rattle.comp_format.specs.declared.error.EncodeError.{EncodeError}
 use Rattle.comp_format.specs.declared.error.EncodeError.TheVariants as encode_error
@@ -40,7 +40,7 @@ returns-clause-fits c =
     let begun : entries_of c.instantiate.new.self ≡ singles (instance_items (bytes_of c.args.component.now)) = rw (c.in_ok-instantiate.ensures.added, c.in_ok-component_raw.ensures.added, c.new-builder.ensures, c.bytes.ensures) refl in (
       rw (← c.bytes.ensures) c.in_ok-component_raw.ensures.fits.0,
       subst (λ items. ExportsFit items (link_exports (shape_of c.args.component.now))) (begun_items (entries_of c.instantiate.new.self) (bytes_of c.args.component.now) begun)
-      (subst (λ es. ExportsFit (items_of (entries_of c.instantiate.new.self)) (named_sorts (named_entities es))) c.deref.ensures.value c.in_ok-link_each.ensures.fits),
+          (subst (λ es. ExportsFit (items_of (entries_of c.instantiate.new.self)) (named_sorts (named_entities es))) c.deref.ensures.value c.in_ok-link_each.ensures.fits),
     )
 
 pub returns-in_err-link_each-clause-number : goal.returns-in_err-link_each-clause-number

@@ -1,12 +1,10 @@
-use Rattle.std.proofs.Common.{◌≡◌, ◌<◌, ◌+◌, ◌^◌, ℕ, ◌++◌, List, Result, Err, length, get_or, sym, ap, ◌∙◌, inl, inr, arith}
+use Rattle.std.proofs.Common.{◌≡◌, ◌<◌, Result, Err, length, sym, ap, ◌∙◌, inl, inr, arith}
 use Rattle.std.proofs.lemmas.Result.{err_from_is_err_and}
 use Rattle.comp_format.specs.declared.error.EncodeError.{EncodeError}
 use Rattle.comp_format.specs.declared.error.EncodeError.TheVariants as encode_error
 use Rattle.comp_encoder.specs.Builder.{entries_of}
 use Rattle.comp_encoder.specs.Writing.{items_of}
-use Rattle.comp_entity.specs.declared.entity.Entity.{Entity}
-use Rattle.comp_entity.specs.Views.{entity_tree, named_entities}
-use Rattle.comp_scope.specs.Spaces.{sort_of}
+use Rattle.comp_entity.specs.Views.{named_entities}
 use Rattle.wasm_compose.specs.Link.{NamedSort, named_sorts}
 use Rattle.wasm_compose.proofs.LinkLaws.{linked_none, linked_step, linked_all, count_reached, export_at, export_fits, export_is_among, as_many}
 use Rattle.wasm_compose.proofs.link.link_each.Goals as goal
