@@ -9,7 +9,7 @@ use Rattle.wasm_compose.specs.Link.{LinkFits, link_exports}
 use Rattle.wasm_compose.specs.Open.{IsOpen}
 use Rattle.warg_program.specs.World.{SeenFiles, SeenOutput, World, HasFile, SameFiles}
 use Rattle.warg_program.specs.Command.{Asked, Link, IsCommand}
-use Rattle.warg_program.specs.Link.{IsCause, IsWriteCause, IsPrintCause, LinkStops, LinkHolds}
+use Rattle.warg_program.specs.Link.{IsCause, IsWriteCause, IsPrintCause, LinkStops}
 use Rattle.warg_program.specs.Run.{Does, Holds, Stops, IsDone, IsStopped, IsShortOfMemory, MayHold}
 use Rattle.warg_program.specs.Stop.{status_of}
 use Rattle.warg_program.specs.declared.stop.Stop.{Stop}

@@ -13,7 +13,6 @@ use Rattle.wasm_compose.specs.Open.{IsOpen}
 use Rattle.warg_program.specs.World.{SeenFiles, SeenOutput, World, HasFile, HasNoFile, SameFiles, Writes, WritesPartly, PrintsNothing, Prints, PrintsPartly}
 use Rattle.warg_program.specs.declared.stop.Stop.{Stop}
 use Rattle.warg_program.specs.declared.stop.Stop.TheVariants as stop
-use Rattle.warg_program.specs.declared.stop.Access.{Access}
 use Rattle.warg_program.specs.declared.stop.Access.TheVariants as access
 
 -- the line of a link: how many bytes it has, and their SHA-256
