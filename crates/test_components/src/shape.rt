@@ -29,7 +29,7 @@ const SHAPES: &[(&str, &str)] = &[
     // A core module that exports a memory of one page or more.
     (
         "030901500103016d0200010a070100016d001100",
-        "Shape { imports: [(Text { text: \"m\" }, Module(ModuleShape { imports: [], exports: [(Text { text: \"m\" }, Memory(Limits { min: 1, max: None }))] }))], exports: [] }",
+        "Shape { imports: [(Text { text: \"m\" }, Module(ModuleShape { imports: Sequence { items: [] }, exports: Sequence { items: [(Text { text: \"m\" }, Memory(Limits { min: 1, max: None }))] } }))], exports: [] }",
     ),
     // A component that is nested.
     (
