@@ -245,28 +245,28 @@ fn nested(alloc: Global, levels: usize) -> Result<Vec<u8>, Fail> {
 }
 
 /// A component of so many types: a number, and lists of the one before.
-fn lists(alloc: Global, count: usize) -> Result<Vec<u8>, Fail> {
+fn lists(alloc: Global, count: u8) -> Result<Vec<u8>, Fail> {
     let mut bytes = Vec::from_slice(alloc, &HEADER)?;
     bytes.push(7)?;
-    bytes.extend_from_slice(&two_bytes(3 * count))?;
-    bytes.extend_from_slice(&two_bytes(count))?;
+    bytes.extend_from_slice(&two_bytes(3 * count as usize))?;
+    bytes.extend_from_slice(&two_bytes(count as usize))?;
     bytes.push(0x7d)?;
     for before in 1..count {
         bytes.push(0x70)?;
-        bytes.extend_from_slice(&two_bytes(before - 1))?;
+        bytes.extend_from_slice(&two_bytes(before as usize - 1))?;
     }
     Ok(bytes)
 }
 
 /// A component of so many types of instances, each of which exports an instance of the one before.
-fn chained(alloc: Global, count: usize) -> Result<Vec<u8>, Fail> {
+fn chained(alloc: Global, count: u8) -> Result<Vec<u8>, Fail> {
     let mut bytes = Vec::from_slice(alloc, &HEADER)?;
     bytes.push(7)?;
-    bytes.extend_from_slice(&two_bytes(4 + 13 * (count - 1)))?;
-    bytes.extend_from_slice(&two_bytes(count))?;
+    bytes.extend_from_slice(&two_bytes((13 * count as usize).saturating_sub(9)))?;
+    bytes.extend_from_slice(&two_bytes(count as usize))?;
     bytes.extend_from_slice(&[0x42, 0])?;
     for before in 1..count {
-        bytes.extend_from_slice(&[0x42, 2, 2, 3, 2, 1, (before - 1) as u8])?;
+        bytes.extend_from_slice(&[0x42, 2, 2, 3, 2, 1, before - 1])?;
         bytes.extend_from_slice(&[4, 0, 1, 0x69, 5, 0])?;
     }
     Ok(bytes)
