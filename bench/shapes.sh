@@ -25,7 +25,7 @@ use std::time::Instant;
 
 fn main(rt: HostRuntime) -> Result<()> {
     let mut bytes = Vec::new(rt.alloc());
-    rt.reader().read_to_end(rt.alloc(), &mut bytes)?;
+    rt.reader().read_to_end(&mut bytes)?;
     let start = Instant::now(&rt)?;
     let shape = read_shape(rt.alloc(), &bytes);
     let taken = start.elapsed(&rt)?.as_nanos();

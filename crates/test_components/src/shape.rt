@@ -29,7 +29,7 @@ const SHAPES: &[(&str, &str)] = &[
     // A core module that exports a memory of one page or more.
     (
         "030901500103016d0200010a070100016d001100",
-        "Shape { imports: [(Text { text: \"m\" }, Module(ModuleShape { imports: [], exports: [(Text { text: \"m\" }, Memory(Limits { min: 1, max: None }))] }))], exports: [] }",
+        "Shape { imports: [(Text { text: \"m\" }, Module(ModuleShape { imports: Sequence { items: [] }, exports: Sequence { items: [(Text { text: \"m\" }, Memory(Limits { min: 1, max: None }))] } }))], exports: [] }",
     ),
     // A component that is nested.
     (
@@ -108,10 +108,7 @@ const NAMES: &[(&str, &str)] = &[
     ("0a060100017203010b0701000172030000", "r -> r"),
     // A type that is not there, also in a component that is nested; and a fault in the bytes behind it.
     ("0b0701000174030000", "Index(11)"),
-    (
-        "04110061736d0d0001000b0701000174030000",
-        "Index(8)",
-    ),
+    ("04110061736d0d0001000b0701000174030000", "Index(8)"),
     ("0b0701000174030000040100", "Form(19)"),
     // An instance of a type that exports a resource is imported and exported.
     (
@@ -120,6 +117,16 @@ const NAMES: &[(&str, &str)] = &[
     ),
     // An outer alias leaves the component.
     ("06050103020100", "Index(11)"),
+    // A component that asks for one that exports an instance of x and y is given one; and one with the two in the other
+    // order.
+    (
+        "042e0061736d0d000100071c014102014203017d04000178030000040001790300000400016905000a0601000163040004240061736d0d0001000702017d050d010102000178030000017903000b070100016905000005080100000101630401",
+        "->",
+    ),
+    (
+        "042e0061736d0d000100071c014102014203017d04000178030000040001790300000400016905000a0601000163040004240061736d0d0001000702017d050d010102000179030000017803000b070100016905000005080100000101630401",
+        "DoesNotFit(97)",
+    ),
     // Tuples of two of the one before, and one of a million nodes, and of one more.
     (
         "0755147d6f0200006f0201016f0202026f0203036f0204046f0205056f0206066f0207076f0208086f0209096f020a0a6f020b0b6f020c0c6f020d0d6f020e0e6f020f0f6f0210106f0211116f091211100f0d08050101",
@@ -238,15 +245,29 @@ fn nested(alloc: Global, levels: usize) -> Result<Vec<u8>, Fail> {
 }
 
 /// A component of so many types: a number, and lists of the one before.
-fn lists(alloc: Global, count: usize) -> Result<Vec<u8>, Fail> {
+fn lists(alloc: Global, count: u8) -> Result<Vec<u8>, Fail> {
     let mut bytes = Vec::from_slice(alloc, &HEADER)?;
     bytes.push(7)?;
-    bytes.extend_from_slice(&two_bytes(3 * count))?;
-    bytes.extend_from_slice(&two_bytes(count))?;
+    bytes.extend_from_slice(&two_bytes(3 * count as usize))?;
+    bytes.extend_from_slice(&two_bytes(count as usize))?;
     bytes.push(0x7d)?;
     for before in 1..count {
         bytes.push(0x70)?;
-        bytes.extend_from_slice(&two_bytes(before - 1))?;
+        bytes.extend_from_slice(&two_bytes(before as usize - 1))?;
+    }
+    Ok(bytes)
+}
+
+/// A component of so many types of instances, each of which exports an instance of the one before.
+fn chained(alloc: Global, count: u8) -> Result<Vec<u8>, Fail> {
+    let mut bytes = Vec::from_slice(alloc, &HEADER)?;
+    bytes.push(7)?;
+    bytes.extend_from_slice(&two_bytes((13 * count as usize).saturating_sub(9)))?;
+    bytes.extend_from_slice(&two_bytes(count as usize))?;
+    bytes.extend_from_slice(&[0x42, 0])?;
+    for before in 1..count {
+        bytes.extend_from_slice(&[0x42, 2, 2, 3, 2, 1, before - 1])?;
+        bytes.extend_from_slice(&[4, 0, 1, 0x69, 5, 0])?;
     }
     Ok(bytes)
 }
@@ -264,7 +285,10 @@ fn shapes_have_all_indices_followed(rt: HostRuntime) -> Result<(), Fail> {
 fn components_import_and_export_by_the_rules(rt: HostRuntime) -> Result<(), Fail> {
     for (sections, want) in NAMES {
         let bytes = component(rt.alloc(), sections)?;
-        assert_eq!(rt; names_or_error(rt.alloc(), &bytes)?.as_str().trim_end(), *want);
+        assert_eq!(rt;
+            names_or_error(rt.alloc(), &bytes)?.as_str().trim_end(),
+            *want
+        );
     }
     Ok(())
 }
@@ -280,14 +304,27 @@ fn images_are_those_of_nested_and_imported_components(rt: HostRuntime) -> Result
 }
 
 #[test]
+fn what_lies_in_scopes_that_are_closed_nests_without_bounds(rt: HostRuntime) -> Result<(), Fail> {
+    let bytes = chained(rt.alloc(), 40)?;
+    assert_eq!(rt; names_or_error(rt.alloc(), &bytes)?.as_str(), "-> ");
+    Ok(())
+}
+
+#[test]
 fn scopes_and_value_types_nest_up_to_their_bounds(rt: HostRuntime) -> Result<(), Fail> {
     for (levels, want) in [(32, "->"), (33, "TooDeep")] {
         let bytes = nested(rt.alloc(), levels)?;
-        assert_eq!(rt; names_or_error(rt.alloc(), &bytes)?.as_str().trim_end(), want);
+        assert_eq!(rt;
+            names_or_error(rt.alloc(), &bytes)?.as_str().trim_end(),
+            want
+        );
     }
     for (count, want) in [(100, "->"), (101, "TooDeep")] {
         let bytes = lists(rt.alloc(), count)?;
-        assert_eq!(rt; names_or_error(rt.alloc(), &bytes)?.as_str().trim_end(), want);
+        assert_eq!(rt;
+            names_or_error(rt.alloc(), &bytes)?.as_str().trim_end(),
+            want
+        );
     }
     Ok(())
 }
