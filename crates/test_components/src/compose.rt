@@ -50,7 +50,7 @@ const FROM_FILES: [(u64, &str, &str, &str); 5] = [
 ];
 
 /// The bytes of a component, and its link in hexadecimal digits, or why it is not linked.
-const LINKS: [(&[u8], &str); 6] = [
+const LINKS: &[(&[u8], &str)] = &[
     (EMPTY, "0061736d0d00010004080061736d0d000100050401000000"),
     (
         TUPLE,
@@ -129,7 +129,7 @@ fn a_component_shows_what_it_exports(rt: HostRuntime) -> Result<(), Fail> {
 #[test]
 fn links_nest_the_component_and_export_what_it_exports(rt: HostRuntime) -> Result<(), Fail> {
     for (bytes, want) in LINKS {
-        assert_eq!(rt; linked(rt.alloc(), bytes)?.as_str(), want);
+        assert_eq!(rt; linked(rt.alloc(), bytes)?.as_str(), *want);
     }
     Ok(())
 }
