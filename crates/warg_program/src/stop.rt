@@ -94,7 +94,7 @@ impl fmt::Display for Stop<'_> {
             ),
             Stop::Memory => write!(
                 f,
-                "out of memory: free some, or give the program more; 200 scopes or 1000 types in each other end so"
+                "out of memory: free some, or give the program more; over 200 scopes or 1000 types in each other end so"
             ),
         }
     }
