@@ -9,9 +9,10 @@ ghost use Rattle.comp_table.specs.Plain.{plain_entity};
 ghost use Rattle.comp_table.specs.Shown.{IsShown};
 ghost use Rattle.comp_table.specs.Trees.{Extends, Stands};
 
+use crate::called::CalledAsGiven;
 use crate::fit::fits_as_named;
 use crate::pair::Pair;
-use crate::standing::standing_of;
+use crate::standing::standing_for;
 use comp_rename::renamed;
 use comp_table::laws::changed_entities_have_changed_trees;
 use comp_table::{TypeNumber, TypeTable};
@@ -41,8 +42,8 @@ pub fn fits(
         given: given.0,
         asked: asked.0,
     };
-    let standing = standing_of(table, alloc, pair)?;
-    let called = renamed(table, alloc, &standing, asked.0)?;
+    let found = standing_for(table, alloc, pair)?;
+    let called = renamed(table, alloc, &CalledAsGiven { found }, asked.0)?;
     let answer = fits_as_named(table, alloc, given, TypeNumber(called))?;
     Ok(answer)
 }

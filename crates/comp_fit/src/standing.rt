@@ -1,12 +1,12 @@
-//! What stands in a given entity for the resources of one that is asked for.
+//! What stands in a given entity for the resources of an asked one, and for the places that named its types: what the
+//! given one has at the same path of names.
 
-ghost use Rattle.std.specs.Prelude.{◌≡◌, ◌<◌, ◌&&◌, ◌∷◌, []};
-ghost use Rattle.std.specs.Prelude.{ℕ, List, Bool, true, length, map, unwrap_or, IfOk, IfSome, OnOk};
+ghost use Rattle.std.specs.Prelude.{◌≡◌, ◌<◌, ◌&&◌, ◌∷◌, [], ℕ, List, Bool, true, length, map, IfOk, OnOk};
 ghost use Rattle.std.specs.Option.{option_map_or};
-ghost use Rattle.comp_entity.specs.Entity.{Entries, EntityTree, Name};
-ghost use Rattle.comp_entity.specs.Fits.{ForResource, all_stand, resource_for, stands, under};
+ghost use Rattle.comp_entity.specs.Entity.{Entries, EntityTree};
+ghost use Rattle.comp_entity.specs.Fits.{all_stand, for_place, stands, under};
 ghost use Rattle.comp_fit.specs.Known.{AreNames, IsEntity, is_instance};
-ghost use Rattle.comp_fit.specs.Standing.{Adds, AreCovered, called, found_for, resource_head};
+ghost use Rattle.comp_fit.specs.Standing.{Adds, AreCovered, ShowsStanding, called, for_resource, head_stands, place_head, place_stands, resource_head, value_place};
 ghost use Rattle.comp_table.specs.declared.head.Head.TheVariants as Head;
 ghost use Rattle.comp_table.specs.Plain.{around, plain_entity, plain_entries};
 ghost use Rattle.comp_table.specs.Trees.{IsBelow, Stands, root, tree_at, trees_of};
@@ -14,7 +14,6 @@ ghost use Rattle.comp_table.specs.Trees.{IsBelow, Stands, root, tree_at, trees_o
 use crate::names::{are_instances, entry_at, names_of};
 use crate::pair::{Pair, inner};
 use comp_entity::{ResourceNo, TypeNo};
-use comp_rename::Renaming;
 use comp_table::{Head, TypeTable};
 use std::alloc::Global;
 use std::collections::{BTreeMap, BTreeSet};
@@ -23,7 +22,7 @@ use warg_values::{Memory, Text};
 /// How many levels deep instances may lie within each other at most.
 const LEVELS: usize = 1000;
 
-/// A resource as it is called, by which what stands for it is found.
+/// A resource or a place as it is called, by which what stands for it is found.
 #[derive(Clone, Copy, PartialEq, Eq, PartialOrd, Ord)]
 pub struct Called {
     /// How many scopes further out its scope is.
@@ -32,32 +31,17 @@ pub struct Called {
     pub number: usize,
 }
 
-/// What stands for the resources of an asked entity.
+/// What stands for the resources and the places of an asked entity.
 #[derive(Drop)]
-pub struct Standing {
+pub struct StandingFor {
     /// For a resource that is asked for, the one of the given entity.
-    found: BTreeMap<Called, ResourceNo>,
-}
-
-impl Renaming for Standing {
-    ghost resources = { λ s n. unwrap_or (found_for s.found n) n };
-
-    ghost places = { λ s n. n };
-
-    fn resource(&self, resource: ResourceNo) -> Option<ResourceNo> {
-        match self.found.get(&key_of(resource)) {
-            Some(found) => Some(*found),
-            None => Some(resource),
-        }
-    }
-
-    fn place(&self, place: TypeNo) -> Option<TypeNo> {
-        Some(place)
-    }
+    pub resources: BTreeMap<Called, ResourceNo>,
+    /// For a place that named an asked type, the one that named the type of the given entity, where one did.
+    pub places: BTreeMap<Called, Option<TypeNo>>,
 }
 
 /// That by which what stands for a resource is found.
-fn key_of(resource: ResourceNo) -> Called
+pub fn resource_key(resource: ResourceNo) -> Called
     ensures { result ≡ called resource }
 {
     Called {
@@ -66,40 +50,128 @@ fn key_of(resource: ResourceNo) -> Called
     }
 }
 
-/// The resource that a type is which a number stands for.
-fn resource_at(table: &TypeTable, number: usize) -> Option<ResourceNo>
-    requires { number < length table.now }
-    ensures { result ≡ resource_head (root (tree_at table.now number)) }
+/// That by which what stands for a place is found.
+pub fn place_key(place: TypeNo) -> Called
+    ensures { result ≡ called place }
 {
-    match table.head(number) {
+    Called {
+        out: place.out(),
+        number: place.number(),
+    }
+}
+
+/// The resource that a type of this root is.
+fn resource_of(head: &Head) -> Option<ResourceNo>
+    ensures { result ≡ resource_head head.now }
+{
+    match head {
         Head::Resource(resource) => Some(*resource),
         _ => None,
     }
 }
 
-/// Notes that a resource stands for one that is asked for, where none does yet.
-fn note_resource(
-    found: &mut BTreeMap<Called, ResourceNo>,
-    asked: ResourceNo,
-    given: ResourceNo,
-) -> Result<(), Memory>
-    ensures { IfOk result (λ done. Adds found.old found.new (ForResource asked given ∷ [])) }
+/// The place that named a value type of this root, where one did. `None` of what is no value type.
+fn value_place(head: &Head) -> Option<Option<TypeNo>>
+    ensures { result ≡ value_place head.now }
 {
-    let key = key_of(asked);
-    match found.get(&key) {
+    match head {
+        Head::RecordOf(place) => Some(*place),
+        Head::VariantOf(place) => Some(*place),
+        Head::FlagsOf(place) => Some(*place),
+        Head::EnumOf(place) => Some(*place),
+        Head::Primitive(_)
+        | Head::ListOf
+        | Head::TupleOf
+        | Head::OptionOf
+        | Head::ResultOf
+        | Head::Own(_)
+        | Head::Borrow(_) => Some(None),
+        _ => None,
+    }
+}
+
+/// The place that named a type of this root, where one did.
+fn place_of(head: &Head) -> Option<TypeNo>
+    ensures { result ≡ place_head head.now }
+{
+    match head {
+        Head::RecordOf(place) => *place,
+        Head::VariantOf(place) => *place,
+        Head::FlagsOf(place) => *place,
+        Head::EnumOf(place) => *place,
+        _ => None,
+    }
+}
+
+/// Notes that a resource stands for one that is asked for, where none does yet.
+fn add_resource(found: &mut StandingFor, given: ResourceNo, asked: ResourceNo) -> Result<(), Memory>
+    ensures { IfOk result (λ done. Adds found.old found.new (for_resource (Some given) (Some asked))) }
+{
+    let key = resource_key(asked);
+    match found.resources.get(&key) {
         Some(_) => Ok(()),
         None => {
-            found.insert(key, given)?;
+            found.resources.insert(key, given)?;
             Ok(())
         }
     }
 }
 
-/// Notes what stands for the resources of one entity.
+/// Notes that a place, or none, stands for one that is asked for, where nothing does yet.
+fn add_place(found: &mut StandingFor, given: Option<TypeNo>, asked: TypeNo) -> Result<(), Memory>
+    ensures { IfOk result (λ done. Adds found.old found.new (for_place (Some asked) given)) }
+{
+    let key = place_key(asked);
+    match found.places.get(&key) {
+        Some(_) => Ok(()),
+        None => {
+            found.places.insert(key, given)?;
+            Ok(())
+        }
+    }
+}
+
+/// Notes the resource that stands for one that is asked for, where both types are resources.
+fn note_resource(found: &mut StandingFor, given: &Head, asked: &Head) -> Result<(), Memory>
+    ensures { IfOk result
+        (λ done. Adds found.old found.new (for_resource (resource_head given.now) (resource_head asked.now))) }
+{
+    let Some(given) = resource_of(given) else {
+        return Ok(());
+    };
+    let Some(asked) = resource_of(asked) else {
+        return Ok(());
+    };
+    add_resource(found, given, asked)
+}
+
+/// Notes the place that stands for the one that named an asked type, where both types are value types.
+fn note_place(found: &mut StandingFor, given: &Head, asked: &Head) -> Result<(), Memory>
+    ensures { IfOk result
+        (λ done. Adds found.old found.new (place_stands (value_place given.now) (place_head asked.now))) }
+{
+    let Some(given) = value_place(given) else {
+        return Ok(());
+    };
+    let Some(asked) = place_of(asked) else {
+        return Ok(());
+    };
+    add_place(found, given, asked)
+}
+
+/// Notes what stands for the resource or for the place of an asked type, by the roots of both types.
+fn note_type(found: &mut StandingFor, given: &Head, asked: &Head) -> Result<(), Memory>
+    ensures { IfOk result (λ done. Adds found.old found.new (head_stands given.now asked.now)) }
+{
+    note_resource(found, given, asked)?;
+    note_place(found, given, asked)
+}
+
+/// Notes what stands for names of one entity.
 #[cycle(standing)]
 fn note_entity(
     table: &TypeTable,
-    found: &mut BTreeMap<Called, ResourceNo>,
+    found: &mut StandingFor,
     seen: &mut BTreeSet<Pair>,
     alloc: Global,
     levels: usize,
@@ -116,21 +188,15 @@ fn note_entity(
         note_instance(table, found, seen, alloc, levels, pair)?;
         return Ok(());
     }
-    let Some(given) = resource_at(table, pair.given) else {
-        return Ok(());
-    };
-    let Some(asked) = resource_at(table, pair.asked) else {
-        return Ok(());
-    };
-    note_resource(found, asked, given)?;
+    note_type(found, table.head(pair.given), table.head(pair.asked))?;
     Ok(())
 }
 
-/// Notes what stands for the resources of an instance. What was seen is not looked at again.
+/// Notes what stands for names of an instance. What was seen is not looked at again.
 #[cycle(standing)]
 fn note_instance(
     table: &TypeTable,
-    found: &mut BTreeMap<Called, ResourceNo>,
+    found: &mut StandingFor,
     seen: &mut BTreeSet<Pair>,
     alloc: Global,
     levels: usize,
@@ -163,11 +229,11 @@ fn note_instance(
     Ok(())
 }
 
-/// Notes what stands for the resources of exports that are asked for.
+/// Notes what stands for names of exports that are asked for.
 #[cycle(standing)]
 fn note_exports(
     table: &TypeTable,
-    found: &mut BTreeMap<Called, ResourceNo>,
+    found: &mut StandingFor,
     seen: &mut BTreeSet<Pair>,
     alloc: Global,
     levels: usize,
@@ -189,11 +255,11 @@ fn note_exports(
     Ok(())
 }
 
-/// Notes what stands for the resources of one export that is asked for.
+/// Notes what stands for names of one export that is asked for.
 #[cycle(standing)]
 fn note_export(
     table: &TypeTable,
-    found: &mut BTreeMap<Called, ResourceNo>,
+    found: &mut StandingFor,
     seen: &mut BTreeSet<Pair>,
     alloc: Global,
     levels: usize,
@@ -223,17 +289,19 @@ fn note_export(
     Ok(())
 }
 
-/// What stands for the resources of an asked entity. `Memory` also where more than a thousand instances lie within each
-/// other.
-pub fn standing_of(table: &TypeTable, alloc: Global, pair: Pair) -> Result<Standing, Memory>
+/// What stands in a given entity for the resources of an asked one, and for the places that named its types. What is
+/// shared is looked at once. `Memory` also where more than a thousand instances lie within each other.
+pub fn standing_for(table: &TypeTable, alloc: Global, pair: Pair) -> Result<StandingFor, Memory>
     requires given { IsEntity table.now pair.given }
     requires asked { IsEntity table.now pair.asked }
-    ensures { IfOk result (λ s. (given asked : EntityTree) → Stands table.now pair.given (plain_entity given)
-        → Stands table.now pair.asked (plain_entity asked)
-        → (n : Name) → found_for s.found n ≡ resource_for (stands given asked) n) }
+    ensures { IfOk result (λ f. (given asked : EntityTree) → Stands table.now pair.given (plain_entity given)
+        → Stands table.now pair.asked (plain_entity asked) → ShowsStanding f (stands given asked)) }
 {
-    let mut found = BTreeMap::new(alloc);
+    let mut found = StandingFor {
+        resources: BTreeMap::new(alloc),
+        places: BTreeMap::new(alloc),
+    };
     let mut seen = BTreeSet::new(alloc);
     note_entity(table, &mut found, &mut seen, alloc, LEVELS, pair)?;
-    Ok(Standing { found })
+    Ok(found)
 }

@@ -19,7 +19,7 @@ use Rattle.comp_space.specs.Faults.{Fails, fault_of}
 use Rattle.comp_space.specs.SpaceViews.{ShowsSpaces, core_counts}
 use Rattle.comp_space.specs.Standings.{Pairwise}
 use Rattle.comp_space.specs.StandingLaws.{fails_bind, fails_same, same_fault}
-use Rattle.comp_table.specs.Trees.{PlainTree}
+use Rattle.comp_table.specs.Trees.{PlainTree, IsBelow}
 
 dropped_at : {X : Type 0} (xs : List X) (i : ℕ) (d : X) → i < length xs → drop i xs ≡ slice_index_or xs i d ∷ drop (suc i) xs
 dropped_at [] i d lt = absurd (omega (arith, lt))
@@ -34,6 +34,11 @@ nothing_left [] zero e = refl
 nothing_left [] (suc i) e = absurd (omega (arith, e))
 nothing_left (x ∷ xs) zero e = absurd (omega (arith, e))
 nothing_left (x ∷ xs) (suc i) e = nothing_left xs i (omega (arith, e))
+
+-- parts of a number that is there
+pub below_wider : (n k : ℕ) (ns : List ℕ) → n < k → IsBelow n ns → IsBelow k ns
+below_wider n k [] lt b = tt
+below_wider n k (m ∷ ns) lt b = let h = b.0 in (omega (arith, h, lt), below_wider n k ns lt b.1)
 
 -- an index that is there, whatever is asked where it is
 module _ {X Y : Type 0} (count i : ℕ) (x : X) (y : Y) where

@@ -3,7 +3,6 @@ mod IndexLaws
 mod CanonLaws
 mod ItemLaws
 mod OwnLaws
-mod StandingLaws
 mod RenamedLaws
 mod InstanceLaws
 mod ExportLaws

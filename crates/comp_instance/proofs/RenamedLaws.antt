@@ -3,10 +3,10 @@ use Rattle.std.specs.Prelude.{◌≡◌, ℕ, ◌+◌, ◌-◌, List, Option, No
 use Rattle.std.proofs.Common.{sym, ◌∙◌, ap}
 use Rattle.comp_entity.specs.Entity.{Name, made, Entries}
 use Rattle.comp_entity.specs.Fits.{Stands, all_stand}
-use Rattle.comp_instance.specs.declared.standing_for.StandingFor.{StandingFor}
+use Rattle.comp_fit.specs.declared.standing.StandingFor.{StandingFor}
 use Rattle.comp_instance.specs.Exports.{ShowsDescribing}
 use Rattle.comp_instance.specs.Instances.{ShowsInstantiating}
-use Rattle.comp_instance.specs.StandingFor.{ShowsStanding}
+use Rattle.comp_fit.specs.Standing.{ShowsStanding}
 use Rattle.comp_scope.specs.Exports.{is_new}
 use Rattle.comp_scope.specs.Instances.{or_made}
 use Rattle.comp_scope.specs.Spaces.{Spaces, counts_sum}

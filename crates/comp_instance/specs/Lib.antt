@@ -1,6 +1,5 @@
 pub mod Lifted
 pub mod Items
-pub mod StandingFor
 pub mod OwnModules
 pub mod Renamed
 pub mod Instances

@@ -7,7 +7,7 @@ use Rattle.comp_entity.specs.Fits.{fits_with, same_name}
 use Rattle.comp_entity.specs.Names.{Change, entity_by}
 use Rattle.comp_instance.specs.declared.instantiating.Describing.{Describing}
 use Rattle.comp_instance.specs.declared.instantiating.Instantiating.{Instantiating}
-use Rattle.comp_instance.specs.StandingFor.{place_found, resource_found}
+use Rattle.comp_fit.specs.Standing.{place_found, resource_found}
 use Rattle.comp_scope.specs.Exports.{is_new}
 use Rattle.comp_scope.specs.Instances.{or_made}
 

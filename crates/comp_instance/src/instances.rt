@@ -18,9 +18,8 @@ ghost use Rattle.comp_table.specs.Trees.{Extends, Stands, below_root, tree, tree
 use crate::fitting::fitted;
 use crate::instantiating::Instantiating;
 use crate::items::{arguments, members};
-use crate::standing_for::standing_for;
 use comp_declare::{add_made, counts_of, counts_with};
-use comp_fit::Pair;
+use comp_fit::{Pair, standing_for};
 use comp_format::{Arg, InstanceItem};
 use comp_mention::laws::trees_mention_as_entities;
 use comp_rename::renamed;

@@ -3,12 +3,12 @@
 ghost use Rattle.std.specs.Prelude.{◌≡◌, ◌+◌, ◌==◌, ◌&&◌, nat_le, IfSome, None, unwrap_or};
 ghost use Rattle.comp_entity.specs.Entity.{made};
 ghost use Rattle.comp_instance.specs.Renamed.{component_place, component_resource, description_place, description_resource};
-ghost use Rattle.comp_instance.specs.StandingFor.{place_found, resource_found};
+ghost use Rattle.comp_fit.specs.Standing.{place_found, resource_found};
 ghost use Rattle.comp_scope.specs.Exports.{is_new};
 ghost use Rattle.comp_scope.specs.Instances.{or_made};
 
-use crate::standing_for::{StandingFor, place_key, resource_key};
 use comp_entity::{ResourceNo, TypeNo};
+use comp_fit::{StandingFor, place_key, resource_key};
 use comp_rename::Renaming;
 use comp_space::Counts;
 

@@ -12,7 +12,6 @@ mod instances;
 mod instantiating;
 mod items;
 mod own_modules;
-mod standing_for;
 
 pub use canons::add_canon;
 pub use core_instances::add_core_instance;

@@ -1,5 +1,3 @@
-pub mod FirstLaws
-pub mod OtherLaws
-pub mod PartLaws
-pub mod ShapeLaws
-pub mod NameLaws
+mod ReadLaws
+mod NameLaws
+mod RefusalLaws

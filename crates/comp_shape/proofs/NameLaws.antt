@@ -1,101 +1,212 @@
--- The names of exports are not empty.
-use Rattle.std.proofs.Common.{◌≡◌, ℕ, ◌<◌, Bool, true, false, cond, List, [], ◌∷◌, ◌++◌, length, map, All, Option, Some, None, refl, sym, subst, inl, inr}
-use Rattle.std.specs.Prelude.{slice_get, option_map, option_and_then}
+-- What a component imports and exports has a name.
+use Rattle.std.proofs.Common.{ℕ, suc, ◌+◌, ◌<◌, Bool, true, false, List, [], ◌∷◌, ◌++◌, length, map, All, Result, Ok, Err, inl, inr, subst, sym}
+use Rattle.std.specs.Prelude.{IfOk, if◌then◌else◌}
 use Rattle.std.specs.List.{AllByRecursion}
 use Rattle.std.proofs.lemmas.List.Elements.{All-from_recursion}
+use Rattle.warg_values.specs.Reading.{◌>>=◌}
+use Rattle.comp_entity.specs.Bounds.{ShapeFault, Index, Bounds, bounded, TooDeep, TooBig, is_within, entries_nodes}
+use Rattle.comp_entity.specs.Entity.{EntityTree, IsComponent, Entries, no_entry, entry, ShapeTree}
+use Rattle.comp_entity.specs.Names.{Change, entries_by}
+use Rattle.comp_entity.specs.Views.{Sides}
+use Rattle.comp_format.specs.Items.{ItemTree, Custom, CoreModule, CoreMade, CoreTy, Component, Instance, Aliased, Ty, Canonical, Import, Export, ImportTree, ExportTree, ExportName, ImportForm, ExportForm}
+use Rattle.comp_format.specs.Sections.{Section, Named, CoreModules, CoreInstances, CoreTypes, Nested, Instances, Aliases, Types, Canons, Imports, Exports, Sections, none, more, ContentForm, SectionsForm, section_items}
 use Rattle.comp_format.specs.Vectors.{Many}
-use Rattle.comp_format.specs.Definitions.{TypeTree}
-use Rattle.comp_format.specs.Items.{ExportTree, ItemTree, Ty, Export, ExportName, ExportForm}
-use Rattle.comp_format.specs.Sections.{Section, Types, Exports, Sections, none, more, ContentForm, SectionsForm, section_items, items_in}
-use Rattle.comp_shape.specs.declared.shape.Entity.{Entity}
-use Rattle.comp_shape.specs.FirstForm.{is_first_form, are_first_form, InFirstForm}
-use Rattle.comp_shape.specs.Shape.{ValueTree, Value, EntityTree, IsType, ShapeTree, SpaceTree, definition_tree, is_taken, with_export, after, after_all, nothing_known, shape}
-use Rattle.comp_shape.specs.Views.{entries}
-use Rattle.comp_shape.proofs.FirstLaws.{both}
+use Rattle.comp_scope.specs.Closing.{closed}
+use Rattle.comp_scope.specs.Descriptions.{new_brought, described, with_brought, with_made, imported, with_import, with_export}
+use Rattle.comp_scope.specs.Exports.{is_typed, exported_as, exported}
+use Rattle.comp_scope.specs.Shape.{Part, Plain, Inner, Parts, nothing, then_part, HasParts, in_front_of, parts_of_section, parts_in, spaces_after, after, after_part, after_parts, as_shape, listed, shape_within}
+use Rattle.comp_scope.specs.Types.{with_spaces}
+use Rattle.comp_scope.specs.Spaces.{Spaces, Known, Standing, nothing_known, is_taken, standing, added, entries_in}
+use Rattle.comp_shape.specs.Shape.{HasShape}
 
--- an item's name is not empty
+-- ---- items
+
 abbrev HasName : ItemTree → Type 0
+HasName (Import i) = 0 < length i.name
 HasName (Export e) = 0 < length e.name
 HasName _ = Unit {0}
+
+abbrev PartHasName : Part → Type 0
+PartHasName (Plain item) = HasName item
+PartHasName (Inner bytes parts) = Unit {0}
+
+abbrev AreNamed : Parts → Type 0
+AreNamed nothing = Unit {0}
+AreNamed (then_part p ps) = PartHasName p × AreNamed ps
 
 export_name : (name bytes rest : List ℕ) → ExportName name bytes rest → 0 < length name
 export_name name bytes rest (inl h) = h.2.not_empty
 export_name name bytes rest (inr h) = h.2.not_empty
 
+imports_named : (is : List ImportTree) (bytes rest : List ℕ) → Many ImportForm is bytes rest → AllByRecursion HasName (map Import is)
+imports_named [] bytes rest h = tt
+imports_named (i ∷ is) bytes rest h = (export_name i.name bytes h.1.0 h.1.1, imports_named is h.0 rest h.2)
+
 exports_named : (es : List ExportTree) (bytes rest : List ℕ) → Many ExportForm es bytes rest → AllByRecursion HasName (map Export es)
 exports_named [] bytes rest h = tt
 exports_named (e ∷ es) bytes rest h = (export_name e.name bytes h.1.0 h.1.1, exports_named es h.0 rest h.2)
 
-types_named : (ts : List TypeTree) → AllByRecursion HasName (map Ty ts)
-types_named [] = tt
-types_named (t ∷ ts) = (tt, types_named ts)
+others_named : {X : Type 0} (item : X → ItemTree) → ((x : X) → HasName (item x)) → (xs : List X) → AllByRecursion HasName (map item xs)
+others_named item h [] = tt
+others_named item h (x ∷ xs) = (h x, others_named item h xs)
 
-both_named : (xs ys : List ItemTree) → AllByRecursion HasName xs → AllByRecursion HasName ys → AllByRecursion HasName (xs ++ ys)
-both_named [] ys h k = k
-both_named (x ∷ xs) ys h k = (h.0, both_named xs ys h.1 k)
+section_named : (s : Section) (content : List ℕ) → ContentForm s content → AllByRecursion HasName (section_items s)
+section_named (Named name bytes) content h = (tt, tt)
+section_named (CoreModules bytes) content h = (tt, tt)
+section_named (CoreInstances items) content h = others_named CoreMade (λ x. tt) items
+section_named (CoreTypes items) content h = others_named CoreTy (λ x. tt) items
+section_named (Nested bytes inner) content h = (tt, tt)
+section_named (Instances items) content h = others_named Instance (λ x. tt) items
+section_named (Aliases items) content h = others_named Aliased (λ x. tt) items
+section_named (Types items) content h = others_named Ty (λ x. tt) items
+section_named (Canons items) content h = others_named Canonical (λ x. tt) items
+section_named (Imports items) content h = imports_named items h.0 [] h.2
+section_named (Exports items) content h = exports_named items h.0 [] h.2
 
-section_named : (s : Section) (content : List ℕ) → is_first_form s ≡ true → ContentForm s content → AllByRecursion HasName (section_items s)
-section_named (Types items) content h k = types_named items
-section_named (Exports items) content h k = exports_named items k.0 [] k.2
-section_named _ content h k = absurd cc
+in_front : (items : List ItemTree) (parts : Parts) → AllByRecursion HasName items → AreNamed parts → AreNamed (in_front_of items parts)
+in_front [] parts h k = k
+in_front (item ∷ items) parts h k = (h.0, in_front items parts h.1 k)
 
-sections_named : (ss : Sections) (bytes : List ℕ) → are_first_form ss ≡ true → SectionsForm ss bytes → AllByRecursion HasName (items_in ss)
-sections_named none bytes h k = tt
-sections_named (more s ss) bytes h k =
-    let first = both (is_first_form s) (are_first_form ss) h in
-    both_named (section_items s) (items_in ss) (section_named s k.0 first.0 k.3) (sections_named ss k.1 first.1 k.4)
+section_parts : (s : Section) (content : List ℕ) (parts : Parts) → ContentForm s content → AreNamed parts → AreNamed (parts_of_section s parts)
+section_parts (Named name bytes) content parts h k = (tt, k)
+section_parts (CoreModules bytes) content parts h k = (tt, k)
+section_parts (CoreInstances items) content parts h k = in_front _ parts (section_named (CoreInstances items) content h) k
+section_parts (CoreTypes items) content parts h k = in_front _ parts (section_named (CoreTypes items) content h) k
+section_parts (Nested bytes inner) content parts h k = (tt, k)
+section_parts (Instances items) content parts h k = in_front _ parts (section_named (Instances items) content h) k
+section_parts (Aliases items) content parts h k = in_front _ parts (section_named (Aliases items) content h) k
+section_parts (Types items) content parts h k = in_front _ parts (section_named (Types items) content h) k
+section_parts (Canons items) content parts h k = in_front _ parts (section_named (Canons items) content h) k
+section_parts (Imports items) content parts h k = in_front _ parts (section_named (Imports items) content h) k
+section_parts (Exports items) content parts h k = in_front _ parts (section_named (Exports items) content h) k
 
--- entries whose names are not empty
-abbrev AreNamed : List (List ℕ × EntityTree) → Type 0
-AreNamed es = AllByRecursion (λ e. 0 < length e.0) es
+sections_named : (ss : Sections) (bytes : List ℕ) → SectionsForm ss bytes → AreNamed (parts_in ss)
+sections_named none bytes h = tt
+sections_named (more s ss) bytes h = section_parts s h.0 (parts_in ss) h.3 (sections_named ss h.1 h.4)
 
-named_push : (es : List (List ℕ × EntityTree)) (e : List ℕ × EntityTree) → AreNamed es → 0 < length e.0 → AreNamed (es ++ e ∷ [])
-named_push [] e h n = (n, tt)
-named_push (x ∷ xs) e h n = (h.0, named_push xs e h.1 n)
+parts_named : (bytes : List ℕ) (parts : Parts) → HasParts bytes parts → AreNamed parts
+parts_named bytes parts h = subst AreNamed (sym h.1) (sections_named h.0 h.2.0 h.2.2)
 
-some_is : {X : Type 0} (x y : X) → Some x ≡ Some y → x ≡ y
-some_is x y e = cc
+-- ---- a scope
 
-chosen : (b : Bool) (k n : SpaceTree) (e : List ℕ × EntityTree) (types : List ValueTree) → 0 < length e.0 → AreNamed k.exports → cond b None (Some (record { types = types; exports = k.exports ++ e ∷ [] })) ≡ Some n → AreNamed n.exports
-chosen true k n e types name h is = absurd cc
-chosen false k n e types name h is = subst (λ (m : SpaceTree). AreNamed m.exports) (some_is (record { types = types; exports = k.exports ++ e ∷ [] }) n is) (named_push k.exports e h name)
+abbrev Names : List (List ℕ × Standing) → Type 0
+Names es = AllByRecursion (λ e. 0 < length e.0) es
 
-export_kept : (k n : SpaceTree) (e : ExportTree) (o : Option ValueTree) → 0 < length e.name → AreNamed k.exports → option_and_then (with_export k e) o ≡ Some n → AreNamed n.exports
-export_kept k n e None name h is = absurd cc
-export_kept k n e (Some t) name h is = chosen (is_taken e.name k.exports) k n (e.name, IsType (Value t)) _ name h is
+record HasNames (k : Known) : Type 0 where
+  imports : Names k.imports
+  exports : Names k.exports
 
-type_kept : (k n : SpaceTree) (o : Option ValueTree) → AreNamed k.exports → option_map (λ t. record k { types = k.types ++ t ∷ [] }) o ≡ Some n → AreNamed n.exports
-type_kept k n None h is = absurd cc
-type_kept k n (Some t) h is = subst (λ (m : SpaceTree). AreNamed m.exports) (some_is _ n is) h
+one_more : (es : List (List ℕ × Standing)) (e : List ℕ × Standing) → Names es → 0 < length e.0 → Names (es ++ e ∷ [])
+one_more [] e h n = (n, tt)
+one_more (x ∷ xs) e h n = (h.0, one_more xs e h.1 n)
 
-kept : (k n : SpaceTree) (item : ItemTree) → HasName item → AreNamed k.exports → after k item ≡ Some n → AreNamed n.exports
-unfolding after
-kept k n (Ty d) name h is = type_kept k n (definition_tree d) h is
-kept k n (Export e) name h is = export_kept k n e (slice_get k.types e.index) name h is
-kept k n _ name h is = absurd cc
+-- with other index spaces, with an import more, and with an export more
+spaces_named : (k : Known) (s : Spaces) → HasNames k → HasNames (with_spaces k s)
+spaces_named k s h = record { imports = h.imports; exports = h.exports }
 
-all_kept : (k n : SpaceTree) (items : List ItemTree) → AllByRecursion HasName items → AreNamed k.exports → after_all k items ≡ Some n → AreNamed n.exports
-unfolding after_all
-all_kept k n [] names h is = subst (λ (m : SpaceTree). AreNamed m.exports) (some_is k n is) h
-all_kept k n (item ∷ items) names h is = go (after k item) refl is (λ j step rest. all_kept j n items names.1 (kept k j item names.0 h step) rest)
-  where
-    go : (o : Option SpaceTree) → after k item ≡ o → option_and_then (λ next. after_all next items) o ≡ Some n → ((j : SpaceTree) → after k item ≡ Some j → after_all j items ≡ Some n → AreNamed n.exports) → AreNamed n.exports
-    go None step e later = absurd cc
-    go (Some j) step e later = later j step e
+import_more : (k : Known) (name : List ℕ) (e : Standing) (s : Spaces) → HasNames k → 0 < length name → HasNames (with_import k name e s)
+import_more k name e s h n = record { imports = one_more k.imports (name, e) h.imports n; exports = h.exports }
 
-shape_named : (items : List ItemTree) (s : ShapeTree) → AllByRecursion HasName items → shape items ≡ Some s → AreNamed s.exports
-shape_named items s names is = go (after_all nothing_known items) refl is
-  where
-    go : (o : Option SpaceTree) → after_all nothing_known items ≡ o → option_map (λ k. record { imports = []; exports = k.exports }) o ≡ Some s → AreNamed s.exports
-    go None step e = absurd cc
-    go (Some k) step e = subst (λ (t : ShapeTree). AreNamed t.exports) (some_is _ s e) (all_kept nothing_known k items names tt step)
+export_more : (k : Known) (name : List ℕ) (e : Standing) (s : Spaces) → HasNames k → 0 < length name → HasNames (with_export k name e s)
+export_more k name e s h n = record { imports = h.imports; exports = one_more k.exports (name, e) h.exports n }
 
-entries_named : (es : List (List ℕ × Entity)) → AreNamed (entries es) → AllByRecursion (λ e. 0 < length e.0) es
+then_ok : {X Y : Type 0} (P : Y → Type 0) (r : Result X ShapeFault) (f : X → Result Y ShapeFault) → ((x : X) → IfOk (f x) P) → IfOk (r >>= f) P
+then_ok P (Ok x) f h = h x
+then_ok P (Err e) f h = tt
+
+taken_ok : {Y : Type 0} (P : Y → Type 0) (b : Bool) (e : ShapeFault) (r : Result Y ShapeFault) → IfOk r P → IfOk (if b then Err e else r) P
+taken_ok P true e r h = tt
+taken_ok P false e r h = h
+
+opened_ok : {Y : Type 0} (P : Y → Type 0) (b : Bool) (e : ShapeFault) (r : Result Y ShapeFault) → IfOk r P → IfOk (if b then r else Err e) P
+opened_ok P true e r h = h
+opened_ok P false e r h = tt
+
+module _ (b : Bounds) where
+  import_named : (k : Known) (i : ImportTree) → HasNames k → 0 < length i.name → IfOk (imported b k i.name i.ty) HasNames
+  unfolding imported
+  import_named k i h n =
+      taken_ok HasNames (is_taken i.name k.imports) Index _ (then_ok HasNames (described k.spaces (new_brought k.spaces) i.ty) _ (λ d. then_ok HasNames (with_brought b k.spaces d) _ (λ s. import_more k i.name d.standing s h n)))
+
+  export_named : (k : Known) (e : ExportTree) → HasNames k → 0 < length e.name → IfOk (exported b k e) HasNames
+  unfolding exported
+  export_named k e h n =
+      taken_ok HasNames (is_taken e.name k.exports) Index _ (then_ok HasNames (standing k.spaces e.sort e.index) _ (λ item. then_ok HasNames (if is_typed item.0 then exported_as k.spaces item e.ty else Err Index) _ (λ d. then_ok HasNames (with_made b k.spaces d) _ (λ s. export_more k e.name d.standing s h n))))
+
+  -- an item that is neither imported nor exported
+  inner_named : (around : List Spaces) (k : Known) (item : ItemTree) → HasNames k → IfOk (spaces_after b around k.spaces item >>= λ s. Ok (with_spaces k s)) HasNames
+  inner_named around k item h = then_ok HasNames (spaces_after b around k.spaces item) _ (λ s. spaces_named k s h)
+
+  item_named : (around : List Spaces) (k : Known) (item : ItemTree) → HasName item → HasNames k → IfOk (after b around k item) HasNames
+  unfolding after
+  item_named around k (Import i) n h = import_named k i h n
+  item_named around k (Export e) n h = export_named k e h n
+  item_named around k (Custom name bytes) n h = inner_named around k (Custom name bytes) h
+  item_named around k (CoreModule bytes) n h = inner_named around k (CoreModule bytes) h
+  item_named around k (CoreMade item) n h = inner_named around k (CoreMade item) h
+  item_named around k (CoreTy item) n h = inner_named around k (CoreTy item) h
+  item_named around k (Component bytes) n h = inner_named around k (Component bytes) h
+  item_named around k (Instance item) n h = inner_named around k (Instance item) h
+  item_named around k (Aliased item) n h = inner_named around k (Aliased item) h
+  item_named around k (Ty item) n h = inner_named around k (Ty item) h
+  item_named around k (Canonical item) n h = inner_named around k (Canonical item) h
+
+  part_named : (around : List Spaces) (k : Known) (p : Part) → PartHasName p → HasNames k → IfOk (after_part b around k p) HasNames
+  unfolding after_part
+  part_named around k (Plain item) n h = item_named around k item n h
+  part_named around k (Inner bytes parts) n h =
+      opened_ok HasNames (is_within b.scopes (suc (length (k.spaces ∷ around)))) TooDeep _ (then_ok HasNames (after_parts b (k.spaces ∷ around) (nothing_known true) parts) _ (λ inner.
+      then_ok HasNames (added b k.spaces (IsComponent (closed inner).imports (closed inner).exports) true) _ (λ s. spaces_named k s h)))
+
+  all_named : (around : List Spaces) (k : Known) (ps : Parts) → AreNamed ps → HasNames k → IfOk (after_parts b around k ps) HasNames
+  unfolding after_parts
+  all_named around k nothing n h = h
+  all_named around k (then_part p ps) n h = next (after_part b around k p) (part_named around k p n.0 h) (λ k h. all_named around k ps n.1 h)
+    where
+      next : (r : Result Known ShapeFault) → IfOk r HasNames → ((k : Known) → HasNames k → IfOk (after_parts b around k ps) HasNames) → IfOk (r >>= λ k. after_parts b around k ps) HasNames
+      next (Ok k) h later = later k h
+      next (Err e) h later = tt
+
+-- ---- imports and exports
+
+abbrev EntriesNamed : Entries → Type 0
+EntriesNamed no_entry = Unit {0}
+EntriesNamed (entry name e mark es) = (0 < length name) × EntriesNamed es
+
+entries_named : (es : List (List ℕ × Standing)) → Names es → EntriesNamed (entries_in es)
 entries_named [] h = tt
 entries_named (e ∷ es) h = (h.0, entries_named es h.1)
 
--- the exports of a shape have names
-pub exports_have_names : (bytes : List ℕ) (items : List ItemTree) (exports : List (List ℕ × Entity)) (s : ShapeTree) → InFirstForm bytes items → shape items ≡ Some s → s.exports ≡ entries exports → All (λ e. 0 < length e.0) exports
-exports_have_names bytes items exports s h is same =
-    let names = subst (AllByRecursion HasName) (sym h.items_are) (sections_named h.sections h.form.0 h.first h.form.2) in
-    All-from_recursion _ exports (entries_named exports (subst AreNamed same (shape_named items s names is)))
+renamed : (c : Change) (d : ℕ) (es : Entries) → EntriesNamed es → EntriesNamed (entries_by c d es)
+renamed c d no_entry h = tt
+renamed c d (entry name e mark es) h = (h.0, renamed c d es h.1)
+
+listed_named : (es : Entries) → EntriesNamed es → AllByRecursion (λ e. 0 < length e.0) (listed es)
+listed_named no_entry h = tt
+listed_named (entry name e mark es) h = (h.0, listed_named es h.1)
+
+record ShapeHasNames (s : ShapeTree) : Type 0 where
+  imports : AllByRecursion (λ e. 0 < length e.0) s.imports
+  exports : AllByRecursion (λ e. 0 < length e.0) s.exports
+
+sides_named : (c : Sides) → EntriesNamed c.imports × EntriesNamed c.exports → ShapeHasNames (record { imports = listed c.imports; exports = listed c.exports })
+sides_named c h = record { imports = listed_named c.imports h.0; exports = listed_named c.exports h.1 }
+
+within : (c : Sides) → EntriesNamed c.imports × EntriesNamed c.exports → IfOk (as_shape bounded c) ShapeHasNames
+within c h = opened_ok ShapeHasNames (is_within bounded.nodes (entries_nodes c.imports + entries_nodes c.exports)) TooBig _ (sides_named c h)
+
+closed_named : (k : Known) → HasNames k → EntriesNamed (closed k).imports × EntriesNamed (closed k).exports
+closed_named k h = (renamed _ 0 _ (entries_named k.imports h.imports), renamed _ 0 _ (entries_named k.exports h.exports))
+
+shape_named : (parts : Parts) → AreNamed parts → IfOk (shape_within bounded parts) ShapeHasNames
+unfolding shape_within
+shape_named parts n = named (after_parts bounded [] (nothing_known true) parts) (all_named bounded [] (nothing_known true) parts n (record { imports = tt; exports = tt }))
+  where
+    named : (r : Result Known ShapeFault) → IfOk r HasNames → IfOk (r >>= λ k. as_shape bounded (closed k)) ShapeHasNames
+    named (Ok k) h = within (closed k) (closed_named k h)
+    named (Err e) h = tt
+
+pub names_of_shape : (bytes : List ℕ) (s : ShapeTree) → HasShape bytes s → All (λ e. 0 < length e.0) s.imports × All (λ e. 0 < length e.0) s.exports
+names_of_shape bytes s h =
+    let named = subst (λ r. IfOk r ShapeHasNames) h.shape_is (shape_named h.parts (parts_named bytes h.parts h.has_parts)) in
+    (All-from_recursion (λ (e : List ℕ × EntityTree). 0 < length e.0) s.imports named.imports, All-from_recursion (λ (e : List ℕ × EntityTree). 0 < length e.0) s.exports named.exports)

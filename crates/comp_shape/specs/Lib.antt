@@ -1,5 +1,3 @@
-pub mod Refusal
-pub mod FirstForm
 pub mod Shape
-pub mod Views
 pub mod Image
+pub mod Refusal

@@ -1,11 +1,10 @@
-//! Why a component has no shape.
+//! Why a component could not be read.
 
 ghost use Rattle.std.specs.Prelude.{◌≡◌};
 ghost use Rattle.comp_shape.specs.Refusal.{as_shape};
 ghost use Rattle.comp_shape.specs.declared.error.ShapeError.TheVariants.{Memory as no_memory};
 
 use comp_reader::ReadError;
-use std::alloc::{AllocError, AllocFailed};
 use thiserror::Error;
 use warg_values::Memory;
 
@@ -15,34 +14,26 @@ pub enum ShapeError {
     /// No form of the format stands there.
     #[error("the bytes at {0} are no part of a component: check that the file is whole, and a component")]
     Form(usize),
-    /// A form stands there that is not carried, as values, start sections and asynchronous functions.
+    /// A form stands there that is not carried, as values, start sections and asynchronous functions, or that has no part
+    /// in a link image where one is read.
     #[error("the bytes at {0} are of a form that is not supported: leave out what uses it")]
     NotCarried(usize),
-    /// An export names a type that is not there, or has the name of an earlier one, letter case set aside.
+    /// The item there names nothing that is there, or what may not be named there, or has the name of another one, letter
+    /// case set aside.
     #[error("the item at {0} names nothing that is there, or has the name of another one: build the component anew")]
     Index(usize),
-    /// The section is not of the first form.
-    #[error("the section at {0} is not supported: leave out all but primitive and tuple types and their exports")]
-    NotBuilt(usize),
-    /// No memory was left, or more than 200 scopes were open at one place.
-    #[error("out of memory, or more than 200 scopes are open at one place: free some memory, or nest less")]
+    /// The item there is given, or exports, what does not fit.
+    #[error("the item at {0} does not fit where it is put: check which components are put together")]
+    DoesNotFit(usize),
+    /// More scopes are open at one place, or a value type is deeper, than is carried.
+    #[error("more than 32 scopes lie in each other, or a value type is more than 100 deep: nest less")]
+    TooDeep,
+    /// A type, an item, or the imports and exports have more nodes than are carried.
+    #[error("a type, or what is imported and exported, has more than a million parts: divide it")]
+    TooBig,
+    /// No memory was left, or more than 200 scopes, or a thousand types, lie in each other.
+    #[error("out of memory, or more than 200 scopes or 1000 types lie in each other: free some memory, or nest less")]
     Memory,
-}
-
-impl From<AllocError> for ShapeError {
-    ghost from_gives = { λ _ e. e ≡ no_memory };
-
-    fn from(_error: AllocError) -> ShapeError {
-        ShapeError::Memory
-    }
-}
-
-impl<T: Drop> From<AllocFailed<T>> for ShapeError {
-    ghost from_gives = { λ _ e. e ≡ no_memory };
-
-    fn from(_error: AllocFailed<T>) -> ShapeError {
-        ShapeError::Memory
-    }
 }
 
 impl From<Memory> for ShapeError {

@@ -1,9 +1,9 @@
 //! The items of a component.
 
-ghost use Rattle.std.specs.Prelude.{◌≡◌, ℕ, List, map, IfOk, MatchResult, Err};
-ghost use Rattle.comp_format.specs.Fault.{Form as no_form, NotCarried as not_carried};
+ghost use Rattle.std.specs.Prelude.{◌≡◌, List, map, IfErr, IfOk, MatchResult};
 ghost use Rattle.comp_format.specs.Items.{ItemTree, item_tree};
-ghost use Rattle.comp_format.specs.Sections.{Reads, component_at};
+ghost use Rattle.comp_format.specs.Sections.{Reads};
+ghost use Rattle.comp_shape.specs.Refusal.{IsUnread};
 
 use crate::error::ShapeError;
 use comp_format::Item;
@@ -15,16 +15,13 @@ use std::alloc::Global;
 /// `NotCarried` is answered where the first field in reading order that has no form here is of a form that is not
 /// carried, and `Form` where it is of no form at all, each with the place of that field in bytes from the start. The id
 /// of a section is its first field. At most 200 scopes are followed at one place: components, and types of components,
-/// instances and modules. Where more are open, `Memory` is answered: each takes some of the machine's stack.
+/// instances and modules. Where more are open, `Memory` is answered: each takes some of the machine's stack. No other
+/// error is answered.
 pub fn read_items(alloc: Global, bytes: &[u8]) -> Result<Vec<Item<'_>>, ShapeError>
     ensures found { IfOk result (λ items. Reads bytes.now (map item_tree items.items)) }
     ensures only { (items : List ItemTree) → Reads bytes.now items
         → MatchResult result (λ v. map item_tree v.items ≡ items) (λ e. e ≡ ShapeError.Memory) }
-    ensures form { (at : ℕ) → result ≡ Err (ShapeError.Form at) → component_at 200 bytes.now ≡ Err no_form }
-    ensures not_carried { (at : ℕ) → result ≡ Err (ShapeError.NotCarried at)
-        → component_at 200 bytes.now ≡ Err not_carried }
-    ensures no_index { (at : ℕ) → result ≡ Err (ShapeError.Index at) → ⊥ }
-    ensures all_built { (at : ℕ) → result ≡ Err (ShapeError.NotBuilt at) → ⊥ }
+    ensures cause { IfErr result (λ e. IsUnread e bytes.now) }
 {
     match comp_reader::read_items(alloc, bytes) {
         Ok(items) => Ok(items),

@@ -1,219 +1,122 @@
-//! Shapes from items, item by item.
+//! Shapes of components from their bytes.
 
-ghost use Rattle.std.specs.Prelude.{◌≡◌, ◌<◌, ℕ, length, All, List, Some, None, true, map, OnOk, IfOk, IfErr, IfSome, IfNone, Err, slice_get};
-ghost use Rattle.comp_format.specs.declared.types.Sort.TheVariants as sort;
-ghost use Rattle.comp_format.specs.Fault.{Form as no_form, NotCarried as not_carried};
-ghost use Rattle.comp_format.specs.Items.{ItemTree, Export, item_tree};
-ghost use Rattle.comp_format.specs.Sections.{Reads, component_at};
-ghost use Rattle.comp_shape.specs.Shape.{BreaksAt, BreaksFirst, after, after_all, nothing_known, shape};
-ghost use Rattle.comp_shape.specs.FirstForm.{InFirstForm, StandsFirstOther, is_plain_item};
-ghost use Rattle.comp_shape.specs.Refusal.{IsOfItems};
-ghost use Rattle.comp_shape.specs.Views.{known, plain_tree, shape_tree, IsNamed, IsPlain, ArePlain};
+ghost use Rattle.std.specs.Prelude.{◌≡◌, ◌<◌, IfErr, IfOk, MatchResult, length, map};
+ghost use Rattle.comp_entity.specs.Bounds.{bounded};
+ghost use Rattle.comp_entity.specs.Views.{shape_tree};
+ghost use Rattle.comp_format.specs.Items.{item_tree};
+ghost use Rattle.comp_format.specs.Sections.{Reads};
+ghost use Rattle.comp_parts.specs.Parts.{TellsFault, TellsItem};
+ghost use Rattle.comp_reader.specs.Places.{StandsAt};
+ghost use Rattle.comp_reader.specs.declared.places.ItemPlace.{ItemPlace as Place};
+ghost use Rattle.comp_scope.specs.Shape.{Expands, HasParts, Parts, shape_within};
+ghost use Rattle.comp_shape.specs.Refusal.{IsRefused};
+ghost use Rattle.comp_shape.specs.Shape.{HasShape};
 
-use crate::broken::Broken;
 use crate::error::ShapeError;
-use crate::first_form::check_first_form;
 use crate::items::read_items;
-use crate::shape::{Entity, Shape, TypeShape};
-use crate::space::Space;
-use crate::values::value_of;
-use comp_format::{DefType, Item};
+use comp_entity::Shape;
+use comp_format::Item;
+use comp_format::laws::one_reading;
+use comp_parts::{PartError, ShapeError as PartsError, shape_of};
 use comp_reader::item_place;
+use comp_scope::laws::parts_are_items;
+use comp_space::ScopeError;
 use std::alloc::Global;
-use std::collections::BTreeSet;
-use warg_values::Text;
+use warg_values::Memory;
 
-/// The type of an index.
-fn type_at<'a>(types: &[&'a DefType], index: u32) -> Option<&'a DefType>
-    requires { All (λ t. IsPlain t.now) types.now }
-    ensures plain { IfSome result (λ t. IsPlain t.now) }
-    ensures there { IfSome result
-        (λ t. slice_get (map (λ t. plain_tree t.now) types.now) index ≡ Some (plain_tree t.now)) }
-    ensures absent { IfNone result (slice_get (map (λ t. plain_tree t.now) types.now) index ≡ None) }
-{
-    let index = index as usize;
-    if index < types.len() {
-        Some(types[index])
-    } else {
-        None
-    }
-}
-
-/// Adds an export of a type, the item of this number.
-#[tactic(auto, unfolding(crate::specs::Shape::after))]
-fn add_export(
+/// The place of an item that was read, in bytes from the component's start.
+pub(crate) fn place_of(
     alloc: Global,
-    space: &mut Space<'_>,
+    bytes: &[u8],
+    items: &[Item<'_>],
     number: usize,
-    name: &Text,
-    index: u32,
-) -> Result<(), Broken>
-    requires has_names { IsNamed space.old }
-    requires has_plain { ArePlain space.old }
-    ensures named { OnOk result (IsNamed space.new) }
-    ensures plain { OnOk result (ArePlain space.new) }
-    ensures added { OnOk result
-        (after (known space.old) (Export (record { name = name.now; sort = sort.Ty; index = index; ty = None }))
-        ≡ Some (known space.new)) }
-    ensures index { (at : ℕ) → result ≡ Err (Broken.Item at)
-        → after (known space.old) (Export (record { name = name.now; sort = sort.Ty; index = index; ty = None }))
-        ≡ None }
-    ensures numbered { (at : ℕ) → result ≡ Err (Broken.Item at) → at ≡ number }
+) -> Result<usize, Memory>
+    requires reads { Reads bytes.now (map item_tree items.now) }
+    requires there { number < length items.now }
+    ensures { IfOk result (λ at. (place : Place) × StandsAt number bytes.now place × (at ≡ place.item)) }
 {
-    let Some(ty) = type_at(&space.types, index) else {
-        return Err(Broken::Item(number));
-    };
-    let lower = name.to_ascii_lowercase(alloc)?;
-    let is_new = space.names.insert(lower)?;
-    if !is_new {
-        return Err(Broken::Item(number));
-    }
-    let Some(value) = value_of(alloc, ty)? else {
-        return Err(Broken::Item(number));
-    };
-    let entity = Entity::Ty(TypeShape::Value(value));
-    let name = name.try_clone(alloc)?;
-    space.types.push(ty)?;
-    space.exports.push((name, entity))?;
-    Ok(())
-}
-
-/// Adds an item, which has this number.
-#[tactic(auto, unfolding(crate::specs::Shape::after))]
-fn add_item<'a>(
-    alloc: Global,
-    space: &mut Space<'a>,
-    number: usize,
-    item: &'a Item<'a>,
-) -> Result<(), Broken>
-    requires of_first_form { is_plain_item (item_tree item.now) ≡ true }
-    requires has_names { IsNamed space.old }
-    requires has_plain { ArePlain space.old }
-    ensures named { OnOk result (IsNamed space.new) }
-    ensures plain { OnOk result (ArePlain space.new) }
-    ensures added { OnOk result (after (known space.old) (item_tree item.now) ≡ Some (known space.new)) }
-    ensures index { (at : ℕ) → result ≡ Err (Broken.Item at) → after (known space.old) (item_tree item.now) ≡ None }
-    ensures numbered { (at : ℕ) → result ≡ Err (Broken.Item at) → at ≡ number }
-{
-    match item {
-        Item::Ty(ty) => {
-            space.types.push(ty)?;
-            Ok(())
-        }
-        Item::Export { name, index, .. } => add_export(alloc, space, number, name, *index),
-        _ => Err(Broken::Item(number)),
+    match item_place(alloc, bytes, number) {
+        Ok(place) => Ok(place.item),
+        // The items were read before, so that only memory can be short.
+        Err(_) => Err(Memory),
     }
 }
 
-/// What is known after all items.
-fn space_of<'a>(alloc: Global, items: &'a [Item<'a>]) -> Result<Space<'a>, Broken>
-    requires { All (λ item. is_plain_item (item_tree item) ≡ true) items.now }
-    ensures known { IfOk result (λ space. after_all nothing_known (map item_tree items.now) ≡ Some (known space)) }
-    ensures index { (at : ℕ) → result ≡ Err (Broken.Item at)
-        → after_all nothing_known (map item_tree items.now) ≡ None }
-    ensures first { (number : ℕ) → result ≡ Err (Broken.Item number) → BreaksFirst (map item_tree items.now) number }
+/// The error of an item that is at fault.
+fn item_refusal(alloc: Global, bytes: &[u8], items: &[Item<'_>], part: PartError) -> ShapeError
+    requires reads { Reads bytes.now (map item_tree items.now) }
+    requires parts { (parts : Parts) × HasParts bytes.now parts × Expands (map item_tree items.now) parts }
+    requires fault { (parts : Parts) → Expands (map item_tree items.now) parts
+        → TellsFault (PartsError.Item part) (shape_within bounded parts) }
+    requires first { (parts : Parts) → Expands (map item_tree items.now) parts
+        → TellsItem (PartsError.Item part) parts }
+    ensures { IsRefused result bytes.now }
 {
-    let mut space = Space {
-        types: Vec::new(alloc),
-        names: BTreeSet::new(alloc),
-        exports: Vec::new(alloc),
-    };
-    let mut number = 0;
-    for item in items {
-        add_item(alloc, &mut space, number, item)?;
-        number += 1;
-    }
-    Ok(space)
-}
-
-/// The shape of a component, which was read as these items.
-fn shape_of<'a>(alloc: Global, bytes: &[u8], items: &'a [Item<'a>]) -> Result<Shape, ShapeError>
-    requires { Reads bytes.now (map item_tree items.now) }
-    ensures found { IfOk result
-        (λ s.
-        InFirstForm bytes.now (map item_tree items.now) × (shape (map item_tree items.now) ≡ Some (shape_tree s))) }
-    ensures named { IfOk result (λ s. All (λ e. 0 < length e.0) s.exports.items) }
-    ensures not_built { (at : ℕ) → result ≡ Err (ShapeError.NotBuilt at)
-        → (others : List ItemTree)
-        → InFirstForm bytes.now others
-        → ⊥ }
-    ensures index { (at : ℕ) → result ≡ Err (ShapeError.Index at)
-        → InFirstForm bytes.now (map item_tree items.now) × (shape (map item_tree items.now) ≡ None) }
-    ensures not_built_place { (at : ℕ) → result ≡ Err (ShapeError.NotBuilt at) → StandsFirstOther bytes.now at }
-    ensures index_place { (at : ℕ) → result ≡ Err (ShapeError.Index at)
-        → BreaksAt bytes.now (map item_tree items.now) at }
-    ensures only { IfErr result IsOfItems }
-{
-    match check_first_form(alloc, bytes, items) {
-        Ok(()) => {}
-        Err(error) => return Err(error),
-    }
-    match space_of(alloc, items) {
-        Ok(space) => {
-            let Space { exports, .. } = space;
-            Ok(Shape {
-                imports: Vec::new(alloc),
-                exports,
-            })
-        }
-        Err(Broken::Item(number)) => match item_place(alloc, bytes, number) {
-            Ok(place) => Err(ShapeError::Index(place.item)),
-            // The items were read before, so that only memory can be short.
-            Err(_) => Err(ShapeError::Memory),
+    match part.error {
+        ScopeError::Index => match place_of(alloc, bytes, items, part.item) {
+            Ok(at) => ShapeError::Index(at),
+            Err(Memory) => ShapeError::Memory,
         },
-        Err(Broken::Memory) => Err(ShapeError::Memory),
+        ScopeError::DoesNotFit => match place_of(alloc, bytes, items, part.item) {
+            Ok(at) => ShapeError::DoesNotFit(at),
+            Err(Memory) => ShapeError::Memory,
+        },
+        ScopeError::TooDeep => ShapeError::TooDeep,
+        ScopeError::TooBig => ShapeError::TooBig,
+        ScopeError::Memory => ShapeError::Memory,
     }
 }
 
-/// The items of a component of the first form and its shape, by one reading of its bytes.
+/// The error of items that have no shape.
+fn refusal(alloc: Global, bytes: &[u8], items: &[Item<'_>], error: PartsError) -> ShapeError
+    requires reads { Reads bytes.now (map item_tree items.now) }
+    requires parts { (parts : Parts) × HasParts bytes.now parts × Expands (map item_tree items.now) parts }
+    requires fault { (parts : Parts) → Expands (map item_tree items.now) parts
+        → TellsFault error (shape_within bounded parts) }
+    requires first { (parts : Parts) → Expands (map item_tree items.now) parts → TellsItem error parts }
+    ensures { IsRefused result bytes.now }
+{
+    match error {
+        PartsError::Item(part) => item_refusal(alloc, bytes, items, part),
+        PartsError::TooBig => ShapeError::TooBig,
+        PartsError::Memory => ShapeError::Memory,
+    }
+}
+
+/// The items of a component and its shape, by one reading of its bytes.
 ///
 /// The items are those of [`read_items`], and the errors those of [`read_shape`].
 pub fn read_component(alloc: Global, bytes: &[u8]) -> Result<(Vec<Item<'_>>, Shape), ShapeError>
-    ensures found { IfOk result
-        (λ read.
-        InFirstForm bytes.now (map item_tree read.0.items)
-        × (shape (map item_tree read.0.items) ≡ Some (shape_tree read.1))) }
-    ensures named { IfOk result (λ read. All (λ e. 0 < length e.0) read.1.exports.items) }
-    ensures form { (at : ℕ) → result ≡ Err (ShapeError.Form at) → component_at 200 bytes.now ≡ Err no_form }
-    ensures not_carried { (at : ℕ) → result ≡ Err (ShapeError.NotCarried at)
-        → component_at 200 bytes.now ≡ Err not_carried }
-    ensures not_built { (at : ℕ) → result ≡ Err (ShapeError.NotBuilt at)
-        → (items : List ItemTree) × Reads bytes.now items
-        × ((others : List ItemTree) → InFirstForm bytes.now others → ⊥)
-        × StandsFirstOther bytes.now at }
-    ensures index { (at : ℕ) → result ≡ Err (ShapeError.Index at)
-        → (items : List ItemTree) × InFirstForm bytes.now items × (shape items ≡ None) × BreaksAt bytes.now items at }
+    ensures items { IfOk result (λ read. Reads bytes.now (map item_tree read.0.items)) }
+    ensures shape { IfOk result (λ read. HasShape bytes.now (shape_tree read.1)) }
+    ensures cause { IfErr result (λ e. IsRefused e bytes.now) }
 {
-    match read_items(alloc, bytes) {
-        Ok(items) => match shape_of(alloc, bytes, &items) {
-            Ok(shape) => Ok((items, shape)),
-            Err(error) => Err(error),
-        },
-        Err(error) => Err(error),
+    one_reading();
+    parts_are_items();
+    let items = match read_items(alloc, bytes) {
+        Ok(items) => items,
+        Err(error) => return Err(error),
+    };
+    match shape_of(alloc, &items) {
+        Ok(shape) => Ok((items, shape)),
+        Err(error) => Err(refusal(alloc, bytes, &items, error)),
     }
 }
 
-/// The shape of a component of the first form.
-///
-/// `Form` and `NotCarried` are those of [`read_items`]. `NotBuilt` is answered exactly where that reads the bytes, and
-/// a section is no vector of primitive types and tuples of these, and no vector of exports of types without a
-/// description, with the place of the first such section's id. `Index` is answered exactly where the component is of
-/// the first form, and an export names a type whose index is not there yet, or has the name of an earlier one, ASCII
-/// letter case set aside, with the place of that export (`Explainer.md`, "Index Spaces" and "Import and Export
+/// What a component imports and exports, with all indices followed (`Explainer.md`, "Index Spaces" and "Component
 /// Definitions").
+///
+/// `Form` and `NotCarried` are those of [`read_items`], and come before all other errors. `Index` is answered where an
+/// item names what is not there yet, or what may not be named there, or has a name that is taken, letter case set aside;
+/// `DoesNotFit` where it is given, or exports under a description, what does not fit. Both have the place of the
+/// item, that of the nested component where the item lies in one. `TooDeep` is answered where more than 32 scopes are open
+/// at one place, the outermost component among them, or a value type is more than 100 deep, and `TooBig` where a type,
+/// an item, or the imports and exports have more than a million nodes. Of these errors the one of the first item that is
+/// at fault is answered. `Memory` also where more than 200 scopes are open at one place, or more than a thousand types
+/// and entities lie within each other: each takes some of the machine's stack.
 pub fn read_shape(alloc: Global, bytes: &[u8]) -> Result<Shape, ShapeError>
-    ensures found { IfOk result
-        (λ s. (items : List ItemTree) × InFirstForm bytes.now items × (shape items ≡ Some (shape_tree s))) }
-    ensures named { IfOk result (λ s. All (λ e. 0 < length e.0) s.exports.items) }
-    ensures form { (at : ℕ) → result ≡ Err (ShapeError.Form at) → component_at 200 bytes.now ≡ Err no_form }
-    ensures not_carried { (at : ℕ) → result ≡ Err (ShapeError.NotCarried at)
-        → component_at 200 bytes.now ≡ Err not_carried }
-    ensures not_built { (at : ℕ) → result ≡ Err (ShapeError.NotBuilt at)
-        → (items : List ItemTree) × Reads bytes.now items
-        × ((others : List ItemTree) → InFirstForm bytes.now others → ⊥)
-        × StandsFirstOther bytes.now at }
-    ensures index { (at : ℕ) → result ≡ Err (ShapeError.Index at)
-        → (items : List ItemTree) × InFirstForm bytes.now items × (shape items ≡ None) × BreaksAt bytes.now items at }
+    ensures found { IfOk result (λ s. HasShape bytes.now (shape_tree s)) }
+    ensures cause { IfErr result (λ e. IsRefused e bytes.now) }
 {
     match read_component(alloc, bytes) {
         Ok((_, shape)) => Ok(shape),

@@ -44,36 +44,6 @@ module _ (ts : List PlainTree) where
   found_is n None h = absurd h
   found_is n (Some e) h = (e.0, h)
 
-  pub found_fits : (n : ℕ) (u : Option (EntityTree × Bool)) (item : EntityTree) (answer : Bool) → IsUnder ts (Some n) u → ((e : EntityTree) → Stands ts n (plain_entity e) → answer ≡ fits_with same_name e item) → answer ≡ option_map_or (λ (e : EntityTree × Bool). fits_with same_name e.0 item) u false
-  found_fits n None item answer h f = absurd h
-  found_fits n (Some e) item answer h f = f e.0 h
-
-  -- names
-  pub no_names : (names : BTreeMap (List ℕ) ℕ) → names.entries ≡ [] → (es : Entries) → none ≡ plain_entries es → AreNames ts es names
-  no_names names empty es e = subst (λ es. AreNames ts es names) (sym (none_left es e)) (λ name.
-      let absent : get (slice_cmp nat_cmp) names name ≡ None = ap (λ xs. lookup (is_at (slice_cmp nat_cmp name)) xs) empty in
-      subst (λ o. IsUnder ts o None) (sym absent) tt)
-
-  pub one_name : (es : Entries) (old new : BTreeMap (List ℕ) ℕ) (name : List ℕ) (item : EntityTree) (mark : Bool) (n : ℕ) → AreNames ts es old → Stands ts n (plain_entity item) → Updates (slice_cmp nat_cmp) old new name (Some n) → AreNames ts (entry name item mark es) new
-  one_name es old new name item mark n names s updates q =
-      let same = is_eq-slice_cmp name q ∙ nat_list_eq_equiv.symm name q in
-      subst (λ o. IsUnder ts o (under q (entry name item mark es))) (sym (updates.0 q ∙ ap (λ b. cond b (Some n) (get (slice_cmp nat_cmp) old q)) same)) (of (bytes_eq q name) (names q))
-    where
-      of : (b : Bool) → IsUnder ts (get (slice_cmp nat_cmp) old q) (under q es) → IsUnder ts (cond b (Some n) (get (slice_cmp nat_cmp) old q)) (cond b (Some (item, mark)) (under q es))
-      of true h = s
-      of false h = h
-
-  -- names of what is left, one more being noted from behind
-  pub names_more : (p : ℕ) (ps : List ℕ) (es : Entries) (old new : BTreeMap (List ℕ) ℕ) (name : List ℕ) (n : ℕ) →
-      ((rest : Entries) → trees_of (map (tree_at ts) ps) ≡ plain_entries rest → AreNames ts rest old) →
-      ((m : List ℕ) (mark : Bool) (t : PlainTree) → tree_at ts p ≡ around (head.Entry mark m) t → (name ≡ m) × Stands ts n t) →
-      Updates (slice_cmp nat_cmp) old new name (Some n) → trees_of (map (tree_at ts) (p ∷ ps)) ≡ plain_entries es → AreNames ts es new
-  names_more p ps es old new name n names noted updates e =
-      let x = next p ps es e in
-      let y = noted x.name x.mark (plain_entity x.item) x.here in
-      subst (λ es. AreNames ts es new) (sym x.is)
-      (one_name x.rest old new x.name x.item x.mark n (names x.rest x.later) y.1 (subst (λ m. Updates (slice_cmp nat_cmp) old new m (Some n)) y.0 updates))
-
   -- an entry among some numbers
   pub entry_among : (ps : List ℕ) (es : Entries) (i d : ℕ) → i < length ps → trees_of (map (tree_at ts) ps) ≡ plain_entries es → (name : List ℕ) × (mark : Bool) × (t : PlainTree) × (tree_at ts (slice_index_or ps i d) ≡ around (head.Entry mark name) t)
   entry_among [] es i d lt e = absurd (omega (arith, lt))

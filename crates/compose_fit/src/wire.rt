@@ -12,10 +12,10 @@ ghost use Rattle.compose_fit.specs.Seen.{AreSeen, AreSomething, IsGiven, IsGiven
 ghost use Rattle.compose_fit.specs.Wires.{Given, Export, Whole, given_by};
 ghost use Rattle.compose_fit.specs.declared.wire.GivenNumber.TheVariants as GivenNumber;
 
-use crate::entries::{entry_at, entry_in, is_instance, names_of};
+use crate::entries::{entry_in, is_instance};
 use crate::misfit::Unfit;
 use crate::numbered::ShapeNumbers;
-use comp_fit::fits_as_named;
+use comp_fit::{entry_at, fits_as_named, names_of};
 use comp_table::{TypeNumber, TypeTable};
 use compose_left::Wire;
 use std::alloc::Global;

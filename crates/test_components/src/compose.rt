@@ -14,12 +14,28 @@ const TUPLE: &[u8] = b"\0asm\r\0\x01\0\x07\x05\x01\x6f\x02\x79\x79\x0b\x07\x01\0
 /// A component with a custom section.
 const CUSTOM: &[u8] = b"\0asm\r\0\x01\0\0\x04\x01xxx";
 
+/// A component that exports a nested component as `c`, and an instance as `i`.
+const PARTS: &[u8] =
+    b"\0asm\r\0\x01\0\x04\x08\0asm\r\0\x01\0\x05\x03\x01\x01\0\x0b\x0d\x02\0\x01c\x04\0\0\0\x01i\x05\0\0";
+
+/// A component that imports a component `c` of a type without declarations.
+const IMPORTS: &[u8] = b"\0asm\r\0\x01\0\x07\x03\x01\x41\0\x0a\x06\x01\0\x01c\x04\0";
+
+/// A component that exports a resource as `r`.
+const RESOURCE: &[u8] = b"\0asm\r\0\x01\0\x07\x04\x01\x3f\x7f\0\x0b\x07\x01\0\x01r\x03\0\0";
+
+/// A component that exports the tuple of two `u32` twice, as `t` and as `T`.
+const TWICE: &[u8] =
+    b"\0asm\r\0\x01\0\x07\x05\x01\x6f\x02\x79\x79\x0b\x0d\x02\0\x01t\x03\0\0\0\x01T\x03\0\0";
+
 /// The name and the bytes of a component, and what taking it answers.
-const TAKEN: [(&str, &[u8], &str); 5] = [
+const TAKEN: [(&str, &[u8], &str); 7] = [
     ("a", EMPTY, "taken"),
     ("", EMPTY, "BadName"),
-    ("a", CUSTOM, "BadComponent(NotBuilt(8))"),
-    ("", CUSTOM, "BadName"),
+    ("a", CUSTOM, "taken"),
+    ("a", IMPORTS, "taken"),
+    ("a", TWICE, "BadComponent(Index(24))"),
+    ("", TWICE, "BadName"),
     ("a", b"\0asm\x01\0\0\0", "BadComponent(Form(4))"),
 ];
 
@@ -30,7 +46,26 @@ const FROM_FILES: [(u64, &str, &str, &str); 5] = [
     (3, "a", "other.wasm", "File(Missing)"),
     (2, "a", "root.wasm", "File(Failed)"),
     (2, "", "root.wasm", "BadName"),
-    (3, "a", "custom.wasm", "BadComponent(NotBuilt(8))"),
+    (3, "a", "twice.wasm", "BadComponent(Index(24))"),
+];
+
+/// The bytes of a component, and its link in hexadecimal digits, or why it is not linked.
+const LINKS: &[(&[u8], &str)] = &[
+    (EMPTY, "0061736d0d00010004080061736d0d000100050401000000"),
+    (
+        TUPLE,
+        "0061736d0d00010004180061736d0d0001000705016f0279790b070100017403000005040100000006060103000001740b0701000174030000",
+    ),
+    (
+        CUSTOM,
+        "0061736d0d000100040e0061736d0d000100000401787878050401000000",
+    ),
+    (
+        PARTS,
+        "0061736d0d00010004260061736d0d00010004080061736d0d00010005030101000b0d0200016304000000016905000005040100000006060104000001630b070100016304010006060105000001690b0701000169050100",
+    ),
+    (IMPORTS, "NotBuilt"),
+    (RESOURCE, "NotBuilt"),
 ];
 
 /// What taking these bytes answers.
@@ -44,8 +79,8 @@ fn taken(alloc: Global, name: &str, bytes: &[u8]) -> Result<String, Fail> {
 /// What taking the file at this path answers, where this call fails.
 fn from_file(alloc: Global, call: u64, name: &str, path: &str) -> Result<String, Fail> {
     let mut files = MemoryFiles::new(alloc);
-    let (held, bytes) = if path == "custom.wasm" {
-        (path, CUSTOM)
+    let (held, bytes) = if path == "twice.wasm" {
+        (path, TWICE)
     } else {
         ("root.wasm", TUPLE)
     };
@@ -57,11 +92,13 @@ fn from_file(alloc: Global, call: u64, name: &str, path: &str) -> Result<String,
     }
 }
 
-/// The link of these bytes, in hexadecimal digits.
+/// The link of these bytes, in hexadecimal digits, or why they are not linked.
 fn linked(alloc: Global, bytes: &[u8]) -> Result<String, Fail> {
     let component = Component::from_bytes(alloc, "a", bytes)?;
-    let linked = link_root(alloc, &component)?;
-    Ok(hex::encode(alloc, &linked)?)
+    match link_root(alloc, &component) {
+        Ok(linked) => Ok(hex::encode(alloc, &linked)?),
+        Err(error) => Ok(format!(in alloc; "{error:?}")?),
+    }
 }
 
 #[test]
@@ -91,15 +128,8 @@ fn a_component_shows_what_it_exports(rt: HostRuntime) -> Result<(), Fail> {
 
 #[test]
 fn links_nest_the_component_and_export_what_it_exports(rt: HostRuntime) -> Result<(), Fail> {
-    let empty = linked(rt.alloc(), EMPTY)?;
-    assert_eq!(rt;
-        empty.as_str(),
-        "0061736d0d00010004080061736d0d000100050401000000"
-    );
-    let tuple = linked(rt.alloc(), TUPLE)?;
-    assert_eq!(rt;
-        tuple.as_str(),
-        "0061736d0d00010004180061736d0d0001000705016f0279790b070100017403000005040100000006060103000001740b0701000174030000"
-    );
+    for (bytes, want) in LINKS {
+        assert_eq!(rt; linked(rt.alloc(), bytes)?.as_str(), *want);
+    }
     Ok(())
 }

@@ -13,8 +13,14 @@ const EMPTY: &[u8] = b"\0asm\r\0\x01\0";
 /// A component that exports the tuple of two `u32` as `t`.
 const TUPLE: &[u8] = b"\0asm\r\0\x01\0\x07\x05\x01\x6f\x02\x79\x79\x0b\x07\x01\0\x01t\x03\0\0";
 
+/// A component with a custom section.
+const CUSTOM: &[u8] = b"\0asm\r\0\x01\0\0\x04\x01xxx";
+
 /// A component that imports a component `c` of a type without declarations.
 const IMPORTS: &[u8] = b"\0asm\r\0\x01\0\x07\x03\x01\x41\0\x0a\x06\x01\0\x01c\x04\0";
+
+/// A component that exports a resource as `r`.
+const RESOURCE: &[u8] = b"\0asm\r\0\x01\0\x07\x04\x01\x3f\x7f\0\x0b\x07\x01\0\x01r\x03\0\0";
 
 /// What links [`EMPTY`]: it is nested, and has one instance.
 const EMPTY_LINKED: &[u8] = b"\0asm\r\0\x01\0\x04\x08\0asm\r\0\x01\0\x05\x04\x01\0\0\0";
@@ -23,12 +29,19 @@ const EMPTY_LINKED: &[u8] = b"\0asm\r\0\x01\0\x04\x08\0asm\r\0\x01\0\x05\x04\x01
 const TUPLE_LINKED: &[u8] =
     b"\0asm\r\0\x01\0\x04\x18\0asm\r\0\x01\0\x07\x05\x01\x6f\x02\x79\x79\x0b\x07\x01\0\x01t\x03\0\0\x05\x04\x01\0\0\0\x06\x06\x01\x03\0\0\x01t\x0b\x07\x01\0\x01t\x03\0\0";
 
-/// The lines of these two.
+/// What links [`CUSTOM`]: it is nested, and has one instance.
+const CUSTOM_LINKED: &[u8] =
+    b"\0asm\r\0\x01\0\x04\x0e\0asm\r\0\x01\0\0\x04\x01xxx\x05\x04\x01\0\0\0";
+
+/// The lines of these three.
 const EMPTY_LINE: &str =
     "bytes 24 251c41b4a061e17112655e1ae12d851da9dbdef7499d0bd5b11cb933ca4fa8cd\n";
 
 const TUPLE_LINE: &str =
     "bytes 57 e41da149a1013026158395250a1d4b819ead3f2e0d47a57de1fd964442c5d451\n";
+
+const CUSTOM_LINE: &str =
+    "bytes 30 6698ba91dd3f88a69b6b2992e9723daddd355c1864c6f07c9f8f4119bc42fb4e\n";
 
 /// How a run ended: its status, what it printed, and the bytes of `out.wasm`, where there is such a file.
 #[derive(Drop)]
@@ -112,6 +125,7 @@ fn a_component_is_nested_and_exports_again_what_it_exports(rt: HostRuntime) -> R
     let rows = [
         (EMPTY, EMPTY_LINE, EMPTY_LINKED),
         (TUPLE, TUPLE_LINE, TUPLE_LINKED),
+        (CUSTOM, CUSTOM_LINE, CUSTOM_LINKED),
     ];
     for (root, line, written) in rows {
         assert!(rt;
@@ -123,17 +137,18 @@ fn a_component_is_nested_and_exports_again_what_it_exports(rt: HostRuntime) -> R
 }
 
 #[test]
-fn what_is_no_component_of_the_form_is_refused(rt: HostRuntime) -> Result<(), Fail> {
-    let rows: [(&str, &[u8]); 3] = [
-        ("a core module", b"\0asm\x01\0\0\0"),
-        ("a custom section", b"\0asm\r\0\x01\0\0\x04\x01xxx"),
-        ("an import", IMPORTS),
+fn what_is_no_component_or_is_not_linked_yet_is_refused(rt: HostRuntime) -> Result<(), Fail> {
+    let rows: [(&str, &[u8], &str); 3] = [
+        (
+            "a core module",
+            b"\0asm\x01\0\0\0",
+            "refused BadComponent\n",
+        ),
+        ("an import", IMPORTS, "refused NotBuilt\n"),
+        ("a resource", RESOURCE, "refused NotBuilt\n"),
     ];
-    for (name, root) in rows {
-        assert!(rt;
-            ends(rt.alloc(), of_root(root), 6, "refused BadComponent\n", None)?,
-            "{name}"
-        );
+    for (name, root, line) in rows {
+        assert!(rt; ends(rt.alloc(), of_root(root), 6, line, None)?, "{name}");
     }
     Ok(())
 }

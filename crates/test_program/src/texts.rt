@@ -33,6 +33,10 @@ fn a_stop_names_the_file_and_says_what_to_do(rt: HostRuntime) -> Result<(), Fail
             "a.wasm: ",
         ),
         (
+            Stop::NotBuilt { path: "a.wasm" },
+            "a.wasm: a component that imports something",
+        ),
+        (
             Stop::TooLarge {
                 path: "o.wasm",
                 number: 4_294_967_296,

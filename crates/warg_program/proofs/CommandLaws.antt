@@ -1,6 +1,6 @@
 -- The words of commands.
-use Rattle.std.proofs.Common.{◌≡◌, ◌≤◌, ◌<◌, ℕ, List, [], ◌∷◌, length, get_or, map, refl, sym, ap, ◌∙◌, arith, codes}
-use Rattle.warg_program.specs.Command.{Asked, Link, IsCommand, words_of}
+use Rattle.std.proofs.Common.{◌≡◌, ◌≤◌, ◌<◌, ℕ, List, [], ◌∷◌, length, get_or, refl, sym, ap, ◌∙◌, arith}
+use Rattle.warg_program.specs.Command.{Link, IsCommand}
 
 -- a list of three
 pub three_are : {X : Type 0} (xs : List X) (a b c : X) → 3 ≤ length xs → length xs < 4 → xs ≡ get_or xs 0 a ∷ get_or xs 1 b ∷ get_or xs 2 c ∷ []

@@ -1,3 +1,2 @@
 mod CommandLaws
-mod ShapeLaws
 mod StopLaws

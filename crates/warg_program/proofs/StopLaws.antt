@@ -3,10 +3,13 @@ use Rattle.std.proofs.Common.{◌≡◌, ◌∙◌, ◌≤◌, inl, inr, refl, a
 use Rattle.std.proofs.lemmas.Option.{same_Some}
 use Rattle.warg_values.specs.Faults.{Rose}
 use Rattle.warg_base.specs.Files.{FileMap, LeavesPartlyWritten, file_at, with_file}
-use Rattle.wasm_compose.specs.Link.{LinkFits}
+use Rattle.comp_entity.specs.Entity.{ShapeTree}
+use Rattle.comp_shape.specs.Shape.{HasShape}
+use Rattle.wasm_compose.specs.Link.{LinkFits, link_exports}
+use Rattle.wasm_compose.specs.Open.{IsOpen}
 use Rattle.warg_program.specs.World.{SeenFiles, SeenOutput, World, HasFile, SameFiles}
 use Rattle.warg_program.specs.Command.{Asked, Link, IsCommand}
-use Rattle.warg_program.specs.Link.{Exports, IsCause, IsWriteCause, IsPrintCause, LinkStops, LinkHolds}
+use Rattle.warg_program.specs.Link.{IsCause, IsWriteCause, IsPrintCause, LinkStops}
 use Rattle.warg_program.specs.Run.{Does, Holds, Stops, IsDone, IsStopped, IsShortOfMemory, MayHold}
 use Rattle.warg_program.specs.Stop.{status_of}
 use Rattle.warg_program.specs.declared.stop.Stop.{Stop}
@@ -43,8 +46,13 @@ there_is before held root bytes others e is h =
     let there = subst (λ t. IfSome t (λ files. file_at files root ≡ Some others)) e h in
     same_Some others bytes (sym there ∙ is)
 
--- A component that is there, has a shape and fits: so only memory was short, where no call of the files failed.
-module _ (one_names : (bytes : List ℕ) (a b : List (List ℕ)) → Exports bytes a → Exports bytes b → a ≡ b) (held : FileMap) (bytes : List ℕ) (names : List (List ℕ)) (x : Exports bytes names) (fits : LinkFits bytes names) where
+-- A component that is there, has a shape that is not open, and fits: so only memory was short, where no call of the files
+-- failed.
+module _ (one_shape : (bytes : List ℕ) (a b : ShapeTree) → HasShape bytes a → HasShape bytes b → a ≡ b) (held : FileMap) (bytes : List ℕ) (tree : ShapeTree) (x : HasShape bytes tree) (not_open : IsOpen tree → ⊥) (fits : LinkFits bytes (link_exports tree)) where
+  -- the shape of what is there
+  shape_there : (others : List ℕ) (other : ShapeTree) → others ≡ bytes → HasShape others other → other ≡ tree
+  shape_there others other same h = one_shape bytes other tree (subst (λ found. HasShape found other) same h) x
+
   cause_short : (s : Stop) (root out : List ℕ) (before after : SeenFiles) → before.held ≡ Some held → file_at held root ≡ Some bytes → (Rose before.faults after.faults → ⊥) → IsCause s root out before after → IsShortOfMemory s
   cause_short stop.Usage root out before after e is none h = absurd h
   cause_short (stop.Missing path) root out before after e is none h =
@@ -53,13 +61,14 @@ module _ (one_names : (bytes : List ℕ) (a b : List (List ℕ)) → Exports byt
   cause_short (stop.Fault (access.Written path)) root out before after e is none h = absurd h
   cause_short (stop.Fault access.Printed) root out before after e is none h = absurd h
   cause_short (stop.BadComponent path error) root out before after e is none h =
-      absurd (h.1.3 names (subst (λ others. Exports others names) (sym (there_is before held root bytes h.1.0 e is h.1.1)) x))
+      absurd (h.1.no_shape tree (subst (λ others. HasShape others tree) (sym (there_is before held root bytes h.1.bytes e is h.1.there)) x))
+  cause_short (stop.NotBuilt path) root out before after e is none h =
+      let same = there_is before held root bytes h.1.bytes e is h.1.is_root.there in
+      absurd (not_open (subst IsOpen (shape_there h.1.bytes h.1.tree same h.1.is_root.has_shape) h.1.is_open))
   cause_short (stop.TooLarge path number) root out before after e is none h =
-      let refused = h.2 in
-      let same = there_is before held root bytes refused.0 e is refused.2 in
-      let there = subst (λ others. Exports others refused.1) same refused.3 in
-      let named = one_names bytes refused.1 names there x in
-      absurd (refused.5 (subst (λ others. LinkFits others refused.1) (sym same) (subst (λ others. LinkFits bytes others) (sym named) fits)))
+      let same = there_is before held root bytes h.1.bytes e is h.1.is_root.there in
+      let shape = shape_there h.1.bytes h.1.tree same h.1.is_root.has_shape in
+      absurd (h.1.does_not_fit (subst (λ others. LinkFits others (link_exports h.1.tree)) (sym same) (subst (λ other. LinkFits bytes (link_exports other)) (sym shape) fits)))
   cause_short stop.Memory root out before after e is none h = tt
 
   write_short : (s : Stop) (out : List ℕ) (before after : SeenFiles) → (Rose before.faults after.faults → ⊥) → IsWriteCause s out before after → IsShortOfMemory s
@@ -69,6 +78,7 @@ module _ (one_names : (bytes : List ℕ) (a b : List (List ℕ)) → Exports byt
   write_short (stop.Fault (access.Written path)) out before after none h = absurd (none h.1)
   write_short (stop.Fault access.Printed) out before after none h = absurd h
   write_short (stop.BadComponent path error) out before after none h = absurd h
+  write_short (stop.NotBuilt path) out before after none h = absurd h
   write_short (stop.TooLarge path number) out before after none h = absurd h
   write_short stop.Memory out before after none h = tt
 
@@ -79,6 +89,7 @@ module _ (one_names : (bytes : List ℕ) (a b : List (List ℕ)) → Exports byt
   print_short (stop.Fault (access.Written path)) before after none h = absurd h
   print_short (stop.Fault access.Printed) before after none h = absurd (none h)
   print_short (stop.BadComponent path error) before after none h = absurd h
+  print_short (stop.NotBuilt path) before after none h = absurd h
   print_short (stop.TooLarge path number) before after none h = absurd h
   print_short stop.Memory before after none h = tt
 
@@ -106,5 +117,6 @@ status_short stop.Usage h = absurd h
 status_short (stop.Missing path) h = absurd h
 status_short (stop.Fault access) h = absurd h
 status_short (stop.BadComponent path error) h = absurd h
+status_short (stop.NotBuilt path) h = absurd h
 status_short (stop.TooLarge path number) h = absurd h
 status_short stop.Memory h = refl

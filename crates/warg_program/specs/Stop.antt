@@ -8,6 +8,7 @@ status_of stop.Usage = 2
 status_of (stop.Missing path) = 3
 status_of (stop.Fault access) = 4
 status_of (stop.BadComponent path error) = 6
+status_of (stop.NotBuilt path) = 6
 status_of (stop.TooLarge path number) = 6
 status_of stop.Memory = 7
 
@@ -16,5 +17,6 @@ line_of stop.Usage = codes "usage\n"
 line_of (stop.Missing path) = codes "missing " ++ path.now ++ codes "\n"
 line_of (stop.Fault access) = codes "fault\n"
 line_of (stop.BadComponent path error) = codes "refused BadComponent\n"
+line_of (stop.NotBuilt path) = codes "refused NotBuilt\n"
 line_of (stop.TooLarge path number) = codes "refused TooLarge\n"
 line_of stop.Memory = codes "memory\n"

@@ -5,7 +5,6 @@
 #![tactic(auto)]
 
 mod command;
-mod laws;
 mod lines;
 mod link;
 mod program;

@@ -31,6 +31,7 @@ fn line_of(alloc: Global, stop: &Stop<'_>) -> Result<String, AllocError>
         Stop::Missing { path } => format!(in alloc; "missing {path}\n"),
         Stop::Fault(_) => String::from_str(alloc, "fault\n"),
         Stop::BadComponent { .. } => String::from_str(alloc, "refused BadComponent\n"),
+        Stop::NotBuilt { .. } => String::from_str(alloc, "refused NotBuilt\n"),
         Stop::TooLarge { .. } => String::from_str(alloc, "refused TooLarge\n"),
         Stop::Memory => String::from_str(alloc, "memory\n"),
     }

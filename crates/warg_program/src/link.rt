@@ -4,9 +4,9 @@ ghost use Rattle.std.specs.Prelude.{◌≡◌, ◌≤◌, IfOk, IfErr, OnOk, str
 ghost use Rattle.warg_program.specs.World.{SameFiles, PrintsNothing, seen_files, seen_output, world};
 ghost use Rattle.warg_program.specs.Link.{IsCause, IsLinkOf, LinkDone, LinkStops, done_line};
 
-use crate::laws::refused_has_no_shape;
 use crate::lines::done_line;
 use crate::stop::{Access, Stop};
+use comp_shape::laws::shapes_are_read;
 use std::alloc::{AllocError, Global};
 use warg_base::{FileError, Files, Out, OutError};
 use wasm_compose::{Component, ComponentError, ComposeError, link_root};
@@ -35,7 +35,7 @@ fn linked<'a, F: Files>(
             return Err(Stop::Fault(Access::Read(root)));
         }
         Err(ComponentError::BadComponent(error)) => {
-            refused_has_no_shape();
+            shapes_are_read();
             return Err(Stop::BadComponent { path: root, error });
         }
         Err(ComponentError::Memory) => return Err(Stop::Memory),
@@ -45,6 +45,7 @@ fn linked<'a, F: Files>(
     };
     let bytes = match link_root(alloc, &component) {
         Ok(bytes) => bytes,
+        Err(ComposeError::NotBuilt) => return Err(Stop::NotBuilt { path: root }),
         Err(ComposeError::TooLarge(number)) => return Err(Stop::TooLarge { path: out, number }),
         Err(ComposeError::Memory) => return Err(Stop::Memory),
     };

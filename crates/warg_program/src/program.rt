@@ -3,19 +3,21 @@
 ghost use Rattle.std.specs.Prelude.{◌≡◌, ◌≤◌, ◌⊎◌, ℕ, List, Some, map, IfErr, OnOk, string_bytes};
 ghost use Rattle.warg_values.specs.Faults.{Rose};
 ghost use Rattle.warg_base.specs.Files.{FileMap, file_at};
-ghost use Rattle.wasm_compose.specs.Link.{LinkFits};
+ghost use Rattle.comp_entity.specs.Entity.{ShapeTree};
+ghost use Rattle.comp_shape.specs.Shape.{HasShape};
+ghost use Rattle.wasm_compose.specs.Link.{LinkFits, link_exports};
+ghost use Rattle.wasm_compose.specs.Open.{IsOpen};
 ghost use Rattle.warg_program.specs.World.{seen_files, seen_output, world};
 ghost use Rattle.warg_program.specs.Command.{Link, IsCommand};
-ghost use Rattle.warg_program.specs.Link.{Exports};
 ghost use Rattle.warg_program.specs.Run.{IsDone, IsShortOfMemory, IsStop, IsStopped, MayHold};
 ghost use Rattle.warg_program.specs.Stop.{status_of};
 ghost use Rattle.warg_program.specs.declared.stop.Stop.{Stop as AnyStop};
 
 use crate::command::{Command, command_of};
-use crate::laws::one_list_of_names;
 use crate::lines::refuse;
 use crate::link::link;
 use crate::stop::Stop;
+use comp_shape::laws::one_shape;
 use std::alloc::Global;
 use warg_base::{Files, Out};
 
@@ -81,17 +83,17 @@ pub fn outcome<'a, F: Files, O: Out>(
         (seen_files (F.told files.new) (F.faults files.new))
         (seen_output (O.told out.new) (O.faults out.new)) in
         MayHold (map string_bytes words.now) before after }
-    ensures complete { (root path : List ℕ) → (held : FileMap) → (bytes : List ℕ) → (names : List (List ℕ))
+    ensures complete { (root path : List ℕ) → (held : FileMap) → (bytes : List ℕ) → (tree : ShapeTree)
         → IsCommand (map string_bytes words.now) (Link root path)
         → F.told files.old ≡ Some held → file_at held root ≡ Some bytes
-        → Exports bytes names → LinkFits bytes names
+        → HasShape bytes tree → (IsOpen tree → ⊥) → LinkFits bytes (link_exports tree)
         → (Rose (F.faults files.old) (F.faults files.new) → ⊥) → (Rose (O.faults out.old) (O.faults out.new) → ⊥)
         → IfErr result IsShortOfMemory }
 {
     match perform(alloc, words, files, out) {
         Ok(()) => Ok(()),
         Err(stop) => {
-            one_list_of_names();
+            one_shape();
             refuse(alloc, out, &stop);
             Err(stop)
         }
@@ -110,9 +112,10 @@ pub fn outcome<'a, F: Files, O: Out>(
 /// | 2 | `usage` | the words are no command |
 /// | 3 | `missing PATH` | there is no file ROOT |
 /// | 4 | `fault` | the files failed, or the output did at the line of status 0 |
-/// | 6 | `refused BadComponent` | ROOT is no component of the first form, or has no shape |
+/// | 6 | `refused BadComponent` | ROOT is no component, or has no shape |
+/// | 6 | `refused NotBuilt` | ROOT imports something, or an export of it mentions a resource |
 /// | 6 | `refused TooLarge` | a length, a count or an index of OUT would be above 2^32 - 1 |
-/// | 7 | `memory` | no memory was left, or ROOT has more than 200 scopes open at one place |
+/// | 7 | `memory` | no memory was left, or more than 200 scopes, or a thousand types, of ROOT lie in each other |
 ///
 /// With the statuses 2, 3 and 6 no file changes. With 4 and 7 OUT is as it was, holds a front of the new bytes, or is
 /// written whole where its line was not printed. A line that tells of a stop and that the output does not take changes no
@@ -141,10 +144,10 @@ pub fn run<F: Files, O: Out>(alloc: Global, words: &[String], files: &mut F, out
         (seen_files (F.told files.new) (F.faults files.new))
         (seen_output (O.told out.new) (O.faults out.new)) in
         MayHold (map string_bytes words.now) before after }
-    ensures complete { (root path : List ℕ) → (held : FileMap) → (bytes : List ℕ) → (names : List (List ℕ))
+    ensures complete { (root path : List ℕ) → (held : FileMap) → (bytes : List ℕ) → (tree : ShapeTree)
         → IsCommand (map string_bytes words.now) (Link root path)
         → F.told files.old ≡ Some held → file_at held root ≡ Some bytes
-        → Exports bytes names → LinkFits bytes names
+        → HasShape bytes tree → (IsOpen tree → ⊥) → LinkFits bytes (link_exports tree)
         → (Rose (F.faults files.old) (F.faults files.new) → ⊥) → (Rose (O.faults out.old) (O.faults out.new) → ⊥)
         → (result ≡ 0) ⊎ (result ≡ 7) }
 {

@@ -6,6 +6,7 @@ ghost use Rattle.warg_program.specs.Stop.{status_of};
 use comp_shape::ShapeError;
 use std::fmt;
 use warg_base::FileError;
+use wasm_compose::ComposeError;
 
 /// What was asked of the outside when it failed.
 #[derive(Clone, Copy, Debug)]
@@ -31,6 +32,8 @@ pub enum Stop<'a> {
     Fault(Access<'a>),
     /// The file at this path is no component that is carried: status 6.
     BadComponent { path: &'a str, error: ShapeError },
+    /// The component at this path imports something, or an export of it mentions a resource: status 6.
+    NotBuilt { path: &'a str },
     /// This length, count or index of what was to be written to this path is above 2^32 - 1: status 6.
     TooLarge { path: &'a str, number: u64 },
     /// No memory was left: status 7.
@@ -47,6 +50,7 @@ impl Stop<'_> {
             Stop::Missing { .. } => 3,
             Stop::Fault(_) => 4,
             Stop::BadComponent { .. } => 6,
+            Stop::NotBuilt { .. } => 6,
             Stop::TooLarge { .. } => 6,
             Stop::Memory => 7,
         }
@@ -83,13 +87,14 @@ impl fmt::Display for Stop<'_> {
             Stop::Missing { path } => write!(f, "{path}: {}", FileError::Missing),
             Stop::Fault(access) => write!(f, "{access}"),
             Stop::BadComponent { path, error } => write!(f, "{path}: {error}"),
+            Stop::NotBuilt { path } => write!(f, "{path}: {}", ComposeError::NotBuilt),
             Stop::TooLarge { path, number } => write!(
                 f,
                 "{path}: {number} is more than a component can count: make the component smaller"
             ),
             Stop::Memory => write!(
                 f,
-                "out of memory: free some, or give the program more; components nested more than 200 deep end so too"
+                "out of memory: free some, or give the program more; over 200 scopes or 1000 types in each other end so"
             ),
         }
     }

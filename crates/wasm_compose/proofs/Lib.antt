@@ -1,2 +1,4 @@
 mod ComponentLaws
+mod MentionLaws
 mod LinkLaws
+mod ImageLaws

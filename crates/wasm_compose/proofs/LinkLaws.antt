@@ -1,196 +1,144 @@
 -- The items of a linked component, and their image.
-use Rattle.std.proofs.Common.{◌≡◌, ◌∙◌, subst, take, get_or, sym, ap, refl, ℕ, ◌+◌, ◌*◌, ◌^◌, ◌<◌, ◌≤◌, Contains, List, [], ◌∷◌, ◌++◌, length, map, Option, Some, None, slice_get, filter, option_map, option_and_then, arith}
-use Rattle.std.proofs.lemmas.List.{append-nil, map-append, map_push, take_more, get_or-map, length-map, append_assoc, length-append, length-take}
-use Rattle.std.proofs.lemmas.List.Elements.{filter-append, All-append, All-nil, All-cons}
+use Rattle.std.proofs.Common.{◌≡◌, ◌∙◌, subst, take, drop, get_or, sym, ap, refl, eqb, cond, true, false, Bool, ℕ, ◌+◌, ◌^◌, ◌<◌, ◌≤◌, All, Contains, List, [], ◌∷◌, ◌++◌, length, arith, inl, inr}
+use Rattle.std.specs.List.{fold}
+use Rattle.std.specs.Prelude.{count_by}
+use Rattle.std.proofs.lemmas.Bool.{cases_Bool, eq-eqb, eqb-true}
+use Rattle.std.proofs.lemmas.List.{map-append, get_or-map, length-map, append_assoc, take_all, take_more, take-append-drop}
+use Rattle.std.proofs.lemmas.List.Elements.{All-push, All-nil}
+use Rattle.std.proofs.lemmas.List.Sums.{fold_more, fold-append, sum_by-append}
 use Rattle.comp_format.specs.declared.types.Sort.{Sort}
 use Rattle.comp_format.specs.declared.types.Sort.TheVariants as sort
 use Rattle.comp_format.specs.declared.types.Alias.TheVariants as alias
-use Rattle.comp_format.specs.Items.{ItemTree, Aliased, Export}
-use Rattle.comp_encoder.specs.Writing.{Entry, Single, items_of, next_index}
-use Rattle.comp_encoder.proofs.CountLaws.{next_append}
-use Rattle.comp_shape.specs.Image.{Image, Exported, Progress, Standing, Part, Made, image, seen, seen_all, space, stands, as_made, as_part}
-use Rattle.comp_shape.specs.declared.shape.Entity.{Entity}
-use Rattle.comp_shape.specs.Views.{entries}
-use Rattle.wasm_compose.specs.Link.{NamesFit, link_exports, link_items, link_image, singles}
-
--- what an export of the instance adds
-abbrev pub export_items : ℕ → List ℕ → List ItemTree
-export_items index name = Aliased (alias.Export sort.Ty 0 name) ∷ Export (record { name = name; sort = sort.Ty; index = index; ty = None }) ∷ []
-
--- each adds to the items before it
-pub exports_push : (start : ℕ) (names : List (List ℕ)) (name : List ℕ) → link_exports start (names ++ name ∷ []) ≡ link_exports start names ++ export_items (start + 2 * length names) name
-exports_push start [] name = ap (λ i. export_items i name) (omega arith)
-exports_push start (first ∷ names) name =
-    ap (λ (l : List ItemTree). export_items start first ++ l) (exports_push (start + 2) names name ∙ ap (λ i. link_exports (start + 2) names ++ export_items i name) (omega arith))
-
--- two types for each name
-pub exports_types : (start : ℕ) (names : List (List ℕ)) → next_index sort.Ty (singles (link_exports start names)) ≡ 2 * length names
-exports_types start [] = refl
-exports_types start (name ∷ names) = next_append sort.Ty (singles (export_items start name)) (singles (link_exports (start + 2) names)) ∙ ap (λ n. 2 + n) (exports_types (start + 2) names) ∙ omega arith
-
--- an alias of a type is one type more
-pub alias_counts : (old new : List Entry) (name : List ℕ) → new ≡ old ++ Single (Aliased (alias.Export sort.Ty 0 name)) ∷ [] → next_index sort.Ty new ≡ next_index sort.Ty old + 1
-alias_counts old new name e = ap (next_index sort.Ty) e ∙ next_append sort.Ty old (Single (Aliased (alias.Export sort.Ty 0 name)) ∷ [])
+use Rattle.comp_format.specs.Items.{ItemTree, Aliased}
+use Rattle.comp_format.specs.Spaces.{space_of}
+use Rattle.comp_encoder.specs.Writing.{Entry, Single, GivenSection, items_of, item_sort, numbers, numbered, next_index}
+use Rattle.comp_entity.specs.declared.entity.Entity.{Entity}
+use Rattle.comp_entity.specs.Entity.{EntityTree}
+use Rattle.comp_entity.specs.Views.{entity_tree, named_entities}
+use Rattle.comp_scope.specs.Spaces.{sort_of}
+use Rattle.wasm_compose.specs.Link.{NamedSort, ExportsFit, link_export, linking, instance_items, named_sorts, singles}
 
 -- items that are added one by one
 pub items_single : (items : List ItemTree) → items_of (singles items) ≡ items
 items_single [] = refl
 items_single (item ∷ items) = ap (λ (l : List ItemTree). item ∷ l) (items_single items)
 
--- the last of a list
-last_is : {X : Type 0} (xs : List X) (x : X) (n : ℕ) → length xs ≡ n → slice_get (xs ++ x ∷ []) n ≡ Some x
-last_is [] x n e = rw (← e) refl
-last_is (y ∷ xs) x n e = rw (← e) (last_is xs x (length xs) refl)
+next_is : (kind : Sort) (entries : List Entry) (items : List ItemTree) → entries ≡ singles items → next_index kind entries ≡ numbered kind items
+next_is kind entries items e = ap (next_index kind) e ∙ ap (numbered kind) (items_single items)
 
--- a type adds to its index space, and to no instance's
-abbrev part : List ℕ → Sort × Standing
-part name = (sort.Ty, Part 0 name)
+items_push : (old : List Entry) (item : ItemTree) → items_of (old ++ Single item ∷ []) ≡ items_of old ++ item ∷ []
+items_push [] item = refl
+items_push (Single first ∷ old) item = ap (λ (l : List ItemTree). first ∷ l) (items_push old item)
+items_push (GivenSection id content items ∷ old) item = ap (λ (l : List ItemTree). items ++ l) (items_push old item) ∙ sym (append_assoc items (items_of old) (item ∷ []))
 
-type_added : (numbered : List (Sort × Standing)) (name : List ℕ) → space sort.Ty (numbered ++ part name ∷ []) ≡ space sort.Ty numbered ++ Part 0 name ∷ []
-type_added numbered name = ap (map _) (filter-append _ numbered (part name ∷ [])) ∙ map-append _ (filter _ numbered) (part name ∷ [])
+-- an alias is one item more of its sort
+pub alias_counts : (kind : Sort) (old new : List Entry) (name : List ℕ) → new ≡ old ++ Single (Aliased (alias.Export kind 0 name)) ∷ [] → next_index kind new ≡ next_index kind old + 1
+alias_counts kind old new name e =
+    let item : ItemTree = Aliased (alias.Export kind 0 name) in
+    ap (next_index kind) e ∙ ap (numbered kind) (items_push old item) ∙ sum_by-append _ (items_of old) (item ∷ [])
+    ∙ ap (λ b. numbered kind (items_of old) + (0 + cond b 1 0)) (eq-eqb (space_of kind) (space_of kind) refl)
 
-instances_stay : (numbered : List (Sort × Standing)) (name : List ℕ) → space sort.Instance (numbered ++ part name ∷ []) ≡ space sort.Instance numbered
-instances_stay numbered name = ap (map _) (filter-append _ numbered (part name ∷ []) ∙ append-nil _)
+-- What was added so far are the component and its instance.
+module _ (entries : List Entry) (root : List ℕ) (begun : entries ≡ singles (instance_items root)) where
+  pub begun_items : items_of entries ≡ instance_items root
+  begun_items = ap items_of begun ∙ items_single (instance_items root)
 
--- what an alias of the instance's export adds, and what an export of that adds
-aliased : Progress → List ℕ → Progress
-aliased p name = record p { numbered = p.numbered ++ part name ∷ [] }
+  pub begun_single : entries ≡ singles (items_of entries)
+  begun_single = begun ∙ ap singles (sym begun_items)
 
-abbrev exported : List ℕ → Exported
-exported name = record { name = name; kind = sort.Ty; instance = 0; export = name }
+  pub begun_room : (kind : Sort) → next_index kind entries < 2 ^ 32
+  begun_room kind = subst (λ n. n < 2 ^ 32) (sym (next_is kind entries (instance_items root) begun)) (by (eqb (space_of sort.Component) (space_of kind)) (eqb (space_of sort.Instance) (space_of kind)))
+    where
+      by : (b c : Bool) → 0 + cond b 1 0 + cond c 1 0 < 2 ^ 32
+      by true true = omega arith
+      by true false = omega arith
+      by false true = omega arith
+      by false false = omega arith
 
-shown : Progress → List ℕ → Progress
-shown p name = record { image = record p.image { exports = p.image.exports ++ exported name ∷ [] }; numbered = p.numbered ++ part name ∷ [] }
-
-alias_seen : (p : Progress) (name : List ℕ) → stands p sort.Instance 0 ≡ Some (Made 0) → seen p (Aliased (alias.Export sort.Ty 0 name)) ≡ Some (aliased p name)
-unfolding seen aliased
-alias_seen p name made = ap (λ s. option_map (λ k. record p { numbered = p.numbered ++ (sort.Ty, Part k name) ∷ [] }) (as_made s)) made
-
-export_seen : (p : Progress) (index : ℕ) (name : List ℕ) → stands p sort.Ty index ≡ Some (Part 0 name) → seen p (Export (record { name = name; sort = sort.Ty; index = index; ty = None })) ≡ Some (shown p name)
-unfolding seen shown
-export_seen p index name there =
-    ap (λ s. option_map (λ (of : ℕ × List ℕ). record { image = record p.image { exports = p.image.exports ++ (record { name = name; kind = sort.Ty; instance = of.0; export = of.1 }) ∷ [] }; numbered = p.numbered ++ (sort.Ty, Part of.0 of.1) ∷ [] }) (as_part s)) there
-
-alias_stands : (p : Progress) (index : ℕ) (name : List ℕ) → length (space sort.Ty p.numbered) ≡ index → stands (aliased p name) sort.Ty index ≡ Some (Part 0 name)
-unfolding aliased
-alias_stands p index name long = ap (λ l. slice_get l index) (type_added p.numbered name) ∙ last_is (space sort.Ty p.numbered) (Part 0 name) index long
-
--- both stand in the index space of types, and the instance stays
-pair_seen : Progress → List ℕ → Progress
-pair_seen p name = shown (aliased p name) name
-
-instance_stays : (p : Progress) (name : List ℕ) → stands p sort.Instance 0 ≡ Some (Made 0) → stands (pair_seen p name) sort.Instance 0 ≡ Some (Made 0)
-unfolding aliased shown pair_seen
-instance_stays p name made = ap (λ l. slice_get l 0) (instances_stay (p.numbered ++ part name ∷ []) name ∙ instances_stay p.numbered name) ∙ made
-
-two_more : (p : Progress) (index : ℕ) (name : List ℕ) → length (space sort.Ty p.numbered) ≡ index → length (space sort.Ty (pair_seen p name).numbered) ≡ index + 2
-unfolding aliased shown pair_seen
-two_more p index name long =
-    let first = type_added p.numbered name in
-    let second = type_added (p.numbered ++ part name ∷ []) name in
-    ap length second ∙ length_push _ _ ∙ ap (λ n. n + 1) (ap length first ∙ length_push _ _ ∙ ap (λ n. n + 1) long) ∙ omega arith
+-- two items more in the index space of the export's sort, and none in the others
+pub more_of : (kind : Sort) (items : List ItemTree) (e : NamedSort) → numbered kind (linking items e) ≡ numbered kind items + cond (eqb (space_of e.1) (space_of kind)) 2 0
+more_of kind items e = sum_by-append _ items (link_export (numbered e.1 items) e) ∙ ap (λ n. numbered kind items + n) (by (eqb (space_of e.1) (space_of kind)))
   where
-    length_push : (x : Standing) (xs : List Standing) → length (xs ++ x ∷ []) ≡ length xs + 1
-    length_push x xs = length-append xs (x ∷ [])
+    by : (b : Bool) → 0 + cond b 1 0 + cond b 1 0 ≡ cond b 2 0
+    by true = refl
+    by false = refl
 
--- the image of the exports, behind one instance
-abbrev pub with_exports : Image → List (List ℕ) → Image
-with_exports i names = record i { exports = i.exports ++ map (λ name. record { name = name; kind = sort.Ty; instance = 0; export = name }) names }
+two_more : (items : List ItemTree) (e : NamedSort) → numbered e.1 (linking items e) ≡ numbered e.1 items + 2
+two_more items e = more_of e.1 items e ∙ ap (λ b. numbered e.1 items + cond b 2 0) (eq-eqb (space_of e.1) (space_of e.1) refl)
 
-image_of : Option Progress → Option Image
-image_of = option_map (λ p. p.image)
+never_fewer : (kind : Sort) (items : List ItemTree) (es : List NamedSort) → numbered kind items ≤ numbered kind (fold linking items es)
+never_fewer kind items [] = omega arith
+never_fewer kind items (e ∷ es) = omega (arith, more_of kind items e, never_fewer kind (linking items e) es)
 
-pub seen_exports : (p : Progress) (index : ℕ) (names : List (List ℕ)) → stands p sort.Instance 0 ≡ Some (Made 0) → length (space sort.Ty p.numbered) ≡ index → option_map (λ (q : Progress). q.image) (seen_all p (link_exports index names)) ≡ Some (with_exports p.image names)
-unfolding seen_all aliased shown pair_seen
-seen_exports p index [] made long = ap (λ exports. Some (record p.image { exports = exports })) (sym (append-nil p.image.exports))
-seen_exports p index (name ∷ names) made long =
-    let rest : List ItemTree = link_exports (index + 2) names in
-    let one = alias_seen p name made in
-    let two = export_seen (aliased p name) index name (alias_stands p index name long) in
-    let item : ItemTree = Export (record { name = name; sort = sort.Ty; index = index; ty = None }) in
-    let first = ap (option_and_then (λ next. seen_all next (item ∷ rest))) one in
-    let second = ap (option_and_then (λ next. seen_all next rest)) two in
-    let later = seen_exports (pair_seen p name) (index + 2) names (instance_stays p name made) (two_more p index name long) in
-    let joined = append_assoc p.image.exports (exported name ∷ []) (map exported names) in
-    ap (option_map (λ (q : Progress). q.image)) (first ∙ second) ∙ later ∙ ap (λ exports. Some (record p.image { exports = exports })) joined
+abbrev FitsLength : NamedSort → Type 0
+FitsLength e = length e.0 < 2 ^ 32
 
--- the image of a linked component is the one that was meant
-pub image_of_link : (root : List ℕ) (names : List (List ℕ)) → image (link_items root names) ≡ Some (link_image root names)
-unfolding seen seen_all
-image_of_link root names = seen_exports _ 0 names refl refl
+-- The items of some exports were added behind others, and they fit.
+pub record HasLinked (items : List ItemTree) (entries : List Entry) (es : List NamedSort) : Type 0 where
+  pub added : entries ≡ singles (fold linking items es)
+  pub fits : ExportsFit items es
 
-abbrev FitsLength : List ℕ → Type 0
-FitsLength name = length name < 2 ^ 32
-
--- The items of some exports were added, and their names fit.
-pub record HasLinked (old new : List Entry) (names : List (List ℕ)) : Type 0 where
-  pub added : new ≡ old ++ singles (link_exports 0 names)
-  pub fits : NamesFit names
-
-pub types_linked : (old new : List Entry) (names : List (List ℕ)) → next_index sort.Ty old ≡ 0 → HasLinked old new names → next_index sort.Ty new ≡ 2 * length names
-types_linked old new names first h =
-    ap (next_index sort.Ty) h.added ∙ next_append sort.Ty old (singles (link_exports 0 names)) ∙ omega (arith, first, exports_types 0 names)
-
-pub linked_none : (old : List Entry) → HasLinked old old []
-linked_none old = record {
-  added = sym (append-nil old);
-  fits = record { lengths = All-nil _; types = omega arith };
+pub linked_none : (items : List ItemTree) (entries : List Entry) → entries ≡ singles items → ((kind : Sort) → next_index kind entries < 2 ^ 32) → HasLinked items entries []
+linked_none items entries e room = record {
+  added = e;
+  fits = record { names = All-nil _; counts = λ kind. subst (λ n. n < 2 ^ 32) (next_is kind entries items e) (room kind) };
 }
 
-pub linked_more : (old new newer : List Entry) (names : List (List ℕ)) (name : List ℕ) → next_index sort.Ty old ≡ 0 → HasLinked old new names → newer ≡ new ++ singles (link_exports (next_index sort.Ty new) (name ∷ [])) → length name < 2 ^ 32 → next_index sort.Ty new + 2 < 2 ^ 32 → HasLinked old newer (names ++ name ∷ [])
-linked_more old new newer names name first h more short room =
-    let counted = types_linked old new names first h in
-    let pushed : singles (link_exports 0 names) ++ singles (export_items (2 * length names) name) ≡ singles (link_exports 0 (names ++ name ∷ [])) =
-    sym (map-append Single (link_exports 0 names) (export_items (2 * length names) name)) ∙ ap singles (ap (λ i. link_exports 0 names ++ export_items i name) (omega arith) ∙ sym (exports_push 0 names name)) in
-    record {
-      added =
-          more ∙ ap (λ i. new ++ singles (export_items i name)) counted ∙ ap (λ (l : List Entry). l ++ singles (export_items (2 * length names) name)) h.added
-          ∙ append_assoc old (singles (link_exports 0 names)) (singles (export_items (2 * length names) name)) ∙ ap (λ (l : List Entry). old ++ l) pushed;
-      fits = record {
-        lengths = All-append FitsLength names (name ∷ []) h.fits.lengths (All-cons FitsLength name [] short (All-nil FitsLength));
-        types = rw (length-append names (name ∷ [])) (omega (arith, counted, room));
-      };
-    }
+-- an export more, where there is room for it
+room_for : (kind : Sort) (items : List ItemTree) (e : NamedSort) → numbered kind items < 2 ^ 32 → numbered e.1 items + 2 < 2 ^ 32 → numbered kind (linking items e) < 2 ^ 32
+room_for kind items e small room =
+    elim (cases_Bool (eqb (space_of e.1) (space_of kind))) [
+      | inl same ↦
+          let here : numbered e.1 items ≡ numbered kind items = ap (λ s. count_by (λ item. numbers s (item_sort item)) items) (eqb-true (space_of e.1) (space_of kind) same) in
+          let more = more_of kind items e ∙ ap (λ b. numbered kind items + cond b 2 0) same in
+          omega (arith, more, here, room)
+      | inr apart ↦ let more = more_of kind items e ∙ ap (λ b. numbered kind items + cond b 2 0) apart in omega (arith, more, small)
+    ]
 
--- what is among exports that fit, fits
-pub one_fits : (exports : List (List ℕ × Entity)) (i : ℕ) (d : List ℕ × Entity) → NamesFit (map (λ e. e.0) exports) → i < length exports → (length (get_or exports i d).0 < 2 ^ 32) × (2 * i + 2 < 2 ^ 32)
-one_fits exports i d h lt =
-    let long = length-map exports (λ (e : List ℕ × Entity). e.0) in (
-      subst (λ (name : List ℕ). length name < 2 ^ 32) (get_or-map (λ (e : List ℕ × Entity). e.0) exports i d [] lt) (h.lengths i [] (omega (arith, long, lt))),
-      omega (arith, long, h.types, lt),
-    )
+-- The loop over the exports is at this one.
+module _ (items : List ItemTree) (entries : List Entry) (es : List NamedSort) (i : ℕ) (e : NamedSort) (lt : i < length es) (at : get_or es i e ≡ e) (h : HasLinked items entries (take i es)) where
+  abbrev before : List ItemTree
+  before = fold linking items (take i es)
 
--- one more of some exports
-pub linked_next : (old new newer : List Entry) (exports : List (List ℕ × Entity)) (i : ℕ) (d : List ℕ × Entity) → i < length exports → next_index sort.Ty old ≡ 0 → HasLinked old new (map (λ e. e.0) (take i exports)) → newer ≡ new ++ singles (link_exports (next_index sort.Ty new) ((get_or exports i d).0 ∷ [])) → length (get_or exports i d).0 < 2 ^ 32 → next_index sort.Ty new + 2 < 2 ^ 32 → HasLinked old newer (map (λ e. e.0) (take (i + 1) exports))
-linked_next old new newer exports i d lt first h more short room =
-    let front = ap (map (λ (e : List ℕ × Entity). e.0)) (take_more exports i d lt) ∙ map_push (λ (e : List ℕ × Entity). e.0) (take i exports) (get_or exports i d) in
-    subst (λ names. HasLinked old newer names) (sym front) (linked_more old new newer (map (λ e. e.0) (take i exports)) (get_or exports i d).0 first h more short room)
+  step : fold linking items (take (i + 1) es) ≡ linking before e
+  step = fold_more linking items es i e lt ∙ ap (linking before) at
 
--- So many exports that fit leave room for one more.
-pub room_left : (old new : List Entry) (exports : List (List ℕ × Entity)) (i : ℕ) (d : List ℕ × Entity) → i < length exports → next_index sort.Ty old ≡ 0 → HasLinked old new (map (λ e. e.0) (take i exports)) → NamesFit (map (λ e. e.0) exports) → next_index sort.Ty new + 2 < 2 ^ 32
-room_left old new exports i d lt first h fits =
-    let counted = types_linked old new _ first h in
-    let taken = length-map (take i exports) (λ (e : List ℕ × Entity). e.0) in
-    let front = length-take i exports in
-    let one = one_fits exports i d fits lt in
-    omega (arith, counted, taken, front, one.1, lt)
+  counted : next_index e.1 entries ≡ numbered e.1 before
+  counted = next_is e.1 entries before h.added
 
--- what one export more makes of the number of types
-pub room_taken : (old new : List Entry) (exports : List (List ℕ × Entity)) (i : ℕ) → i < length exports → next_index sort.Ty old ≡ 0 → HasLinked old new (map (λ e. e.0) (take i exports)) → next_index sort.Ty new + 2 ≤ 2 * length (map (λ e. e.0) exports)
-room_taken old new exports i lt first h =
-    let counted = types_linked old new _ first h in
-    let taken = length-map (take i exports) (λ (e : List ℕ × Entity). e.0) in
-    let all = length-map exports (λ (e : List ℕ × Entity). e.0) in
-    let front = length-take i exports in
-    omega (arith, counted, taken, all, front, lt)
+  pub linked_step : (newer : List Entry) → newer ≡ entries ++ singles (link_export (next_index e.1 entries) e) → length e.0 < 2 ^ 32 → next_index e.1 entries + 2 < 2 ^ 32 → HasLinked items newer (take (i + 1) es)
+  linked_step newer more short room = record {
+    added = more ∙ (λ j. h.added j ++ singles (link_export (counted j) e)) ∙ sym (map-append Single before (link_export (numbered e.1 before) e)) ∙ ap singles (sym step);
+    fits = record {
+      names = subst (All FitsLength) (sym (take_more es i e lt ∙ ap (λ x. take i es ++ x ∷ []) at)) (All-push FitsLength (take i es) e h.fits.names short);
+      counts = λ kind. subst (λ l. numbered kind l < 2 ^ 32) (sym step) (room_for kind before e (h.fits.counts kind) (omega (arith, counted, room)));
+    };
+  }
 
--- the name of an export is one of the names
-pub is_named : (exports : List (List ℕ × Entity)) (i : ℕ) (d : List ℕ × Entity) → i < length exports → Contains (map (λ e. e.0) exports) (get_or exports i d).0
-is_named exports i d lt =
-    let long = length-map exports (λ (e : List ℕ × Entity). e.0) in
-    (i, omega (arith, long, lt), get_or-map (λ (e : List ℕ × Entity). e.0) exports i d (get_or exports i d).0 lt)
+  pub count_reached : next_index e.1 entries + 2 ≤ numbered e.1 (fold linking items es)
+  count_reached =
+      let all : fold linking items es ≡ fold linking (fold linking items (take (i + 1) es)) (drop (i + 1) es) = ap (fold linking items) (sym (take-append-drop (i + 1) es)) ∙ fold-append linking items (take (i + 1) es) (drop (i + 1) es) in
+      let later = never_fewer e.1 (fold linking items (take (i + 1) es)) (drop (i + 1) es) in
+      let here = ap (numbered e.1) step ∙ two_more before e in
+      omega (arith, ap (numbered e.1) all, later, here, counted)
 
--- the names of exports, whatever is exported
-pub names_are : (exports : List (List ℕ × Entity)) → map (λ e. e.0) (entries exports) ≡ map (λ e. e.0) exports
-names_are [] = refl
-names_are (e ∷ exports) = ap (λ (names : List (List ℕ)). e.0 ∷ names) (names_are exports)
+  pub export_fits : ExportsFit items es → (length e.0 < 2 ^ 32) × (next_index e.1 entries + 2 < 2 ^ 32)
+  export_fits fits = (subst FitsLength at (fits.names i e lt), omega (arith, fits.counts e.1, count_reached))
+
+  pub export_is_among : Contains es e
+  export_is_among = (i, lt, at)
+
+-- the export of a shape that stands at this place
+pub export_at : (xs : List (List ℕ × Entity)) (i : ℕ) (x : List ℕ × Entity) (name : List ℕ) (kind : Sort) → i < length xs → x ≡ get_or xs i x → name ≡ x.0 → kind ≡ sort_of (entity_tree x.1) → get_or (named_sorts (named_entities xs)) i (name, kind) ≡ (name, kind)
+export_at xs i x name kind lt is named sorted =
+    get_or-map _ (named_entities xs) i (x.0, entity_tree x.1) (name, kind) (omega (arith, lt, length-map {B = List ℕ × EntityTree} xs (λ e. (e.0, entity_tree e.1))))
+    ∙ ap (λ (e : List ℕ × EntityTree). (e.0, sort_of e.1)) (get_or-map _ xs i x (x.0, entity_tree x.1) lt ∙ ap (λ (e : List ℕ × Entity). (e.0, entity_tree e.1)) (sym is))
+    ∙ (λ j. (sym named j, sym sorted j))
+
+pub as_many : (xs : List (List ℕ × Entity)) → length (named_sorts (named_entities xs)) ≡ length xs
+as_many [] = refl
+as_many (x ∷ xs) = omega (arith, as_many xs)
+
+-- all exports were gone over
+pub linked_all : (items : List ItemTree) (entries : List Entry) (es : List NamedSort) (i : ℕ) → length es ≤ i → HasLinked items entries (take i es) → HasLinked items entries es
+linked_all items entries es i le h = subst (HasLinked items entries) (take_all i es le) h

@@ -1,16 +1,15 @@
 -- What a component shows.
-use Rattle.std.specs.Prelude.{◌≡◌, ℕ, List, [], ◌∷◌, map, Option, Some, None, Err, IfSome}
+use Rattle.std.specs.Prelude.{◌≡◌, ℕ, List, [], ◌∷◌, Option, Some, IfSome}
 use Rattle.std.specs.List.{flat_map}
 use Rattle.warg_base.specs.Files.{FileMap, file_at}
-use Rattle.comp_format.specs.Fault.{Form, NotCarried}
 use Rattle.comp_format.specs.Items.{ItemTree, Export}
-use Rattle.comp_format.specs.Sections.{Reads, component_at}
-use Rattle.comp_shape.specs.declared.shape.Shape.{Shape}
+use Rattle.comp_format.specs.Sections.{Reads}
+use Rattle.comp_entity.specs.declared.entity.Shape.{Shape}
+use Rattle.comp_entity.specs.Entity.{ShapeTree}
+use Rattle.comp_entity.specs.Views.{shape_tree}
 use Rattle.comp_shape.specs.declared.error.ShapeError.{ShapeError}
-use Rattle.comp_shape.specs.declared.error.ShapeError.TheVariants as errors
-use Rattle.comp_shape.specs.FirstForm.{InFirstForm, StandsFirstOther}
-use Rattle.comp_shape.specs.Shape.{ShapeTree, BreaksAt, shape}
-use Rattle.comp_shape.specs.Views.{shape_tree}
+use Rattle.comp_shape.specs.Refusal.{IsRefused}
+use Rattle.comp_shape.specs.Shape.{HasShape}
 use Rattle.wasm_compose.specs.declared.component.Component.{Component}
 use Rattle.wasm_compose.specs.declared.export.ComponentExport.{ComponentExport}
 use Rattle.wasm_compose.specs.declared.error.ComponentError.{ComponentError}
@@ -32,10 +31,6 @@ shape_of c = shape_tree c.shape
 abbrev pub exports_of : Component → List ComponentExport
 exports_of c = c.exports.items
 
--- the names of a component's exports
-abbrev pub export_names : Component → List (List ℕ)
-export_names c = map (λ e. e.0) (shape_of c).exports
-
 -- the exports among items
 abbrev pub export_in : ItemTree → List ComponentExport
 export_in (Export e) = (record { name = e.name; sort = e.sort; index = e.index }) ∷ []
@@ -44,8 +39,8 @@ export_in _ = []
 -- The bytes have this shape, and these exports.
 pub record IsReadAs (bytes : List ℕ) (s : Shape) (exports : List ComponentExport) : Type 0 where
   pub items : List ItemTree
-  pub form : InFirstForm bytes items
-  pub shape_is : shape items ≡ Some (shape_tree s)
+  pub reads : Reads bytes items
+  pub has_shape : HasShape bytes (shape_tree s)
   pub exports_are : exports ≡ flat_map export_in items
 
 -- The component was read from these bytes.
@@ -53,15 +48,7 @@ pub record IsRead (c : Component) (bytes : List ℕ) : Type 0 where
   pub bytes_are : bytes_of c ≡ bytes
   pub shown : IsReadAs bytes c.shape c.exports.items
 
--- why bytes have no shape, and where they break what a shape asks
-abbrev pub IsRefused : ShapeError → List ℕ → Type 0
-IsRefused errors.Memory bytes = ⊥
-IsRefused (errors.Form at) bytes = component_at 200 bytes ≡ Err Form
-IsRefused (errors.NotCarried at) bytes = component_at 200 bytes ≡ Err NotCarried
-IsRefused (errors.Index at) bytes = (items : List ItemTree) × InFirstForm bytes items × (shape items ≡ None) × BreaksAt bytes items at
-IsRefused (errors.NotBuilt at) bytes = (items : List ItemTree) × Reads bytes items × ((others : List ItemTree) → InFirstForm bytes others → ⊥) × StandsFirstOther bytes at
-
--- the file at a path has such bytes
+-- the file at a path has bytes that are refused so
 abbrev pub RefusedAt : ShapeError → Option FileMap → List ℕ → Type 0
 RefusedAt e told path = (bytes : List ℕ) × IfSome told (λ files. file_at files path ≡ Some bytes) × IsRefused e bytes
 

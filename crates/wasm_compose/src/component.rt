@@ -8,6 +8,7 @@ use crate::content::Content;
 use crate::error::ComponentError;
 use crate::export::{ComponentExport, ExportIndex, Exports};
 use comp_format::{Item, Sort};
+use comp_shape::laws::names_are_not_empty;
 use comp_shape::{Shape, ShapeError, read_component};
 use std::alloc::Global;
 use warg_base::{FileError, Files, Memory, Text};
@@ -25,7 +26,7 @@ pub struct Component<'a> {
     pub(crate) shape: Shape,
     /// The exports among its items, in order.
     pub(crate) exports: Vec<ComponentExport>,
-    ghost is_component: { is_ok (component_at 1 (content_bytes content)) ≡ true },
+    ghost is_component: { is_ok (component_at (length (content_bytes content)) (content_bytes content)) ≡ true },
     ghost named: { All (λ e. 0 < length e.0) shape.exports.items },
 }
 
@@ -39,8 +40,10 @@ impl<'a> Component<'a> {
     ghost use Rattle.warg_base.specs.declared.files.FileError.TheVariants as file;
     ghost use Rattle.comp_format.specs.Items.{item_tree};
     ghost use Rattle.comp_shape.specs.declared.error.ShapeError.{ShapeError as shape_error};
-    ghost use Rattle.comp_shape.specs.Views.{shape_tree};
-    ghost use Rattle.wasm_compose.specs.Component.{IsRead, IsRefused, IsReadAs, IsOfBytes, RefusedAt, name_of, path_of, bytes_of, shape_of, exports_of, export_in};
+    ghost use Rattle.comp_shape.specs.declared.error.ShapeError.TheVariants as shape_refusal;
+    ghost use Rattle.comp_shape.specs.Refusal.{IsRefused};
+    ghost use Rattle.comp_entity.specs.Views.{shape_tree};
+    ghost use Rattle.wasm_compose.specs.Component.{IsRead, IsReadAs, IsOfBytes, RefusedAt, name_of, path_of, bytes_of, shape_of, exports_of, export_in};
     ghost use Rattle.wasm_compose.specs.declared.error.ComponentError.TheVariants.{BadName as bad_name, BadComponent as bad_component, File as bad_file};
 
     /// The component of these bytes, under a name.
@@ -56,6 +59,7 @@ impl<'a> Component<'a> {
         ensures read { IfOk result (λ c. IsRead c bytes.now) }
         ensures bad_name { (result ≡ Err bad_name) ↔ (name.now ≡ []) }
         ensures bad_component { (e : shape_error) → result ≡ Err (bad_component e) → IsRefused e bytes.now }
+        ensures not_for_memory { result ≡ Err (bad_component shape_refusal.Memory) → ⊥ }
         ensures no_file { (e : file_error) → result ≡ Err (bad_file e) → ⊥ }
     {
         if name.is_empty() {
@@ -71,8 +75,10 @@ impl<'a> Component<'a> {
         ensures read { IfOk result (λ x. IsReadAs bytes.now x.0 x.1.items) }
         ensures named { IfOk result (λ x. All (λ e. 0 < length e.0) x.0.exports.items) }
         ensures bad_component { (e : shape_error) → result ≡ Err (bad_component e) → IsRefused e bytes.now }
+        ensures not_for_memory { result ≡ Err (bad_component shape_refusal.Memory) → ⊥ }
         ensures only { IfErr result IsOfBytes }
     {
+        names_are_not_empty();
         let (items, shape) = match read_component(alloc, bytes) {
             Ok(read) => read,
             Err(ShapeError::Memory) => return Err(ComponentError::Memory),
@@ -149,6 +155,7 @@ impl<'a> Component<'a> {
         ensures no_memory { result ≡ Err (bad_file file.Memory) → ⊥ }
         ensures bad_component { (e : shape_error) → result ≡ Err (bad_component e)
             → RefusedAt e (F.told files.old) path.now }
+        ensures not_for_memory { result ≡ Err (bad_component shape_refusal.Memory) → ⊥ }
     {
         if name.is_empty() {
             return Err(ComponentError::BadName);

@@ -47,6 +47,9 @@ impl<T: Drop> From<AllocFailed<T>> for ComponentError {
 /// Why components could not be linked.
 #[derive(Clone, Copy, Debug, PartialEq, Eq, Error)]
 pub enum ComposeError {
+    /// The component imports something, or an export mentions a resource.
+    #[error("a component that imports something, or exports what mentions resources, is not linked yet: link another")]
+    NotBuilt,
     /// This length, count or index to be written is above 2^32 - 1.
     #[error("{0} is more than a component can count: make the component smaller")]
     TooLarge(u64),

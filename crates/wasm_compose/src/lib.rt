@@ -7,6 +7,7 @@ mod content;
 mod error;
 mod export;
 mod link;
+mod mentions;
 
 pub use comp_format::Sort;
 pub use comp_shape::{Shape, ShapeError};

@@ -12,7 +12,7 @@ fits_as_named-requires-clause-asked c =
     let given = c.requires.given in
     let asked = c.requires.asked in
     let change = changing (λ n. unwrap_or (resource_for (stands given.0 asked.0) n) n) (λ n. n) in
-    let found = c.in_ok-standing.ensures given.0 asked.0 given.1 asked.1 in (
+    let found = (c.in_ok-found.ensures given.0 asked.0 given.1 asked.1).resources in (
       with_standing given.0 asked.0,
       same_stands c.renamed.new.table c.in_ok-called.called _ _
           ((λ i. tree_by (changing (λ n. unwrap_or (found n i) n) (λ n. n)) 0 (asked.1.tree_is i)) ∙ sym (c.changed_entities_have_changed_trees.ensures change 0 asked.0))
@@ -23,7 +23,7 @@ fits_as_named-requires-clause-asked c =
 pub returns-clause-fits : goal.returns-clause-fits
 returns-clause-fits c = λ x y s u shown.
     let change = changing (λ n. unwrap_or (resource_for (stands x y) n) n) (λ n. n) in
-    let found = c.in_ok-standing.ensures x y s u in
+    let found = (c.in_ok-found.ensures x y s u).resources in
     c.in_ok-answer.ensures x (with_standing x y) (stands_kept _ _ c.in_ok-called.ensures.kept _ _ s)
     (same_stands c.renamed.new.table c.in_ok-called.called _ _
     ((λ i. tree_by (changing (λ n. unwrap_or (found n i) n) (λ n. n)) 0 (u.tree_is i)) ∙ sym (c.changed_entities_have_changed_trees.ensures change 0 y))

@@ -1,24 +1,25 @@
-use Rattle.std.proofs.Common.{rules, ap, sym, ◌∙◌, ◌≡◌, ◌<◌, ◌+◌, subst, length, Some, true, drop, slice_index_or}
+use Rattle.std.proofs.Common.{rules, ap, sym, ◌∙◌, ◌≡◌, ◌<◌, ◌+◌, ◌&&◌, subst, length, Some, true, false, drop, slice_index_or}
 use Rattle.std.specs.BTreeMap.{get}
 use Rattle.std.specs.BTreeSet.{contains}
 use Rattle.std.specs.Cmp.Lexicographic.{slice_cmp}
 use Rattle.std.specs.Ordering.{nat_cmp}
 use Rattle.comp_entity.specs.Fits.{stands, under}
-use Rattle.comp_fit.specs.Known.{IsUnder, pair_cmp, is_instance}
-use Rattle.comp_fit.specs.Standing.{Adds, resource_head}
+use Rattle.comp_fit.specs.Known.{IsUnder, is_instance, pair_cmp}
+use Rattle.comp_fit.specs.Standing.{Adds, head_stands}
 use Rattle.comp_table.specs.Plain.{plain_entity}
-use Rattle.comp_table.specs.Trees.{below_root, root, tree_at}
+use Rattle.comp_table.specs.Trees.{below_root, root}
 use Rattle.comp_fit.proofs.ExportLaws.{dropped, found_is, nothing_left}
-use Rattle.comp_fit.proofs.KindLaws.{both, instance_at}
 use Rattle.comp_fit.proofs.LooseLaws.{below_at, below_wider}
-use Rattle.comp_fit.proofs.StandingLaws.{IsAdded, adds_covered, added_all, added_here, added_later, covered_here, covered_more, found_adds, resource_is}
+use Rattle.comp_fit.proofs.StandingLaws.{IsAdded, added_all, added_here, added_later, adds_covered, covered_here, covered_more, entity_stands, found_adds, instances_at}
 use Rattle.comp_fit.proofs.standing.+standing.Goals as goal
 
 pub note_entity-returns-clause-adds : goal.note_entity-returns-clause-adds
 note_entity-returns-clause-adds t c = λ given asked s u.
-    let g = resource_is given c.in-Some.given (ap (λ x. resource_head (root x)) (sym s.tree_is) ∙ sym c.resource_at.ensures ∙ c.in-Some.is) in
-    let a = resource_is asked c.in-Some-resource_at.asked (ap (λ x. resource_head (root x)) (sym u.tree_is) ∙ sym c.resource_at-2.ensures ∙ c.in-Some-resource_at.is) in
-    subst (Adds c.args.found.now c.note_resource.new.found) (λ i. stands (sym g i) (sym a i)) c.in_ok-note_resource.ensures
+    let heads : (is_instance (root (plain_entity given)) && is_instance (root (plain_entity asked))) ≡ false =
+    (λ i. is_instance (root (sym s.tree_is i)) && is_instance (root (sym u.tree_is i))) ∙ sym c.are_instances.ensures ∙ c.if-are_instances.false in
+    subst (Adds c.args.found.now c.note_type.new.found)
+    ((λ i. head_stands ((c.head.ensures ∙ ap root s.tree_is) i) ((c.head-2.ensures ∙ ap root u.tree_is) i)) ∙ entity_stands given asked heads)
+    c.in_ok-note_type.ensures
 
 pub note_export-note_entity-requires : goal.note_export-note_entity-requires
 note_export-note_entity-requires t c =
@@ -73,31 +74,27 @@ note_instance-names_of-requires-clause-below t c = let given = c.requires.given 
 
 pub note_instance-names_of-requires-clause-entries : goal.note_instance-names_of-requires-clause-entries
 note_instance-names_of-requires-clause-entries t c =
-    let heads = both (is_instance (root (tree_at c.args.table.now c.args.pair.given))) (is_instance (root (tree_at c.args.table.now c.args.pair.asked))) c.requires.instances in
     let given = c.requires.given in
-    let es = instance_at c.args.table.now c.args.pair.given given.0 given.1 heads.0 in
-    (es.0, c.parts.ensures.parts ∙ ap below_root (given.1.tree_is ∙ ap plain_entity es.1))
+    let asked = c.requires.asked in
+    let both = instances_at c.args.table.now c.args.pair given.0 asked.0 given.1 asked.1 c.requires.instances in
+    (both.0.0, c.parts.ensures.parts ∙ ap below_root (given.1.tree_is ∙ ap plain_entity both.0.1))
 
 pub note_instance-note_exports-requires : goal.note_instance-note_exports-requires
 note_instance-note_exports-requires t c =
     let fewer : c.in_ok-levels.levels < c.args.levels = c.in_ok-levels.ensures in
-    let heads = both (is_instance (root (tree_at c.args.table.now c.args.pair.given))) (is_instance (root (tree_at c.args.table.now c.args.pair.asked))) c.requires.instances in
     let given = c.requires.given in
     let asked = c.requires.asked in
-    let es = instance_at c.args.table.now c.args.pair.given given.0 given.1 heads.0 in
-    let fs = instance_at c.args.table.now c.args.pair.asked asked.0 asked.1 heads.1 in
-    let names = c.in_ok-names.ensures es.0 (c.parts.ensures.parts ∙ ap below_root (given.1.tree_is ∙ ap plain_entity es.1)) in
-    (search (rules, fewer), (below_wider c.args.pair.asked (length c.args.table.now) c.parts-2.result.now asked.1.there c.parts-2.ensures.below, ((es.0, names), ((fs.0, c.parts-2.ensures.parts ∙ ap below_root (asked.1.tree_is ∙ ap plain_entity fs.1)), c.requires.covered))))
+    let both = instances_at c.args.table.now c.args.pair given.0 asked.0 given.1 asked.1 c.requires.instances in
+    let names = c.in_ok-names.ensures both.0.0 (c.parts.ensures.parts ∙ ap below_root (given.1.tree_is ∙ ap plain_entity both.0.1)) in
+    (search (rules, fewer), (below_wider c.args.pair.asked (length c.args.table.now) c.parts-2.result.now asked.1.there c.parts-2.ensures.below, ((both.0.0, names), ((both.1.0, c.parts-2.ensures.parts ∙ ap below_root (asked.1.tree_is ∙ ap plain_entity both.1.1)), c.requires.covered))))
 
 pub note_instance-returns-clause-adds : goal.note_instance-returns-clause-adds
 note_instance-returns-clause-adds t c = λ given asked s u.
-    let heads = both (is_instance (root (tree_at c.args.table.now c.args.pair.given))) (is_instance (root (tree_at c.args.table.now c.args.pair.asked))) c.requires.instances in
-    let es = instance_at c.args.table.now c.args.pair.given given s heads.0 in
-    let fs = instance_at c.args.table.now c.args.pair.asked asked u heads.1 in
-    subst (Adds c.args.found.now c.note_exports.new.found) (λ i. stands (sym es.1 i) (sym fs.1 i))
-    (c.in_ok-note_exports.ensures.adds es.0 fs.0
-    (c.in_ok-names.ensures es.0 (c.parts.ensures.parts ∙ ap below_root (s.tree_is ∙ ap plain_entity es.1)))
-    (c.parts-2.ensures.parts ∙ ap below_root (u.tree_is ∙ ap plain_entity fs.1)))
+    let both = instances_at c.args.table.now c.args.pair given asked s u c.requires.instances in
+    subst (Adds c.args.found.now c.note_exports.new.found) (λ i. stands (sym both.0.1 i) (sym both.1.1 i))
+    (c.in_ok-note_exports.ensures.adds both.0.0 both.1.0
+    (c.in_ok-names.ensures both.0.0 (c.parts.ensures.parts ∙ ap below_root (s.tree_is ∙ ap plain_entity both.0.1)))
+    (c.parts-2.ensures.parts ∙ ap below_root (u.tree_is ∙ ap plain_entity both.1.1)))
 
 pub note_instance-returns-clause-covered : goal.note_instance-returns-clause-covered
 note_instance-returns-clause-covered t c =

@@ -1,6 +1,6 @@
 use Rattle.std.proofs.Common.{◌≡◌, ◌+◌, ◌∙◌, IfSome, Some, subst, sym}
 use Rattle.comp_instance.proofs.RenamedLaws.{place_or_made}
-use Rattle.comp_instance.specs.StandingFor.{place_found}
+use Rattle.comp_fit.specs.Standing.{place_found}
 use Rattle.comp_instance.proofs.instantiating.imported_place.Goals as goal
 
 pub returns-in-Some : goal.returns-in-Some

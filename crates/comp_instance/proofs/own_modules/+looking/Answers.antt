@@ -1,6 +1,6 @@
 use Rattle.std.proofs.Common.{rules, ◌∙◌, ◌<◌, ◌||◌, length, sym}
 use Rattle.comp_instance.proofs.OwnLaws.{none_there, part_holds, part_more}
-use Rattle.comp_instance.proofs.StandingLaws.{below_wider}
+use Rattle.comp_instance.proofs.CoreLaws.{below_wider}
 use Rattle.comp_instance.proofs.own_modules.+looking.Goals as goal
 
 pub look-returns-then-contains-clause-found : goal.look-returns-then-contains-clause-found

@@ -1,18 +1,16 @@
-use Rattle.std.proofs.Common.{◌≡◌, map, Err, ap}
-use Rattle.comp_format.specs.Items.{item_tree}
-use Rattle.comp_shape.specs.declared.error.ShapeError.{ShapeError}
-use Rattle.comp_shape.specs.declared.error.ShapeError.TheVariants as errors
+use Rattle.comp_shape.proofs.ReadLaws.{parts_there}
 use Rattle.comp_shape.proofs.read.read_component.Goals as goal
 
-pub returns-in-Ok-clause-not_built : goal.returns-in-Ok-clause-not_built
-returns-in-Ok-clause-not_built c = λ at e.
-    let same : c.in-Err-shape_of.error ≡ errors.NotBuilt at = cc in
-    let here = ap (λ (x : ShapeError). Err x) same in
-    (map item_tree c.in-Ok.items.items, c.in-Ok.ensures.found, c.in-Err-shape_of.ensures.not_built at here, c.in-Err-shape_of.ensures.not_built_place at here)
+pub shape_of-requires : goal.shape_of-requires
+shape_of-requires c =
+    let parts = parts_there c.parts_are_items.ensures c.one_reading.ensures c.args.bytes.now c.in-Ok.items.items c.deref.result.now c.deref.ensures.value c.in-Ok.ensures.found in
+    (parts.0, parts.2)
 
-pub returns-in-Ok-clause-index : goal.returns-in-Ok-clause-index
-returns-in-Ok-clause-index c = λ at e.
-    let same : c.in-Err-shape_of.error ≡ errors.Index at = cc in
-    let here = ap (λ (x : ShapeError). Err x) same in
-    let broken = c.in-Err-shape_of.ensures.index at here in
-    (map item_tree c.deref.result.now, broken.0, broken.1, c.in-Err-shape_of.ensures.index_place at here)
+pub returns-in-Ok-shape_of-clause-shape : goal.returns-in-Ok-shape_of-clause-shape
+returns-in-Ok-shape_of-clause-shape c =
+    let parts = parts_there c.parts_are_items.ensures c.one_reading.ensures c.args.bytes.now c.in-Ok.items.items c.deref.result.now c.deref.ensures.value c.in-Ok.ensures.found in
+    record { parts = parts.0; has_parts = parts.1; shape_is = c.in-Ok-shape_of.ensures.found parts.0 parts.2 }
+
+pub refusal-requires-clause-parts : goal.refusal-requires-clause-parts
+refusal-requires-clause-parts c =
+    parts_there c.parts_are_items.ensures c.one_reading.ensures c.args.bytes.now c.in-Ok.items.items c.deref-in-Err-shape_of.result.now c.deref-in-Err-shape_of.ensures.value c.in-Ok.ensures.found

@@ -3,5 +3,5 @@ use Rattle.warg_program.proofs.StopLaws.{status_short}
 use Rattle.warg_program.proofs.program.run.Goals as goal
 
 pub returns-in-Err-clause-complete : goal.returns-in-Err-clause-complete
-returns-in-Err-clause-complete g c = λ root path held bytes names asked told there exports fits files out.
-    inr (c.status.ensures ∙ status_short c.in-Err.stop (c.in-Err.ensures.complete root path held bytes names asked told there exports fits files out))
+returns-in-Err-clause-complete g c = λ root path held bytes tree asked told there has_shape not_open fits files out.
+    inr (c.status.ensures ∙ status_short c.in-Err.stop (c.in-Err.ensures.complete root path held bytes tree asked told there has_shape not_open fits files out))
