@@ -76,7 +76,7 @@ fn download_content<L: Link, C: ContentStorage>(
 /// The bytes of the content of a digest: those that are kept, or else those of a download, which are kept from then on.
 ///
 /// The registry is asked where the content is, and then each URL that it lists, in order, up to the first success.
-/// Bytes of another digest are refused, and nothing is kept of them.
+/// Bytes of another digest are refused.
 pub fn fetch_content<L: Link, C: ContentStorage>(
     alloc: Global,
     client: &Client,
