@@ -1,13 +1,13 @@
 //! What a page brings for the logs of an update.
 
 ghost use Rattle.std.specs.Prelude.{◌≡◌, ◌≢◌, ◌⊎◌, ℕ, ◌∷◌, [], Some, IfSome, IfNone, OnOk, IfErr, map, slice_get};
-ghost use Rattle.std.specs.List.{AllByRecursion};
+ghost use Rattle.std.specs.List.{All, AllByRecursion};
 ghost use Rattle.warg_record.specs.Record.{Package};
 ghost use Rattle.warg_info.specs.Kept.{Grows};
-ghost use Rattle.warg_info.specs.Info.{package_log};
+ghost use Rattle.warg_info.specs.Info.{package_log, IsSoundPackage};
 ghost use Rattle.warg_exchange.specs.Views.{page_view};
 ghost use Rattle.warg_page.specs.Logs.{IsOfPackage, EachGrows, Brings};
-ghost use Rattle.warg_page.specs.Views.{package_view, logs_view};
+ghost use Rattle.warg_page.specs.Views.{package_view, logs_view, AreSound};
 ghost use Rattle.warg_page.specs.Steps.{HaveIds, IsGood, AreGood, IsGoodOperator};
 ghost use Rattle.warg_page.specs.PageFaults.{IsPackageFault, IsListedFault, FirstListedFault, IsPageFault};
 ghost use Rattle.warg_page.specs.declared.page.PageError.TheVariants.{Memory as WantsMemory, Package as OfPackage};
@@ -62,6 +62,7 @@ fn take_package<V: Verifier>(
     records: &[PublishedRecord],
 ) -> Result<(), PageError>
     ensures same_name { info.new.name ≡ info.old.name }
+    ensures sound { IsSoundPackage info.old → IsSoundPackage info.new }
     ensures good { IsGood (V.good verifier.now) info.old → IsGood (V.good verifier.now) info.new }
     ensures grows { OnOk result (IsGood (V.good verifier.now) info.old
         → Grows Package (package_log info.old) records.now (package_log info.new)) }
@@ -93,6 +94,7 @@ fn take_listed<V: Verifier>(
     records: &[PublishedRecord],
 ) -> Result<(), PageError>
     ensures ids { HaveIds ids.now.keys packages.old.items → HaveIds ids.now.keys packages.new.items }
+    ensures sound { All IsSoundPackage packages.old.items → All IsSoundPackage packages.new.items }
     ensures good { AreGood (V.good verifier.now) packages.old.items → AreGood (V.good verifier.now) packages.new.items }
     ensures grows { OnOk result (HaveIds ids.now.keys packages.old.items
         → AreGood (V.good verifier.now) packages.old.items
@@ -127,6 +129,7 @@ fn take_packages<V: Verifier>(
     listed: &IndexMap<LogId, Sequence<PublishedRecord>>,
 ) -> Result<(), PageError>
     ensures ids { HaveIds ids.now.keys packages.old.items → HaveIds ids.now.keys packages.new.items }
+    ensures sound { All IsSoundPackage packages.old.items → All IsSoundPackage packages.new.items }
     ensures good { AreGood (V.good verifier.now) packages.old.items → AreGood (V.good verifier.now) packages.new.items }
     ensures grows { OnOk result (HaveIds ids.now.keys packages.old.items
         → AreGood (V.good verifier.now) packages.old.items
@@ -157,6 +160,7 @@ pub fn take_page<V: Verifier>(
     page: &FetchLogsResponse,
 ) -> Result<(), PageError>
     ensures ids { HaveIds ids.now.keys packages.old.items → HaveIds ids.now.keys packages.new.items }
+    ensures sound { AreSound operator.old packages.old.items → AreSound operator.new packages.new.items }
     ensures operator { IsGoodOperator (V.good verifier.now) operator.old
         → IsGoodOperator (V.good verifier.now) operator.new }
     ensures packages { AreGood (V.good verifier.now) packages.old.items

@@ -4,7 +4,7 @@ ghost use Rattle.std.specs.Prelude.{◌≡◌, ◌≤◌, ◌<◌, ◌⊎◌, �
 ghost use Rattle.warg_values.specs.Faults.{Rose};
 ghost use Rattle.warg_log.specs.Rules.{Accepts};
 ghost use Rattle.warg_page.specs.Steps.{id_of, AreGood, IsGoodOperator};
-ghost use Rattle.warg_page.specs.Views.{logs_view};
+ghost use Rattle.warg_page.specs.Views.{logs_view, AreSound};
 ghost use Rattle.warg_exchange.specs.declared.exchange.Exchange.{Exchange as Said};
 ghost use Rattle.warg_exchange.specs.declared.exchange.Reply.{Reply as Replied};
 ghost use Rattle.warg_exchange.specs.declared.exchange.Request.{Request as Sent};
@@ -13,7 +13,7 @@ ghost use Rattle.warg_api.specs.Asking.{asker};
 ghost use Rattle.warg_api.specs.Link.{answered};
 ghost use Rattle.warg_api.specs.declared.client.Client.{Client as Asking};
 ghost use Rattle.warg_update.specs.Proved.{Start, Asks};
-ghost use Rattle.warg_update.specs.Standing.{asker_of, request_at, turns_left, pages_left as pages_left_of, Stands, Advances, Counts, IsProved, IsRefused};
+ghost use Rattle.warg_update.specs.Standing.{asker_of, request_at, turns_left, pages_left as pages_left_of, HasSoundLogs, Stands, Advances, Counts, IsProved, IsRefused};
 ghost use Rattle.warg_update.specs.FeedFaults.{AsksDecision};
 ghost use Rattle.warg_session.specs.declared.error.UpdateRefusal.TheVariants.{LinkFault as IsLinkFault};
 ghost use Rattle.warg_session.specs.Recording.{Transcript, IsKept, exchange, link_of, transcript};
@@ -103,6 +103,7 @@ fn feed<V: Verifier, D: Decide>(
     reply: &Reply,
 ) -> Result<(), UpdateRefusal>
     ensures stands { Advances (V.good verifier.now) step.old reply.now step.new }
+    ensures sound { HasSoundLogs step.old → HasSoundLogs step.new }
     ensures asker { (client : Asking) → asker_of client step.new ≡ asker_of client step.old }
     ensures turns { OnOk result (turns_left step.new < turns_left step.old) }
     ensures counted { Counts step.old step.new }
@@ -173,6 +174,7 @@ fn turn<L: Link, V: Verifier, D: Decide>(
         → IsUnderWay (V.good verifier.now) (asker_of client.now step.old) start L.Steps begun
         (transcript L.told link.old) step.old
         → IsProved step.new ⊎ IsRefused step.new }
+    ensures sound { HasSoundLogs step.old → HasSoundLogs step.new }
     ensures asker { (client : Asking) → asker_of client step.new ≡ asker_of client step.old }
     ensures pages { OnOk result ((start : Start) (begun : Transcript L.Told)
         → IsUnderWay (V.good verifier.now) (asker_of client.now step.old) start L.Steps begun
@@ -221,6 +223,7 @@ fn go_on<L: Link, V: Verifier, D: Decide>(
     ensures never_falls { L.faults (link_of link.old) ≤ L.faults (link_of link.new) }
     ensures link_fault { (result ≡ Err IsLinkFault)
         → Rose (L.faults (link_of link.old)) (L.faults (link_of link.new)) }
+    ensures sound { HasSoundLogs step.old → HasSoundLogs step.new }
     ensures over { OnOk result ((start : Start) (begun : Transcript L.Told)
         → IsUnderWay (V.good verifier.now) (asker_of client.now step.old) start L.Steps begun
         (transcript L.told link.old) step.old
@@ -273,6 +276,8 @@ pub fn run_update<L: Link, V: Verifier, D: Decide>(
         → IsUpdated (V.good verifier.now) (asker client.now start.registry) (start_view start) L.Steps
         (transcript L.told link.old) (transcript L.told link.new)
         (logs_view updated.proved.operator updated.proved.packages.items) updated.proved.checkpoint) }
+    ensures sound { IfOk result (λ updated. AreSound start.operator start.packages.items
+        → AreSound updated.proved.operator updated.proved.packages.items) }
     ensures good { IfOk result (λ updated. IsGoodStart (V.good verifier.now) start
         → IsGoodOperator (V.good verifier.now) updated.proved.operator
         × AreGood (V.good verifier.now) updated.proved.packages.items) }

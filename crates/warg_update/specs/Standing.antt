@@ -14,7 +14,7 @@ use Rattle.warg_api.specs.Asking.{asker}
 use Rattle.warg_page.specs.Logs.{Logs, AreLawful, indices_of}
 use Rattle.warg_update.specs.Proved.{page_request, IsSigned, Start, Proves, Opens, Shows, AreAsked}
 use Rattle.warg_page.specs.Steps.{HaveIds, AreGood, IsGoodOperator}
-use Rattle.warg_page.specs.Views.{logs_view}
+use Rattle.warg_page.specs.Views.{logs_view, AreSound}
 use Rattle.warg_update.specs.declared.stage.Stage.{Stage}
 use Rattle.warg_update.specs.declared.stage.Stage.TheVariants as stage
 use Rattle.warg_update.specs.declared.step.UpdateStep.{UpdateStep}
@@ -22,6 +22,10 @@ use Rattle.warg_update.specs.declared.step.UpdateStep.{UpdateStep}
 -- the logs of a step, as far as they came
 abbrev pub logs_of : UpdateStep → Logs
 logs_of step = logs_view step.operator step.packages.items
+
+-- they are sound
+abbrev pub HasSoundLogs : UpdateStep → Type 0
+HasSoundLogs step = AreSound step.operator step.packages.items
 
 -- how many pages a step may still ask for
 abbrev pub pages_left : UpdateStep → ℕ
@@ -113,11 +117,13 @@ pub record Stands (accepts : Accepts) (a : Asker) (start : Start) (step : Update
 
 -- ---- a reply that is fed
 
--- what stays with any reply: whose logs they are, what was stored, what is set, and that good infos are good
+-- what stays with any reply: whose logs they are, what was stored, what is set, that the logs are sound, and that good
+-- infos are good
 pub record KeepsOn (accepts : Accepts) (old new : UpdateStep) : Type 0 where
   pub registry : new.registry ≡ old.registry
   pub stored : new.stored ≡ old.stored
   pub hints : new.hints ≡ old.hints
+  pub sound : HasSoundLogs old → HasSoundLogs new
   pub ready : IsReady accepts old → IsReady accepts new
 
 -- with a reply to what it asked, a step stands after one exchange more

@@ -12,7 +12,7 @@ ghost use Rattle.warg_update.specs.Proved.{Start, Asks, Proves};
 ghost use Rattle.warg_page.specs.Steps.{id_of, HaveIds, AreGood, IsGoodOperator};
 ghost use Rattle.warg_page.specs.IdFaults.{IsIdsFault};
 ghost use Rattle.warg_page.specs.Views.{logs_view, AreSound};
-ghost use Rattle.warg_update.specs.Standing.{pages_left as pages_left_of, hints_of, asker_of, start_of, request_at, IsAtLimit, IsProved, IsRefused, turns_left, IsReady, Stands, KeepsOn, Advances, Counts};
+ghost use Rattle.warg_update.specs.Standing.{pages_left as pages_left_of, hints_of, asker_of, start_of, request_at, IsAtLimit, IsProved, IsRefused, turns_left, HasSoundLogs, IsReady, Stands, KeepsOn, Advances, Counts};
 ghost use Rattle.warg_update.specs.FeedFaults.{IsFeedFault, AsksDecision};
 ghost use Rattle.warg_update.specs.declared.error.AskError.TheVariants.{RoundLimit as IsRoundLimit, BadHeader as IsBadHeader};
 ghost use Rattle.warg_update.specs.declared.error.UpdateError.TheVariants.{NotAsked as IsNotAsked};
@@ -101,6 +101,7 @@ impl UpdateStep {
         ensures stands { IfOk result (λ step. (accepts : Accepts) (a : Who)
             → IsGoodOperator accepts operator → AreGood accepts packages.items
             → Stands accepts a (start_of operator packages.items stored) step []) }
+        ensures sound { IfOk result (λ step. AreSound operator packages.items → HasSoundLogs step) }
         ensures asker { IfOk result (λ step. (client : Asking) → asker_of client step ≡ asker client registry) }
         ensures pages { IfOk result (λ step. pages_left_of step ≡ settings.round_limit) }
         ensures hints { IfOk result (λ step. hints_of step ≡ settings.hints) }
@@ -132,6 +133,7 @@ impl UpdateStep {
         ensures proves { IfSome result (λ p. (accepts : Accepts) (a : Who) (start : Start) (xs : List Exchange)
             → Stands accepts a start self.now xs
             → Proves accepts a start xs (logs_view p.operator.now p.packages.now) p.checkpoint.now) }
+        ensures sound { IfSome result (λ p. HasSoundLogs self.now → AreSound p.operator.now p.packages.now) }
         ensures good { IfSome result (λ p. (accepts : Accepts) (a : Who) (start : Start) (xs : List Exchange)
             → Stands accepts a start self.now xs
             → IsGoodOperator accepts p.operator.now × AreGood accepts p.packages.now) }
@@ -156,6 +158,7 @@ impl UpdateStep {
         ensures proves { IfSome result (λ p. (accepts : Accepts) (a : Who) (start : Start) (xs : List Exchange)
             → Stands accepts a start self xs
             → Proves accepts a start xs (logs_view p.operator p.packages.items) p.checkpoint) }
+        ensures sound { IfSome result (λ p. HasSoundLogs self → AreSound p.operator p.packages.items) }
         ensures good { IfSome result (λ p. (accepts : Accepts) (a : Who) (start : Start) (xs : List Exchange)
             → Stands accepts a start self xs
             → IsGoodOperator accepts p.operator × AreGood accepts p.packages.items) }
@@ -432,6 +435,7 @@ impl UpdateStep {
         reply: &Reply,
     ) -> Result<(), UpdateError>
         ensures stands { Advances (V.good verifier.now) self.old reply.now self.new }
+        ensures sound { HasSoundLogs self.old → HasSoundLogs self.new }
         ensures asker { (client : Asking) → asker_of client self.new ≡ asker_of client self.old }
         ensures hints { hints_of self.new ≡ hints_of self.old }
         ensures turns { OnOk result (turns_left self.new < turns_left self.old) }

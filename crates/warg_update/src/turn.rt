@@ -6,7 +6,7 @@ ghost use Rattle.warg_update.specs.FeedFaults.{IsTurnFault};
 ghost use Rattle.warg_update.specs.Stages.{IsTurned};
 ghost use Rattle.warg_update.specs.declared.stage.Stage.TheVariants as at;
 ghost use Rattle.warg_page.specs.Steps.{HaveIds, AreGood, IsGoodOperator};
-ghost use Rattle.warg_page.specs.Views.{logs_view};
+ghost use Rattle.warg_page.specs.Views.{logs_view, AreSound};
 
 use crate::error::UpdateError;
 use crate::signature::check_signature;
@@ -33,6 +33,7 @@ pub fn turn_page<V: Verifier>(
     page: &FetchLogsResponse,
 ) -> Result<Stage, UpdateError>
     ensures ids { HaveIds ids.now.keys packages.old.items → HaveIds ids.now.keys packages.new.items }
+    ensures sound { AreSound operator.old packages.old.items → AreSound operator.new packages.new.items }
     ensures operator { IsGoodOperator (V.good verifier.now) operator.old
         → IsGoodOperator (V.good verifier.now) operator.new }
     ensures packages { AreGood (V.good verifier.now) packages.old.items

@@ -5,6 +5,7 @@ use Rattle.std.proofs.lemmas.List.Elements.{All-set}
 use Rattle.std.proofs.lemmas.Option.{slice_get-get_or, slice_get_read}
 use Rattle.std.proofs.lemmas.Result.{err_from_is_err_and}
 use Rattle.warg_info.specs.Kept.{Kept}
+use Rattle.warg_info.specs.Info.{IsSoundPackage}
 use Rattle.warg_page.specs.Steps.{IsGood}
 use Rattle.warg_page.specs.Views.{package_view}
 use Rattle.warg_page.proofs.InfosLaws.{listed-one, listed-none, listed-fault, no-id, ids-set, package-at}
@@ -25,6 +26,14 @@ returns-else-is_empty-clause-fault g c ids good =
 pub returns-in_err-take_package-clause-ids : goal.returns-in_err-take_package-clause-ids
 returns-in_err-take_package-clause-ids g c ids =
     ids-set c.args.ids.now.keys c.args.packages.now.items c.in-Some.at c.index_mut.result.now c.take_package.new.info ids c.index_mut.ensures.value c.take_package.ensures.same_name
+
+pub returns-in_err-take_package-clause-sound : goal.returns-in_err-take_package-clause-sound
+returns-in_err-take_package-clause-sound g c sound =
+    let xs = c.args.packages.now.items in
+    let p = c.index_mut.result.now in
+    let lt : c.in-Some.at < length xs = omega (arith, c.len.ensures, c.args.packages.now.ok.0) in
+    let was : IsSoundPackage p = subst IsSoundPackage (sym c.index_mut.ensures.value) (sound c.in-Some.at p lt) in
+    All-set IsSoundPackage xs c.in-Some.at c.take_package.new.info (c.take_package.ensures.sound was) sound
 
 pub returns-in_err-take_package-clause-good : goal.returns-in_err-take_package-clause-good
 returns-in_err-take_package-clause-good g c good =
@@ -49,6 +58,14 @@ returns-in_err-take_package-clause-fault g c =
 pub returns-clause-ids : goal.returns-clause-ids
 returns-clause-ids g c ids =
     ids-set c.args.ids.now.keys c.args.packages.now.items c.in-Some.at c.index_mut.result.now c.take_package.new.info ids c.index_mut.ensures.value c.take_package.ensures.same_name
+
+pub returns-clause-sound : goal.returns-clause-sound
+returns-clause-sound g c sound =
+    let xs = c.args.packages.now.items in
+    let p = c.index_mut.result.now in
+    let lt : c.in-Some.at < length xs = omega (arith, c.len.ensures, c.args.packages.now.ok.0) in
+    let was : IsSoundPackage p = subst IsSoundPackage (sym c.index_mut.ensures.value) (sound c.in-Some.at p lt) in
+    All-set IsSoundPackage xs c.in-Some.at c.take_package.new.info (c.take_package.ensures.sound was) sound
 
 pub returns-clause-good : goal.returns-clause-good
 returns-clause-good g c good =

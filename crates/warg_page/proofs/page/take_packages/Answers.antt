@@ -26,6 +26,7 @@ loop-id-preserved g c =
     λ ids good. subst (λ (ps : List PublishedRecord). EachGrows ((id, ps) ∷ []) before after) c.as_slice.ensures (c.in_ok-take_listed.ensures.grows (was.ids ids) (was.good good)) in
     record {
       ids = λ ids. c.take_listed.ensures.ids (was.ids ids);
+      sound = λ sound. c.take_listed.ensures.sound (was.sound sound);
       good = λ good. c.take_listed.ensures.good (was.good good);
       grows = λ ids good news more. was.grows ids good news
           (subst (λ (l : List (List ℕ × List PublishedRecord)). EachGrows l before news) (sym left) (each-more c.growth_goes_on.ensures.more (id, records) rest before after news (taken ids good) more));
@@ -35,6 +36,9 @@ loop-id-preserved g c =
       fault = λ ids good e fault. was.fault ids good e
           (subst (λ (l : List (List ℕ × List PublishedRecord)). FirstListedFault e accepts before l) (sym left) (inr (after, taken ids good, fault)));
     }
+
+pub returns-in_err-take_listed-clause-sound : goal.returns-in_err-take_listed-clause-sound
+returns-in_err-take_listed-clause-sound g c sound = c.take_listed.ensures.sound (c.loop-id.invariant.sound sound)
 
 pub returns-in_err-take_listed-clause-good : goal.returns-in_err-take_listed-clause-good
 returns-in_err-take_listed-clause-good g c good = c.take_listed.ensures.good (c.loop-id.invariant.good good)

@@ -1,6 +1,7 @@
 use Rattle.std.proofs.Common.{List, ℕ, map}
+use Rattle.warg_info.specs.Info.{IsSoundPackage}
 use Rattle.warg_info.specs.Kept.{Kept}
-use Rattle.std.specs.List.{AllByRecursion}
+use Rattle.std.specs.List.{All, AllByRecursion}
 use Rattle.warg_page.specs.Logs.{IsOfPackage, EachGrows}
 use Rattle.warg_page.specs.PageFaults.{FirstListedFault}
 use Rattle.warg_page.specs.Steps.{HaveIds, AreGood}
@@ -16,6 +17,7 @@ invariant-loop-id g l =
     let now = l.packages.items in
     record {
       ids : HaveIds keys old → HaveIds keys now;
+      sound : All IsSoundPackage old → All IsSoundPackage now;
       good : AreGood accepts old → AreGood accepts now;
       grows : HaveIds keys old → AreGood accepts old → (news : List (List ℕ × List Kept)) → EachGrows l.id-iterator (map package_view now) news → EachGrows l.listed.entries (map package_view old) news;
       asked : HaveIds keys old → AreGood accepts old → AllByRecursion (IsOfPackage (map package_view now)) l.id-iterator → AllByRecursion (IsOfPackage (map package_view old)) l.listed.entries;

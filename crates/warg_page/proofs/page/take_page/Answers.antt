@@ -19,3 +19,9 @@ returns-in_err-take_packages-clause-fault g c =
     rw (q.1, q.2) (λ ids sound good. page-fault c.in_err-take_packages.field-0.0 accepts (logs_view c.args.operator.now c.args.packages.now.items) (page_view c.args.page.now) grown
     (subst (λ (ps : List PublishedRecord). Grows Operator log ps grown) c.as_slice.ensures (c.in-Ok.ensures.grows sound.sound))
     (c.in_err-take_packages.ensures.fault ids good))
+
+pub returns-in_err-take_packages-clause-sound : goal.returns-in_err-take_packages-clause-sound
+returns-in_err-take_packages-clause-sound g c = λ are. record { operator = c.take.ensures.sound are.operator; packages = c.take_packages.ensures.sound are.packages }
+
+pub returns-clause-sound : goal.returns-clause-sound
+returns-clause-sound g c = λ are. record { operator = c.take.ensures.sound are.operator; packages = c.take_packages.ensures.sound are.packages }

@@ -15,6 +15,7 @@ loop-refusal-preserved g c =
     record {
       faults = omega (arith, c.loop-refusal.invariant.faults, c.turn.ensures.never_falls);
       asker = λ client. c.turn.ensures.asker client ∙ c.loop-refusal.invariant.asker client;
+      sound = λ sound. c.turn.ensures.sound (c.loop-refusal.invariant.sound sound);
       come = λ start begun w.
           as_same accepts start g.L.Link.Steps begun a b (transcript g.L.Link.told c.turn.new.link) c.turn.new.step same
           (c.in-Ok-true.ensures.come start begun (by_same accepts start g.L.Link.Steps begun a b (transcript g.L.Link.told c.loop-refusal.link) c.loop-refusal.step same (c.loop-refusal.invariant.come start begun w)));

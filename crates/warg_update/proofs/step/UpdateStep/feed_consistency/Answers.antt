@@ -19,5 +19,5 @@ returns-clause-stands c accepts at_stage =
       pages_left = old.pages_left;
       hints = old.hints;
     } in
-    let keeps : KeepsOn accepts old new = record { registry = refl; stored = refl; hints = refl; ready = λ r. record { operator = r.operator; packages = r.packages; ids = r.ids } } in
+    let keeps : KeepsOn accepts old new = record { registry = refl; stored = refl; hints = refl; sound = λ sound. sound; ready = λ r. record { operator = r.operator; packages = r.packages; ids = r.ids } } in
     continued-advances accepts old new c.args.reply.now c.args.old.now c.in-Some.checkpoint at_stage c.in-Some.is refl refl refl keeps c.in_ok-show_continuation.ensures.ok

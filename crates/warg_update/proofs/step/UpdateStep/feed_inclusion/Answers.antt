@@ -24,7 +24,7 @@ returns-clause-stands c accepts at_stage =
       pages_left = old.pages_left;
       hints = old.hints;
     } in
-    let keeps : KeepsOn accepts old new = record { registry = refl; stored = refl; hints = refl; ready = λ r. record { operator = r.operator; packages = r.packages; ids = r.ids } } in
+    let keeps : KeepsOn accepts old new = record { registry = refl; stored = refl; hints = refl; sound = λ sound. sound; ready = λ r. record { operator = r.operator; packages = r.packages; ids = r.ids } } in
     heads-advances accepts old new c.args.reply.now c.in-Some.checkpoint at_stage c.in-Some.is refl refl keeps
     (λ r. subst (λ (l : List PackageInfo). AreShown contents (logs_view old.operator l) c.args.reply.now) c.as_slice.ensures.value
     (c.in_ok-show_heads.ensures.ok (sound-of accepts old.operator c.as_slice.result.now r.operator (subst (λ (l : List PackageInfo). AreGood accepts l) (sym c.as_slice.ensures.value) r.packages))))

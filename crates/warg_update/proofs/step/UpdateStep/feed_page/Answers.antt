@@ -17,6 +17,7 @@ returns-in_err-self-clause-kept g c = record {
   registry = refl;
   stored = refl;
   hints = refl;
+  sound = c.turn_page.ensures.sound;
   ready = λ r. record { operator = c.turn_page.ensures.operator r.operator; packages = c.turn_page.ensures.packages r.packages; ids = c.turn_page.ensures.ids r.ids };
 }
 
@@ -44,6 +45,7 @@ returns-clause-kept g c = record {
   registry = refl;
   stored = refl;
   hints = refl;
+  sound = c.turn_page.ensures.sound;
   ready = λ r. record { operator = c.turn_page.ensures.operator r.operator; packages = c.turn_page.ensures.packages r.packages; ids = c.turn_page.ensures.ids r.ids };
 }
 
@@ -66,6 +68,7 @@ returns-clause-stands g c at_page =
       registry = refl;
       stored = refl;
       hints = refl;
+      sound = c.turn_page.ensures.sound;
       ready = λ r. record { operator = c.turn_page.ensures.operator r.operator; packages = c.turn_page.ensures.packages r.packages; ids = c.turn_page.ensures.ids r.ids };
     } in
     turned-advances accepts old new c.args.reply.now c.in-Some-Some.checkpoint (page_view c.in_ok-page.page) at_page c.in-Some-Some.is-1 refl keeps c.in_ok-page.ensures.ok (λ r. c.in_ok-self.ensures.turned r.ids r.operator r.packages)
