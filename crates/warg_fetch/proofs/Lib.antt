@@ -1,4 +1,5 @@
 pub mod ContentLaws
+pub mod KeptLaws
 pub mod StoredLaws
 pub mod UpdateLaws
 pub mod UpdateSteps

@@ -1,16 +1,17 @@
 //! The content of a digest, from a store or by a download.
 
-ghost use Rattle.std.specs.Prelude.{◌≡◌, ◌≤◌, Err, IfOk, IfErr, IfSome, OnErr, option_copied};
+ghost use Rattle.std.specs.Prelude.{◌≡◌, ◌≤◌, ℕ, List, Err, IfOk, IfErr, IfSome, OnErr, option_copied};
 ghost use Rattle.sha2.specs.Sha256.{sha256};
 ghost use Rattle.warg_values.specs.Faults.{Rose};
 ghost use Rattle.warg_api.specs.Asking.{asker};
 ghost use Rattle.warg_api.specs.declared.error.ClientError.TheVariants.{LinkFault as IsLinkFault};
 ghost use Rattle.warg_session.specs.Recording.{link_of, transcript};
 ghost use Rattle.warg_store.specs.Contents.{TellsContents, with_content};
+ghost use Rattle.warg_store.specs.declared.error.StoreError.TheVariants.{IncorrectContent as IsIncorrect};
 ghost use Rattle.warg_assemble.specs.Known.{Known};
 ghost use Rattle.warg_fetch.specs.Loaded.{IsContentFetched, IsDownloadCause, IsDownloaded, IsLoadRefusal, IsStoreCause, LeavesFetch, with_bytes};
 ghost use Rattle.warg_fetch.specs.Stored.{KnowsContents};
-ghost use Rattle.warg_fetch.specs.declared.error.LoadError.TheVariants.{Call as IsCallFault};
+ghost use Rattle.warg_fetch.specs.declared.error.LoadError.TheVariants.{Call as IsCallFault, Store as IsStoreRefusal};
 
 use crate::error::LoadError;
 use std::alloc::Global;
@@ -64,6 +65,8 @@ fn download_content<L: Link, C: ContentStorage>(
     ensures refused { OnErr result (IfSome (C.told contents.old) (λ held.
         LeavesFetch (asker client.now (option_copied registry.entry)) digest.now L.Steps
         (transcript L.told link.old) (transcript L.told link.new) (C.told contents.new) held)) }
+    ensures incorrect { (found wanted : List ℕ) → (result ≡ Err (IsStoreRefusal (IsIncorrect found wanted)))
+        → IfSome (C.told contents.old) (TellsContents (C.told contents.new)) }
     ensures fault { IfErr result (λ e. IsStoreCause (asker client.now (option_copied registry.entry)) digest.now
         L.Steps (transcript L.told link.old) (transcript L.told link.new) e (C.faults contents.old)
         (C.faults contents.new)) }
@@ -98,6 +101,8 @@ pub fn fetch_content<L: Link, C: ContentStorage>(
     ensures refused { OnErr result (IfSome (C.told contents.old) (λ held.
         LeavesFetch (asker client.now (option_copied registry.entry)) digest.now L.Steps
         (transcript L.told link.old) (transcript L.told link.new) (C.told contents.new) held)) }
+    ensures incorrect { (found wanted : List ℕ) → (result ≡ Err (IsStoreRefusal (IsIncorrect found wanted)))
+        → IfSome (C.told contents.old) (TellsContents (C.told contents.new)) }
     ensures cause { IfErr result (λ e. IsLoadRefusal (asker client.now (option_copied registry.entry)) digest.now
         L.Steps (transcript L.told link.old) (transcript L.told link.new) e
         (record { before = C.faults contents.old; after = C.faults contents.new; told = C.told contents.old })) }

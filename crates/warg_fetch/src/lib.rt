@@ -4,6 +4,7 @@
 
 mod content;
 mod error;
+mod fetch;
 mod keep;
 pub mod laws;
 mod package;

@@ -136,6 +136,7 @@ impl<V: Verifier> Fetcher<'_, V> {
             → (xs : List Said) × IsFetched (V.good self.now.verifier.now) (asker self.now.client.now) known L.Steps
             (transcript L.told link.old) (transcript L.told link.new) (update_of got xs)) }
         ensures writes { IfOk result (λ got. (xs : List Said) → writes_in got ≡ writes_of (update_of got xs)) }
+        ensures sound { IfOk result IsSoundUpdate }
         ensures good { IfOk result (λ got. (known : Known)
             → Knows (V.good self.now.verifier.now) (R.told registries.old) (N.told namespaces.old) known
             → IsGoodUpdate (V.good self.now.verifier.now) got) }
