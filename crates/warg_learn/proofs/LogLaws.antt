@@ -1,0 +1,175 @@
+-- What the update of a package teaches a learner, and what is left where it teaches nothing.
+use Rattle.std.proofs.Common.{◌≡◌, ℕ, ◌≤◌, Bool, true, List, Some, bytes_eq, cond, refl, sym, ap, subst, ◌∙◌, inl, inr}
+use Rattle.std.specs.Map.{lookup}
+use Rattle.warg_values.specs.Faults.{Rose}
+use Rattle.warg_exchange.specs.declared.exchange.Exchange.{Exchange}
+use Rattle.warg_api.specs.Link.{Asked}
+use Rattle.warg_session.specs.Recording.{AreKept}
+use Rattle.warg_session.specs.declared.error.UpdateRefusal.TheVariants as update
+use Rattle.warg_info.specs.Info.{package_log}
+use Rattle.warg_plan.specs.Keys.{Release}
+use Rattle.warg_plan.specs.Walk.{Content, NeedsLog}
+use Rattle.warg_assemble.specs.Known.{Known, registry_of}
+use Rattle.warg_assemble.specs.Parts.{Update, Updated, known_after, releases_in, IsUpdate}
+use Rattle.warg_fetch.specs.declared.error.FetchError.{FetchError}
+use Rattle.warg_fetch.specs.declared.error.FetchError.TheVariants as fetch
+use Rattle.warg_fetch.specs.declared.package.PackageUpdate.{PackageUpdate}
+use Rattle.warg_fetch.specs.Fetched.{IsFetched, update_of}
+use Rattle.warg_fetch.specs.Kept.{LeavesPackage}
+use Rattle.warg_fetch.specs.Stored.{IsOwnStore, Knows}
+use Rattle.warg_learn.specs.Learnt.{IsLearnt}
+use Rattle.warg_learn.specs.Refusals.{fetch_refusal}
+use Rattle.warg_learn.specs.Seen.{Seen, IsSame, NeverFalls}
+use Rattle.warg_learn.specs.Unlearnt.{IsUnlearnt, IsLearnFault, IsUnfetched, IsLogBegun, is_link_fault}
+use Rattle.warg_learn.specs.declared.error.LearnError.TheVariants as error
+use Rattle.warg_learn.proofs.SeenLaws.{if_some, since, since_is, knows_contents, at_most, noted_first, nothing_begun, same_seen, none_falls}
+
+-- an update is refused by the link where the learner says so
+link_fault_by : (E : Type 0) (e : FetchError) → is_link_fault {E = E} (fetch_refusal e) ≡ true → e ≡ fetch.Update update.LinkFault
+link_fault_by E (fetch.Update update.LinkFault) h = refl
+link_fault_by E (fetch.Update (update.SameLog id)) h = absurd cc
+link_fault_by E (fetch.Update update.RoundLimit) h = absurd cc
+link_fault_by E (fetch.Update update.BadHeader) h = absurd cc
+link_fault_by E (fetch.Update (update.Reply e)) h = absurd cc
+link_fault_by E (fetch.Update update.Memory) h = absurd cc
+link_fault_by E (fetch.Store e) h = absurd cc
+link_fault_by E fetch.Memory h = absurd cc
+
+module _ {T D : Type 0} (Steps : T → Asked → T → Type 0) (old new : Seen T D) (name : List ℕ) where
+  -- for each that the stores know
+  abbrev pub ForKnown : (Known → Type 0) → Type 0
+  ForKnown P = (known : Known) → Knows old.accepts old.registries old.names known → P known
+
+  -- The exchanges are those of an update, and the store is the client's own still. Contents and names are as they were.
+  pub record IsUnderWay : Type 0 where
+    pub same : IsSame old new
+    pub never_falls : NeverFalls old new
+    pub contents : new.contents ≡ old.contents
+    pub names : new.names ≡ old.names
+    pub own : ForKnown (λ known. IsOwnStore old.accepts new.registries)
+    pub begun : ForKnown (λ known. IsLogBegun Steps old new known (NeedsLog name))
+
+  pub under_way : new.accepts ≡ old.accepts → new.asker ≡ old.asker → new.contents ≡ old.contents → new.names ≡ old.names
+      → old.faults.link ≤ new.faults.link → old.faults.registries ≤ new.faults.registries → old.faults.contents ≡ new.faults.contents → old.faults.names ≤ new.faults.names
+      → ForKnown (λ known. IsOwnStore old.accepts new.registries) → ForKnown (λ known. IsLogBegun Steps old new known (NeedsLog name)) → IsUnderWay
+  under_way accepts asker contents names link registries unasked held own begun = record {
+    same = record { accepts = accepts; asker = asker };
+    never_falls = record { link = link; registries = registries; contents = at_most unasked; names = held };
+    contents = contents;
+    names = names;
+    own = own;
+    begun = begun;
+  }
+
+  -- this update was fetched, and just what it teaches is known besides
+  pub record IsTaught (got : PackageUpdate) : Type 0 where
+    pub way : IsUnderWay
+    pub named : ForKnown (λ known. got.info.name ≡ name)
+    pub fetched : ForKnown (λ known. (xs : List Exchange) × IsFetched old.accepts old.asker known Steps old.transcript new.transcript (update_of got xs))
+    pub knows : ForKnown (λ known. (xs : List Exchange) → Knows old.accepts new.registries new.names (known_after known (Updated (update_of got xs))))
+
+  module _ {E : Type 0} (said : D → D → Bool → Bool) (Refuses : List ℕ → E → Type 0) where
+    cause_by : (known : Known) (e : FetchError) → IsUnfetched Steps old new known said Refuses name e → IsLearnFault Steps old new known said Refuses (NeedsLog name) (fetch_refusal e)
+    cause_by known (fetch.Store e) h = h
+    cause_by known (fetch.Update e) h = h
+    cause_by known fetch.Memory h = record {}
+
+    -- a package is not fetched
+    pub log_unfetched : (e : FetchError) → IsUnderWay → new.updated ≡ old.updated → (e ≡ fetch.Update update.LinkFault → Rose old.faults.link new.faults.link) → ForKnown (λ known. IsUnfetched Steps old new known said Refuses name e)
+        → ((known : Known) → (k : Knows old.accepts old.registries old.names known) → LeavesPackage old.accepts old.asker known name Steps old.transcript new.transcript new.registries k.registries.held)
+        → IsUnlearnt Steps said Refuses old (NeedsLog name) (fetch_refusal e) new
+    log_unfetched e way updated rose cause held = record {
+      same = way.same;
+      never_falls = way.never_falls;
+      link_fault = λ h. rose (link_fault_by E e h);
+      cause = λ known k. cause_by known e (cause known k.stores);
+      leaves = λ known k. record {
+        registries = inl (if_some _ old.registries k.stores.registries.held k.stores.registries.tells (held known k.stores));
+        contents = way.contents;
+        names = way.names;
+        updated = updated;
+      };
+      own = λ known k. way.own known k.stores;
+      begun = λ known k. way.begun known k.stores;
+    }
+
+    -- a package is fetched, and there is no memory to say so
+    pub log_forgotten : (got : PackageUpdate) → IsTaught got → new.updated ≡ old.updated → IsUnlearnt Steps said Refuses old (NeedsLog name) error.Memory new
+    log_forgotten got taught updated = record {
+      same = taught.way.same;
+      never_falls = taught.way.never_falls;
+      link_fault = λ h. absurd cc;
+      cause = λ known k. record {};
+      leaves = λ known k.
+          let f = taught.fetched known k.stores in
+          record {
+            registries = inr (record {
+              update = update_of got f.0;
+              named = taught.named known k.stores;
+              fetched = f.1;
+              knows = subst (λ a. Knows a new.registries new.names (known_after known (Updated (update_of got f.0)))) (sym taught.way.same.accepts) (taught.knows known k.stores f.0);
+            });
+            contents = taught.way.contents;
+            names = taught.way.names;
+            updated = updated;
+          };
+      own = λ known k. taught.way.own known k.stores;
+      begun = λ known k. taught.way.begun known k.stores;
+    }
+
+  -- ---- what is learnt
+
+  -- an update, with the exchanges since it began
+  abbrev pub update_since : PackageUpdate → Update
+  update_since got = record (update_of got (since old.transcript new.transcript)) { name = name }
+
+  update_is : (got : PackageUpdate) (xs : List Exchange) → got.info.name ≡ name → since old.transcript new.transcript ≡ xs → update_since got ≡ update_of got xs
+  update_is got xs named same = ap (λ n. record (update_of got (since old.transcript new.transcript)) { name = n }) (sym named) ∙ ap (λ xs. update_of got xs) same
+
+  pub log_learnt : (Reads : Content → Type 0) (got : PackageUpdate) (releases : List Release) → IsTaught got → releases_in (package_log got.info) ≡ releases → ForKnown (λ known. new.pages_left ≤ old.pages_left) → ForKnown (λ known. new.decider ≡ old.decider)
+      → (key : List ℕ) → key ≡ name → ((q : List ℕ) → lookup (λ n. bytes_eq q n) new.updated ≡ cond (bytes_eq key q) (Some got.info.registry) (lookup (λ n. bytes_eq q n) old.updated))
+      → (u : Update) × (u.name ≡ name) × (releases_in u.log ≡ releases) × IsLearnt Steps Reads old (NeedsLog name) (Updated u) new
+  log_learnt Reads got releases taught are pages undecided key is_key noted = (
+    update_since got,
+    refl,
+    are,
+    record {
+      same = taught.way.same;
+      never_falls = taught.way.never_falls;
+      right = λ known k.
+          let f = taught.fetched known k.stores in
+          let xs = since_is old.transcript new.transcript f.0 f.1.kept.exchanges in
+          let is = update_is got f.0 (taught.named known k.stores) xs in
+          record {
+            serves = (refl, f.1.under ∙ ap (registry_of known) (taught.named known k.stores));
+            is = subst (λ u. IsUpdate old.accepts old.asker Reads known u) (sym is) f.1.proves;
+            kept = subst (λ xs. AreKept Steps old.transcript xs new.transcript) (sym xs) f.1.kept;
+            knows = record {
+              stores = subst (λ a. Knows a new.registries new.names (known_after known (Updated (update_since got)))) (sym taught.way.same.accepts)
+                  (subst (λ u. Knows old.accepts new.registries new.names (known_after known (Updated u))) (sym is) (taught.knows known k.stores f.0));
+              contents = knows_contents old.contents new.contents known (known_after known (Updated (update_since got))) taught.way.contents (λ digest. refl) k.contents;
+              updated = noted_first old.updated new.updated known.updated name key got.info.registry is_key noted k.updated;
+            };
+            pages = pages known k.stores;
+            undecided = undecided known k.stores;
+          };
+    },
+  )
+
+-- nothing is asked for a log where there is no memory
+pub log_unasked : {T D E : Type 0} (Steps : T → Asked → T → Type 0) (said : D → D → Bool → Bool) (Refuses : List ℕ → E → Type 0) (s : Seen T D) (name : List ℕ) → IsUnlearnt Steps said Refuses s (NeedsLog name) error.Memory s
+log_unasked Steps said Refuses s name = record {
+  same = same_seen s;
+  never_falls = none_falls s;
+  link_fault = λ h. absurd cc;
+  cause = λ known k. record {};
+  leaves = λ known k. record {
+    registries = inl (if_some _ s.registries k.stores.registries.held k.stores.registries.tells
+        (inl (record { now = k.stores.registries.held; tells = k.stores.registries.tells; same = record { checkpoints = λ r. refl; operators = λ r. refl; packages = λ p. refl } })));
+    contents = refl;
+    names = refl;
+    updated = refl;
+  };
+  own = λ known k. k.stores.own;
+  begun = λ known k. nothing_begun _ _ s.transcript;
+}

@@ -1,0 +1,4 @@
+pub mod Learnt
+pub mod Refusals
+pub mod Seen
+pub mod Unlearnt
