@@ -10,7 +10,7 @@ ghost use Rattle.warg_session.specs.Updating.{IsBegun, IsUpdateRefusal};
 ghost use Rattle.warg_session.specs.declared.error.UpdateRefusal.TheVariants.{LinkFault as IsLinkFault};
 ghost use Rattle.warg_assemble.specs.Known.{Known, registry_of};
 ghost use Rattle.warg_assemble.specs.Parts.{Updated, known_after, start_of};
-ghost use Rattle.warg_fetch.specs.Fetched.{IsFetchFault, IsFetched, update_of};
+ghost use Rattle.warg_fetch.specs.Fetched.{IsFetchFault, IsFetched, IsSoundUpdate, update_of};
 ghost use Rattle.warg_fetch.specs.Kept.{IsStoresFault, LeavesPackage};
 ghost use Rattle.warg_fetch.specs.Stored.{IsOwnStore, Knows};
 ghost use Rattle.warg_fetch.specs.declared.error.FetchError.TheVariants.{Update as IsUpdateFault};
@@ -65,6 +65,7 @@ impl<V: Verifier> Fetcher<'_, V> {
         ensures own { (known : Known)
             → Knows (V.good self.now.verifier.now) (R.told registries.old) (N.told namespaces.old) known
             → IsOwnStore (V.good self.now.verifier.now) (R.told registries.new) }
+        ensures sound { IfOk result IsSoundUpdate }
         ensures pages { IfOk result (λ got. (known : Known)
             → Knows (V.good self.now.verifier.now) (R.told registries.old) (N.told namespaces.old) known
             → got.pages_left ≤ self.now.settings.round_limit) }
