@@ -1,36 +1,58 @@
 -- What a client shows.
-use Rattle.std.specs.Prelude.{Option}
+use Rattle.std.specs.Prelude.{ℕ, Option}
+use Rattle.warg_log.specs.Rules.{Accepts}
+use Rattle.warg_store.specs.Contents.{Contents}
+use Rattle.warg_store.specs.Entry.{Entry}
+use Rattle.warg_store.specs.Held.{Held}
+use Rattle.warg_store.specs.Namespaces.{Names}
 use Rattle.warg_api.specs.declared.client.Client.{Client as Asking}
 use Rattle.warg_plan.specs.declared.plan.Plan.{Plan}
 use Rattle.warg_session.specs.Recording.{Transcript, transcript}
+use Rattle.warg_learn.specs.Seen.{Seen, Telling, seen}
 use Rattle.warg_client.specs.declared.client.Client.{Client}
 use Rattle.warg_client.specs.declared.settings.Settings.{Settings}
+
+-- what the parts of a client tell: the signatures that are good, and of the link and each store what it tells and how many
+-- of its calls have failed
+abbrev pub tells : {L R C N V T : Type 0} → (V → Accepts) → (L → T) → (L → ℕ) → (R → Option Held) → (R → ℕ)
+    → (C → Option Contents) → (C → ℕ) → (N → Option (Entry Names)) → (N → ℕ) → Telling L R C N V T
+tells good link link_faults registries registry_faults contents content_faults names name_faults = record {
+  good = good;
+  link = link;
+  registries = registries;
+  contents = contents;
+  names = names;
+  link_faults = link_faults;
+  registry_faults = registry_faults;
+  content_faults = content_faults;
+  name_faults = name_faults;
+}
 
 module _ {L R C N V D : Type 0} where
   -- as whom it asks registries
   abbrev pub asking : Client L R C N V D → Asking
-  asking client = client.api
+  asking client = client.learner.client
 
   -- what it was asked over its link, by what that tells
   abbrev pub said_by : {T : Type 0} → (L → T) → Client L R C N V D → Transcript T
-  said_by told client = transcript told client.link
+  said_by told client = transcript told client.learner.link
 
   -- its stores: of registries, of contents and of namespaces
   abbrev pub registry_of : Client L R C N V D → R
-  registry_of client = client.registry
+  registry_of client = client.learner.registries
 
   abbrev pub content_of : Client L R C N V D → C
-  content_of client = client.content
+  content_of client = client.learner.contents
 
   abbrev pub names_of : Client L R C N V D → N
-  names_of client = client.namespace_map
+  names_of client = client.learner.namespaces
 
   -- by which signatures it goes, and who decides for it
   abbrev pub verifier_of : Client L R C N V D → V
-  verifier_of client = client.verifier
+  verifier_of client = client.learner.verifier
 
   abbrev pub decider_of : Client L R C N V D → D
-  decider_of client = client.decide
+  decider_of client = client.learner.decide
 
   abbrev pub settings_of : Client L R C N V D → Settings
   settings_of client = client.settings
@@ -38,3 +60,7 @@ module _ {L R C N V D : Type 0} where
   -- the plan that it found last
   abbrev pub plan_of : Client L R C N V D → Option Plan
   plan_of client = client.last_plan
+
+  -- all that is seen of it, by what its parts tell
+  abbrev pub seen_by : {T : Type 0} → Telling L R C N V T → Client L R C N V D → Seen T D
+  seen_by tell client = seen tell client.learner

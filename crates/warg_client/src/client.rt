@@ -1,6 +1,6 @@
 //! A client of registries.
 
-ghost use Rattle.std.specs.Prelude.{◌≡◌, ◌≢◌, ◌≤◌, [], codes, true, None, Ok, Err, IfOk, IfErr, IfSome, option_copied};
+ghost use Rattle.std.specs.Prelude.{◌≡◌, ◌≢◌, ◌≤◌, [], codes, true, Some, None, Ok, Err, IfOk, IfErr, IfSome, OnErr, option_copied};
 ghost use Rattle.url.specs.declared.error.ParseError.{ParseError as Fault};
 ghost use Rattle.url.specs.Parts.{Parts, nonempty_host};
 ghost use Rattle.warg_url.specs.RegistryUrl.{IsLocal, IsSafe, ReadsAs, base_of};
@@ -9,15 +9,19 @@ ghost use Rattle.warg_store.specs.Held.{Tells};
 ghost use Rattle.warg_assemble.specs.Known.{Known};
 ghost use Rattle.warg_fetch.specs.Fetched.{IsLookupFault};
 ghost use Rattle.warg_fetch.specs.Stored.{KnowsNames, KnowsRegistries, registry_for as registry_by_names};
-ghost use Rattle.warg_client.specs.Errors.{IsOfStore, url_refusal};
+ghost use Rattle.warg_error.specs.Calls.{url_refusal};
+ghost use Rattle.warg_client.specs.Errors.{IsOfStore};
 ghost use Rattle.warg_client.specs.Shown.{asking, said_by, registry_of, content_of, names_of, verifier_of, decider_of, settings_of, plan_of};
 
-use crate::error::ClientError;
 use crate::settings::Settings;
+use indexmap::IndexMap;
 use std::alloc::Global;
 use warg_api::{Client as RegistryClient, Link};
+use warg_error::ClientError;
 use warg_exchange::Exchange;
 use warg_fetch::registry_for;
+use warg_learn::Learner;
+use warg_link::ComponentReader;
 use warg_plan::Plan;
 use warg_session::Recording;
 use warg_store::{NamespaceMapStorage, RegistryStorage};
@@ -27,24 +31,12 @@ use warg_values::Text;
 /// A client of registries: whom it asks and over which link, what it keeps, and what it goes by.
 #[derive(Drop)]
 pub struct Client<L, R, C, N, V, D> {
-    /// As whom it asks registries.
-    api: RegistryClient,
-    /// The link, with the exchanges over it.
-    link: Recording<L>,
-    /// The store of registries.
-    registry: R,
-    /// The store of contents.
-    content: C,
-    /// The store of the registries of namespaces.
-    namespace_map: N,
-    /// Who says which signatures are good.
-    verifier: V,
-    /// Who decides what is not the client's own to decide.
-    decide: D,
+    /// As whom it asks registries, over which link, what it keeps, and by which signatures and decisions it goes.
+    pub(crate) learner: Learner<L, R, C, N, V, D, ComponentReader>,
     /// What is set for it.
-    settings: Settings,
+    pub(crate) settings: Settings,
     /// The plan that it found last.
-    last_plan: Option<Plan>,
+    pub(crate) last_plan: Option<Plan>,
 }
 
 impl<L: Link, R: Drop, C: Drop, N: Drop, V: Drop, D: Drop> Client<L, R, C, N, V, D> {
@@ -81,15 +73,21 @@ impl<L: Link, R: Drop, C: Drop, N: Drop, V: Drop, D: Drop> Client<L, R, C, N, V,
         ensures insecure { (result ≡ Err (url_refusal IsInsecure)) → (read : Parts) × ReadsAs url.now (Ok read)
             × (read.scheme ≡ codes "http") × (IsLocal (nonempty_host read) → ⊥) }
     {
-        let api = RegistryClient::new(alloc, url, auth_token)?;
+        let client = RegistryClient::new(alloc, url, auth_token)?;
         Ok(Client {
-            api,
-            link: Recording::new(alloc, link),
-            registry,
-            content,
-            namespace_map,
-            verifier,
-            decide,
+            learner: Learner {
+                client,
+                link: Recording::new(alloc, link),
+                registries: registry,
+                contents: content,
+                namespaces: namespace_map,
+                verifier,
+                decide,
+                reader: ComponentReader,
+                hints: settings.hints(),
+                pages_left: settings.round_limit,
+                updated: IndexMap::new(alloc),
+            },
             settings,
             last_plan: None,
         })
@@ -99,35 +97,35 @@ impl<L: Link, R: Drop, C: Drop, N: Drop, V: Drop, D: Drop> Client<L, R, C, N, V,
     pub fn url(&self) -> &RegistryUrl
         ensures { result.now ≡ (asking self.now).url }
     {
-        self.api.url()
+        self.learner.client.url()
     }
 
     /// The store of registries.
     pub fn registry(&self) -> &R
         ensures { result.now ≡ registry_of self.now }
     {
-        &self.registry
+        &self.learner.registries
     }
 
     /// The store of contents.
     pub fn content(&self) -> &C
         ensures { result.now ≡ content_of self.now }
     {
-        &self.content
+        &self.learner.contents
     }
 
     /// The store of the registries of namespaces.
     pub fn namespace_map(&self) -> &N
         ensures { result.now ≡ names_of self.now }
     {
-        &self.namespace_map
+        &self.learner.namespaces
     }
 
     /// The exchanges over the link, in order.
     pub fn transcript(&self) -> &[Exchange]
         ensures { result.now ≡ (said_by L.told self.now).exchanges }
     {
-        self.link.exchanges()
+        self.learner.link.exchanges()
     }
 
     /// The plan that was found last.
@@ -143,7 +141,8 @@ impl<L: Link, R: Drop, C: Drop, N: Drop, V: Drop, D: Drop> Client<L, R, C, N, V,
         ensures content { result.1 ≡ content_of self }
         ensures names { result.2 ≡ names_of self }
     {
-        (self.registry, self.content, self.namespace_map)
+        let learner = self.learner;
+        (learner.registries, learner.contents, learner.namespaces)
     }
 }
 
@@ -177,8 +176,8 @@ impl<L: Link, R: RegistryStorage, C, N: NamespaceMapStorage, V, D> Client<L, R, 
     {
         let registry = registry_for(
             alloc,
-            &mut self.registry,
-            &mut self.namespace_map,
+            &mut self.learner.registries,
+            &mut self.learner.namespaces,
             namespace,
         )?;
         Ok(registry)

@@ -1,10 +1,10 @@
-//! A client of registries, with what it keeps.
+//! A client of registries, with what it keeps: it assembles components of plans.
 #![tactic(auto)]
 
+mod assemble;
 mod client;
-mod error;
 mod settings;
 
 pub use client::Client;
-pub use error::{ClientError, Other};
 pub use settings::Settings;
+pub use warg_error::{ClientError, Other, PlanFault};

@@ -1,5 +1,7 @@
 //! What is set for a client.
 
+use warg_hint::HintSettings;
+
 /// What is set for a client.
 #[derive(Clone, Copy, Debug, PartialEq, Eq)]
 pub struct Settings {
@@ -15,4 +17,15 @@ pub struct Settings {
     pub round_limit: u64,
     /// How often a call may ask whether a record is published.
     pub polls: u64,
+}
+
+impl Settings {
+    /// What is set about hints at other registries.
+    pub(crate) fn hints(&self) -> HintSettings {
+        HintSettings {
+            ignore_federation_hints: self.ignore_federation_hints,
+            disable_auto_accept_federation_hints: self.disable_auto_accept_federation_hints,
+            disable_interactive: self.disable_interactive,
+        }
+    }
 }

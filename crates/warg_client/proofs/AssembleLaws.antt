@@ -1,0 +1,143 @@
+-- What a search of a learner has kept, learnt and found.
+use Rattle.std.proofs.Common.{◌≡◌, ℕ, Bool, List, [], ◌∷◌, ◌++◌, refl, sym, ap, subst, ◌∙◌, append_assoc}
+use Rattle.std.specs.List.{AllByRecursion, flat_map}
+use Rattle.sha2.specs.Sha256.{sha256}
+use Rattle.compose_config.specs.Plan.{Settings}
+use Rattle.warg_exchange.specs.declared.exchange.Exchange.{Exchange}
+use Rattle.warg_exchange.specs.Requests.{Asker}
+use Rattle.warg_log.specs.Rules.{Accepts}
+use Rattle.warg_api.specs.Link.{Asked, Exchanges}
+use Rattle.warg_session.specs.Recording.{Transcript, AreKept}
+use Rattle.warg_session.specs.RecordingLaws.{none_kept}
+use Rattle.warg_plan.specs.Walk.{Content, Entry, Facts, Stop, nothing_known}
+use Rattle.warg_plan.specs.Plan.{EachAfter, IsEntry}
+use Rattle.warg_store.specs.Held.{Registry}
+use Rattle.warg_assemble.specs.Known.{Known}
+use Rattle.warg_assemble.specs.Parts.{Part, exchanges_in, known_after, known_by, learnt, IsPart}
+use Rattle.warg_assemble.specs.Session.{Wanted, AreFacts}
+use Rattle.warg_search.specs.Search.{AreLearnt, Finds, IsSearchRefusal}
+use Rattle.warg_search.specs.SearchLaws.{search_finds}
+use Rattle.warg_search.specs.SearchLaws as laws
+use Rattle.warg_search.specs.declared.error.SearchError.{SearchError}
+use Rattle.warg_search.specs.declared.error.SearchError.TheVariants as search
+use Rattle.warg_fetch.specs.Stored.{IsOwnStore}
+use Rattle.warg_learn.specs.declared.error.LearnError.{LearnError}
+use Rattle.warg_learn.specs.Seen.{Seen, IsKnown}
+use Rattle.warg_learn.specs.Learnt.{IsLearnt}
+use Rattle.warg_learn.specs.Unlearnt.{IsUnlearnt}
+use Rattle.warg_link.specs.Read.{IsComponent}
+use Rattle.comp_shape.specs.Refusal.{IsRefused}
+use Rattle.warg_client.specs.Assembled.{wanted, IsPlanned, IsPlanOfText, IsSearchRefused}
+use Rattle.warg_error.specs.Text.{IsPlanText}
+use Rattle.warg_error.specs.declared.error.ClientError.{ClientError}
+
+-- ---- exchanges, and then others
+
+module _ {T : Type 0} (Steps : T → Asked → T → Type 0) where
+  exchanges_both : (old mid new : T) (xs ys : List Exchange) → Exchanges Steps old xs mid → Exchanges Steps mid ys new → Exchanges Steps old (xs ++ ys) new
+  unfolding Exchanges
+  exchanges_both old mid new [] ys first later = subst (λ t. Exchanges Steps t ys new) first later
+  exchanges_both old mid new (x ∷ xs) ys first later = (first.0, first.1, exchanges_both first.0 mid new xs ys first.2 later)
+
+  both_kept : (old mid new : Transcript T) (xs ys : List Exchange) → AreKept Steps old xs mid → AreKept Steps mid ys new → AreKept Steps old (xs ++ ys) new
+  both_kept old mid new xs ys first later = record {
+    passed = exchanges_both old.link mid.link new.link xs ys first.passed later.passed;
+    exchanges = later.exchanges ∙ ap (λ l. l ++ ys) first.exchanges ∙ append_assoc old.exchanges xs ys;
+    whole = later.whole ∙ first.whole;
+  }
+
+-- ---- parts that were learnt
+
+module _ {T D : Type 0} (Steps : T → Asked → T → Type 0) (Reads : Content → Type 0) (w : Wanted) where
+  abbrev Learns : Seen T D → Stop → Part → Seen T D → Type 0
+  Learns = IsLearnt Steps Reads
+
+  -- the exchanges of the parts were kept
+  pub parts_kept : (f : Facts) (old new : Seen T D) (parts : List Part) (known : Known) → IsKnown old known → AreLearnt w Learns f old parts new → AreKept Steps old.transcript (flat_map exchanges_in parts) new.transcript
+  unfolding AreLearnt
+  parts_kept f old new [] known knows are = subst (λ (t : Seen T D). AreKept Steps old.transcript [] t.transcript) (sym are) (none_kept Steps old.transcript)
+  parts_kept f old new (p ∷ ps) known knows are =
+      let right = are.1.learns.right known knows in
+      both_kept Steps old.transcript are.0.transcript new.transcript (exchanges_in p) (flat_map exchanges_in ps) right.kept (parts_kept (learnt f p) are.0 new ps (known_after known p) right.knows are.2)
+
+  -- by which signatures a learner goes is as it was
+  pub parts_same : (f : Facts) (old new : Seen T D) (parts : List Part) → AreLearnt w Learns f old parts new → new.accepts ≡ old.accepts
+  unfolding AreLearnt
+  parts_same f old new [] are = ap (λ (t : Seen T D). t.accepts) are
+  parts_same f old new (p ∷ ps) are = parts_same (learnt f p) are.0 new ps are.2 ∙ are.1.learns.same.accepts
+
+  -- what the parts teach is known
+  pub parts_known : (f : Facts) (old new : Seen T D) (parts : List Part) (known : Known) → IsKnown old known → AreLearnt w Learns f old parts new → IsKnown new (known_by known parts)
+  unfolding AreLearnt
+  parts_known f old new [] known knows are = subst (λ t. IsKnown t known) (sym are) knows
+  parts_known f old new (p ∷ ps) known knows are = parts_known (learnt f p) are.0 new ps (known_after known p) (are.1.learns.right known knows).knows are.2
+
+  -- the store of registries is its client's own
+  pub parts_own : (f : Facts) (old new : Seen T D) (parts : List Part) (known : Known) → IsKnown old known → AreLearnt w Learns f old parts new → IsOwnStore old.accepts new.registries
+  parts_own f old new parts known knows are = subst (λ accepts. IsOwnStore accepts new.registries) (parts_same f old new parts are) (parts_known f old new parts known knows are).stores.own
+
+  -- so it is where the search ends without a plan
+  pub refused_own : {E : Type 0} (said : D → D → Bool → Bool) (Refuses : List ℕ → E → Type 0) (old new : Seen T D) (e : SearchError (LearnError E)) (known : Known) → IsKnown old known
+      → IsSearchRefusal w Learns (IsUnlearnt Steps said Refuses) old new e → IsOwnStore old.accepts new.registries
+  refused_own said Refuses old new (search.NoPlan stop) known knows h = parts_own nothing_known old new h.parts known knows h.are
+  refused_own said Refuses old new (search.Refused e) known knows h =
+      subst (λ accepts. IsOwnStore accepts new.registries) (parts_same nothing_known old h.before h.parts h.are)
+      (h.refuses.own (known_by known h.parts) (parts_known nothing_known old h.before h.parts known knows h.are))
+  refused_own said Refuses old new search.Memory known knows h = parts_own nothing_known old new h.parts known knows h.are
+
+-- ---- contents
+
+module _ (accepts : Accepts) (asker : Registry → Asker) (Reads : Content → Type 0) (known : Known) (xs : List Exchange) (s : Settings) (f : Facts) (facts : AreFacts accepts asker Reads known xs f) where
+  -- the content of an entry has the entry's digest
+  entry_digest : (before : List Entry) (e : Entry) → IsEntry s f before e → sha256 e.content ≡ e.digest
+  entry_digest before e is = ap sha256 is.bytes ∙ (facts.contents e.digest is.made_of is.known).digest_is
+
+  each_digest : (before es : List Entry) → EachAfter (IsEntry s f) before es → AllByRecursion (λ e. sha256 e.content ≡ e.digest) es
+  unfolding EachAfter
+  each_digest before [] each = record {}
+  each_digest before (e ∷ es) each = (entry_digest before e each.0, each_digest (before ++ e ∷ []) es each.1)
+
+-- ---- what is found
+
+module _ {T D : Type 0} (Steps : T → Asked → T → Type 0) (s : Settings) (accepts : Accepts) (asker : Registry → Asker) where
+  -- in a state this is known, and it goes by these signatures and asks as this one
+  record IsAt (t : Seen T D) (known : Known) : Type 0 where
+    pub knows : IsKnown t known
+    pub accepts_are : t.accepts ≡ accepts
+    pub asker_is : t.asker ≡ asker
+
+  is_right : (old new : Seen T D) (stop : Stop) (p : Part) (known : Known) → IsAt old known → IsLearnt Steps IsComponent old stop p new
+      → laws.IsRight (wanted s) (IsLearnt Steps IsComponent) IsAt accepts asker IsComponent old stop p new known
+  is_right old new stop p known at learns =
+      let right = learns.right known at.knows in
+      record {
+        serves = right.serves;
+        is = subst (λ a. IsPart accepts a IsComponent known p) at.asker_is (subst (λ a. IsPart a old.asker IsComponent known p) at.accepts_are right.is);
+        knows = record { knows = right.knows; accepts_are = learns.same.accepts ∙ at.accepts_are; asker_is = learns.same.asker ∙ at.asker_is };
+      }
+
+module _ {T D : Type 0} (Steps : T → Asked → T → Type 0) where
+  -- what a search finds is the plan of a text's settings
+  pub found_is_planned : (s : Settings) (old new : Seen T D) (es : List Entry) (known : Known) → IsKnown old known → Finds (wanted s) (IsLearnt Steps IsComponent) old new es → IsPlanned Steps old new known s es
+  found_is_planned s old new es known knows found =
+      let start : IsAt Steps s old.accepts old.asker old known = record { knows = knows; accepts_are = refl; asker_is = refl } in
+      let is = search_finds (wanted s) (IsLearnt Steps IsComponent) (IsAt Steps s old.accepts old.asker) old.accepts old.asker IsComponent (is_right Steps s old.accepts old.asker) known old new es start found in
+      record {
+        parts = found.parts;
+        session = is.session;
+        once = is.once;
+        kept = parts_kept Steps IsComponent (wanted s) nothing_known old new found.parts known knows found.are;
+        plan = is.plan;
+        digests = each_digest old.accepts old.asker IsComponent known (flat_map exchanges_in found.parts) s is.plan.facts is.plan.proved [] es is.plan.plan.each;
+        knows = parts_known Steps IsComponent (wanted s) nothing_known old new found.parts known knows found.are;
+      }
+
+  pub is_plan_of_text : (s : Settings) (old new : Seen T D) (text : List ℕ) (es : List Entry) → IsPlanText text s → Finds (wanted s) (IsLearnt Steps IsComponent) old new es → IsPlanOfText Steps old new text es
+  is_plan_of_text s old new text es reads found = record { settings = s; reads = reads; planned = λ known knows. found_is_planned s old new es known knows found }
+
+  -- whether a plan is found or not, the store of registries is its client's own
+  pub found_own : (s : Settings) (old new : Seen T D) (es : List Entry) (known : Known) → IsKnown old known → Finds (wanted s) (IsLearnt Steps IsComponent) old new es → IsOwnStore old.accepts new.registries
+  found_own s old new es known knows found = parts_own Steps IsComponent (wanted s) nothing_known old new found.parts known knows found.are
+
+  pub search_own : (said : D → D → Bool → Bool) (s : Settings) (old new : Seen T D) (e : ClientError) (known : Known) → IsKnown old known → IsSearchRefused Steps old new said e s → IsOwnStore old.accepts new.registries
+  search_own said s old new e known knows refused = refused_own Steps IsComponent (wanted s) said (λ bytes error. IsRefused error bytes) old new refused.refusal known knows refused.cause

@@ -1,0 +1,103 @@
+//! Components, assembled of the plans of texts.
+
+ghost use Rattle.std.specs.Prelude.{◌≡◌, Some, None, IfOk, IfErr, OnErr};
+ghost use Rattle.compose_config.specs.View.{settings_of as plan_settings};
+ghost use Rattle.warg_plan.specs.View.{plan_view};
+ghost use Rattle.warg_plan.specs.declared.plan.Plan.{Plan as Found};
+ghost use Rattle.warg_assemble.specs.Known.{Known};
+ghost use Rattle.warg_fetch.specs.Stored.{IsOwnStore};
+ghost use Rattle.warg_search.specs.Search.{Finds};
+ghost use Rattle.warg_learn.specs.Learnt.{IsLearnt};
+ghost use Rattle.warg_learn.specs.Seen.{IsKnown, Telling};
+ghost use Rattle.warg_link.specs.Linked.{IsPlanLinked};
+ghost use Rattle.warg_link.specs.Read.{IsComponent};
+ghost use Rattle.warg_client.specs.Assembled.{IsAssembleFault, IsPlanOfText, IsSearchRefused, beginning, wanted};
+ghost use Rattle.warg_client.specs.Shown.{plan_of, registry_of, seen_by, settings_of, tells, verifier_of};
+
+use crate::client::Client;
+use compose_config::Config;
+use indexmap::IndexMap;
+use std::alloc::Global;
+use warg_api::Link;
+use warg_error::{ClientError, plan_text};
+use warg_hint::Decide;
+use warg_link::link_plan;
+use warg_log::Verifier;
+use warg_plan::Plan;
+use warg_search::search_plan;
+use warg_store::{ContentStorage, NamespaceMapStorage, RegistryStorage};
+
+impl<
+    L: Link,
+    R: RegistryStorage,
+    C: ContentStorage,
+    N: NamespaceMapStorage,
+    V: Verifier,
+    D: Decide,
+> Client<L, R, C, N, V, D> {
+    /// Begins a call: no package was updated in it yet, and as many pages may be asked for as are set.
+    fn begin(&mut self, alloc: Global)
+        ensures begins { (tell : Telling L R C N V L.Told) → seen_by tell self.new
+            ≡ beginning (settings_of self.old) (seen_by tell self.old) }
+        ensures settings { settings_of self.new ≡ settings_of self.old }
+        ensures no_plan { plan_of self.new ≡ None }
+    {
+        self.learner.updated = IndexMap::new(alloc);
+        self.learner.pages_left = self.settings.round_limit;
+        self.last_plan = None;
+    }
+
+    /// The plan of a text's settings.
+    fn find_plan(&mut self, alloc: Global, config: &Config) -> Result<Plan, ClientError>
+        ensures finds { IfOk result (λ plan. Finds (wanted (plan_settings config.now)) (IsLearnt L.Steps IsComponent)
+            (seen_by (tells V.good L.told L.faults R.told R.faults C.told C.faults N.told N.faults) self.old)
+            (seen_by (tells V.good L.told L.faults R.told R.faults C.told C.faults N.told N.faults) self.new)
+            (plan_view plan)) }
+        ensures refused { IfErr result (λ e. IsSearchRefused L.Steps
+            (seen_by (tells V.good L.told L.faults R.told R.faults C.told C.faults N.told N.faults) self.old)
+            (seen_by (tells V.good L.told L.faults R.told R.faults C.told C.faults N.told N.faults) self.new)
+            D.said e (plan_settings config.now)) }
+        ensures settings { settings_of self.new ≡ settings_of self.old }
+        ensures plan { plan_of self.new ≡ plan_of self.old }
+    {
+        Ok(search_plan(alloc, &mut self.learner, config)?)
+    }
+
+    /// The component that the plan of a text makes.
+    ///
+    /// The text is read first. Then its plan is searched: each package is updated at its first need, under the registry
+    /// that has it, and kept with what the update proves; of the log that is proved a release is chosen; and its content is
+    /// loaded from the store, or downloaded and kept. In the end the plan is linked. The plan is `last_plan` from then on;
+    /// after a refusal there is none.
+    ///
+    /// The first fault is answered, and `NotBuilt` exactly where a registry tells of another one, or the plan has not one
+    /// entry, or its content imports something or exports what mentions a resource.
+    pub fn assemble(&mut self, alloc: Global, text: &str) -> Result<Vec<u8>, ClientError>
+        ensures planned { IfOk result (λ _. (plan : Found) × (plan_of self.new ≡ Some plan)
+            × IsPlanOfText L.Steps
+            (beginning (settings_of self.old) (seen_by (tells V.good L.told L.faults R.told R.faults C.told C.faults
+            N.told N.faults) self.old))
+            (seen_by (tells V.good L.told L.faults R.told R.faults C.told C.faults N.told N.faults) self.new)
+            text.now (plan_view plan)) }
+        ensures linked { IfOk result (λ bytes. (plan : Found) × (plan_of self.new ≡ Some plan)
+            × IsPlanLinked (plan_view plan) bytes.items) }
+        ensures no_plan { OnErr result (plan_of self.new ≡ None) }
+        ensures cause { IfErr result (λ e. IsAssembleFault L.Steps
+            (beginning (settings_of self.old) (seen_by (tells V.good L.told L.faults R.told R.faults C.told C.faults
+            N.told N.faults) self.old))
+            (seen_by (tells V.good L.told L.faults R.told R.faults C.told C.faults N.told N.faults) self.new)
+            D.said e text.now) }
+        ensures own { (known : Known)
+            → IsKnown (beginning (settings_of self.old) (seen_by (tells V.good L.told L.faults R.told R.faults C.told
+            C.faults N.told N.faults) self.old)) known
+            → IsOwnStore (V.good (verifier_of self.old)) (R.told (registry_of self.new)) }
+        ensures same_settings { settings_of self.new ≡ settings_of self.old }
+    {
+        self.begin(alloc);
+        let config = plan_text(alloc, text)?;
+        let plan = self.find_plan(alloc, &config)?;
+        let bytes = link_plan(alloc, &plan)?;
+        self.last_plan = Some(plan);
+        Ok(bytes)
+    }
+}

@@ -1,0 +1,4 @@
+pub mod Calls
+pub mod Updates
+pub mod Plans
+pub mod Text

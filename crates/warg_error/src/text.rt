@@ -1,0 +1,48 @@
+//! Texts of which plans are made.
+
+ghost use Rattle.std.specs.Prelude.{IfErr, IfOk};
+ghost use Rattle.compose_config.specs.View.{settings_of};
+ghost use Rattle.warg_plan.specs.FormView.{misfit_view};
+ghost use Rattle.warg_error.specs.Text.{IsPlanText, IsTextFault, IsMisfit};
+
+use crate::error::{ClientError, PlanFault};
+use compose_config::Config;
+use std::alloc::Global;
+use warg_plan::{TextError, check_text};
+use warg_values::Memory;
+use yaml_read::DeError;
+
+/// Why no plan is made of a text, with texts of its own.
+fn fault_of(alloc: Global, error: &TextError<'_>) -> Result<PlanFault, Memory>
+    ensures { IfOk result (λ fault. IsMisfit fault (misfit_view error.now)) }
+{
+    Ok(match error {
+        TextError::Definitions => PlanFault::Definitions,
+        TextError::SearchPaths => PlanFault::SearchPaths,
+        TextError::Dependencies => PlanFault::Dependencies,
+        TextError::ImportComponents => PlanFault::ImportComponents,
+        TextError::Export { instance, argument } => PlanFault::Export {
+            instance: instance.try_clone(alloc)?,
+            argument: argument.try_clone(alloc)?,
+        },
+    })
+}
+
+/// The configuration that a text is, of which a plan is made.
+///
+/// The text is refused where it is no configuration, and where it names files, imports components or gives an argument as
+/// an export: the first of these is told.
+pub fn plan_text(alloc: Global, text: &str) -> Result<Config, ClientError>
+    ensures read { IfOk result (λ config. IsPlanText text.now (settings_of config)) }
+    ensures fault { IfErr result (λ e. IsTextFault e text.now) }
+{
+    let config = match Config::from_text(alloc, text) {
+        Ok(config) => config,
+        Err(DeError::Memory) => return Err(ClientError::Memory),
+        Err(error) => return Err(ClientError::BadPlan(PlanFault::Text(error))),
+    };
+    if let Err(error) = check_text(&config) {
+        return Err(ClientError::BadPlan(fault_of(alloc, &error)?));
+    }
+    Ok(config)
+}

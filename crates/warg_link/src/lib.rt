@@ -1,0 +1,11 @@
+//! Plans, linked: contents read as components, and the component that a plan makes.
+#![tactic(auto)]
+
+mod error;
+mod plan;
+mod reader;
+
+pub use comp_shape::ShapeError;
+pub use error::LinkError;
+pub use plan::link_plan;
+pub use reader::ComponentReader;
