@@ -247,4 +247,5 @@ def main():
         out.write("\n".join(parts))
 
 
-main()
+if __name__ == "__main__":
+    main()
