@@ -146,9 +146,19 @@ public_module && /^pub use / {
     }
 }
 
+# The head of an impl may take several lines.
 /^impl/ {
     end_call()
+    heading = ""
+    in_heading = 1
+}
+in_heading {
     text = $0
+    sub(/^ +/, "", text)
+    heading = heading text (text ~ /,$/ ? " " : "")
+    if (!/[{]$/) next
+    in_heading = 0
+    text = heading
     sub(/^impl/, "", text)
     text = behind_angles(text)
     sub(/^ +/, "", text)
