@@ -16,8 +16,8 @@ use Rattle.warg_assemble.specs.Parts.{exchanges_in}
 use Rattle.warg_assemble.specs.Session.{IsSession, IsPlanOf}
 use Rattle.warg_fetch.specs.Stored.{log_in, value_in, mapped_in, Knows, KnowsContents, KnowsNames, KnowsRegistries, IsOwn, IsOwnStore}
 use Rattle.warg_learn.specs.Seen.{Seen, IsKnown}
-use Rattle.warg_link.specs.Linked.{IsPlanLinked}
-use Rattle.warg_link.specs.Read.{IsComponent}
+use Rattle.warg_compose.specs.Linked.{IsPlanLinked}
+use Rattle.warg_compose.specs.Read.{IsComponent}
 use Rattle.warg_client.specs.Assembled.{wanted, IsPlanOfText}
 use Rattle.uses_client.specs.Anew.{IsAssembledAnew, nothing}
 

@@ -11,8 +11,8 @@ use Rattle.warg_store.specs.Held.{Registry}
 use Rattle.warg_assemble.specs.Known.{Known}
 use Rattle.warg_assemble.specs.Parts.{Part, exchanges_in}
 use Rattle.warg_assemble.specs.Session.{AreOnce, IsSession, IsPlanOf}
-use Rattle.warg_link.specs.Linked.{IsPlanLinked}
-use Rattle.warg_link.specs.Read.{IsComponent}
+use Rattle.warg_compose.specs.Linked.{IsPlanLinked}
+use Rattle.warg_compose.specs.Read.{IsComponent}
 use Rattle.warg_error.specs.Text.{IsPlanText}
 use Rattle.warg_client.specs.Assembled.{wanted}
 

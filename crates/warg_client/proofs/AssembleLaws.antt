@@ -25,7 +25,7 @@ use Rattle.warg_learn.specs.declared.error.LearnError.{LearnError}
 use Rattle.warg_learn.specs.Seen.{Seen, IsKnown}
 use Rattle.warg_learn.specs.Learnt.{IsLearnt}
 use Rattle.warg_learn.specs.Unlearnt.{IsUnlearnt}
-use Rattle.warg_link.specs.Read.{IsComponent}
+use Rattle.warg_compose.specs.Read.{IsComponent}
 use Rattle.comp_shape.specs.Refusal.{IsRefused}
 use Rattle.warg_client.specs.Assembled.{wanted, IsPlanned, IsPlanOfText, IsSearchRefused}
 use Rattle.warg_error.specs.Text.{IsPlanText}

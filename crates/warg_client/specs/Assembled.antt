@@ -18,10 +18,10 @@ use Rattle.warg_learn.specs.Learnt.{IsLearnt}
 use Rattle.warg_learn.specs.Seen.{Seen, IsKnown}
 use Rattle.warg_learn.specs.Unlearnt.{IsUnlearnt}
 use Rattle.warg_learn.specs.declared.error.LearnError.{LearnError}
-use Rattle.warg_link.specs.Linked.{IsLinkFault}
-use Rattle.warg_link.specs.Read.{IsComponent}
-use Rattle.warg_link.specs.declared.error.LinkError.{LinkError}
-use Rattle.warg_error.specs.Plans.{link_refusal, search_refusal}
+use Rattle.warg_compose.specs.Linked.{IsComposeFault}
+use Rattle.warg_compose.specs.Read.{IsComponent}
+use Rattle.warg_compose.specs.declared.error.ComposeError.{ComposeError}
+use Rattle.warg_error.specs.Plans.{compose_refusal, search_refusal}
 use Rattle.warg_error.specs.Text.{IsPlanText, IsTextFault}
 use Rattle.warg_error.specs.declared.error.ClientError.{ClientError}
 use Rattle.warg_client.specs.declared.settings.Settings.{Settings}
@@ -62,12 +62,12 @@ module _ {T D : Type 0} (Steps : T → Asked → T → Type 0) (old new : Seen T
     pub unchanged : new ≡ old
 
   -- the search of the text's plan finds one, which is not linked
-  pub record IsLinkRefused (e : ClientError) (settings : PlanSettings) : Type 0 where
+  pub record IsComposeRefused (e : ClientError) (settings : PlanSettings) : Type 0 where
     pub entries : List Entry
     pub finds : Finds (wanted settings) (IsLearnt Steps IsComponent) old new entries
-    pub refusal : LinkError
-    pub told : e ≡ link_refusal refusal
-    pub cause : IsLinkFault refusal entries
+    pub refusal : ComposeError
+    pub told : e ≡ compose_refusal refusal
+    pub cause : IsComposeFault refusal entries
 
   -- the search of the text's plan finds none, by what may be said where a decision is asked
   pub record IsSearchRefused (said : D → D → Bool → Bool) (e : ClientError) (settings : PlanSettings) : Type 0 where
@@ -81,4 +81,4 @@ module _ {T D : Type 0} (Steps : T → Asked → T → Type 0) (old new : Seen T
   IsAssembleFault said e text =
       IsTextRefused e text
       ⊎ ((settings : PlanSettings) × IsPlanText text settings
-      × (IsSearchRefused said e settings ⊎ IsLinkRefused e settings))
+      × (IsSearchRefused said e settings ⊎ IsComposeRefused e settings))

@@ -9,8 +9,8 @@ ghost use Rattle.warg_fetch.specs.Stored.{IsOwnStore};
 ghost use Rattle.warg_search.specs.Search.{Finds};
 ghost use Rattle.warg_learn.specs.Learnt.{IsLearnt};
 ghost use Rattle.warg_learn.specs.Seen.{IsKnown, Telling};
-ghost use Rattle.warg_link.specs.Linked.{IsPlanLinked};
-ghost use Rattle.warg_link.specs.Read.{IsComponent};
+ghost use Rattle.warg_compose.specs.Linked.{IsPlanLinked};
+ghost use Rattle.warg_compose.specs.Read.{IsComponent};
 ghost use Rattle.warg_client.specs.Assembled.{IsAssembleFault, IsPlanOfText, IsSearchRefused, beginning, wanted};
 ghost use Rattle.warg_client.specs.Shown.{plan_of, registry_of, seen_by, settings_of, tells, verifier_of};
 
@@ -19,9 +19,9 @@ use compose_config::Config;
 use indexmap::IndexMap;
 use std::alloc::Global;
 use warg_api::Link;
+use warg_compose::compose_plan;
 use warg_error::{ClientError, plan_text};
 use warg_hint::Decide;
-use warg_link::link_plan;
 use warg_log::Verifier;
 use warg_plan::Plan;
 use warg_search::search_plan;
@@ -70,8 +70,8 @@ impl<
     /// loaded from the store, or downloaded and kept. In the end the plan is linked. The plan is `last_plan` from then on;
     /// after a refusal there is none.
     ///
-    /// The first fault is answered, and `NotBuilt` exactly where a registry tells of another one, or the plan has not one
-    /// entry, or its content imports something or exports what mentions a resource.
+    /// The first fault is answered. `NotBuilt` tells that a hint at another registry would be followed or reported, or that
+    /// the plan has not one entry, or that its content imports something or exports what mentions a resource.
     pub fn assemble(&mut self, alloc: Global, text: &str) -> Result<Vec<u8>, ClientError>
         ensures planned { IfOk result (λ _. (plan : Found) × (plan_of self.new ≡ Some plan)
             × IsPlanOfText L.Steps
@@ -96,7 +96,7 @@ impl<
         self.begin(alloc);
         let config = plan_text(alloc, text)?;
         let plan = self.find_plan(alloc, &config)?;
-        let bytes = link_plan(alloc, &plan)?;
+        let bytes = compose_plan(alloc, &plan)?;
         self.last_plan = Some(plan);
         Ok(bytes)
     }

@@ -3,8 +3,8 @@ use Rattle.comp_shape.specs.declared.error.ShapeError.{ShapeError}
 use Rattle.comp_shape.specs.declared.error.ShapeError.TheVariants as shape
 use Rattle.warg_learn.specs.declared.error.LearnError.{LearnError}
 use Rattle.warg_learn.specs.declared.error.LearnError.TheVariants as learn
-use Rattle.warg_link.specs.declared.error.LinkError.{LinkError}
-use Rattle.warg_link.specs.declared.error.LinkError.TheVariants as link
+use Rattle.warg_compose.specs.declared.error.ComposeError.{ComposeError}
+use Rattle.warg_compose.specs.declared.error.ComposeError.TheVariants as compose
 use Rattle.warg_plan.specs.declared.stop.Stop.{Stop}
 use Rattle.warg_plan.specs.declared.stop.Stop.TheVariants as stop
 use Rattle.warg_search.specs.declared.error.SearchError.{SearchError}
@@ -46,8 +46,8 @@ search_refusal (search.Refused e) = learn_refusal e
 search_refusal search.Memory = error.Memory
 
 -- that a plan is not linked
-abbrev pub link_refusal : LinkError → ClientError
-link_refusal link.NotBuilt = error.NotBuilt
-link_refusal (link.BadComponent e) = shape_refusal e
-link_refusal (link.TooLarge number) = error.TooLarge number
-link_refusal link.Memory = error.Memory
+abbrev pub compose_refusal : ComposeError → ClientError
+compose_refusal compose.NotBuilt = error.NotBuilt
+compose_refusal (compose.BadComponent e) = shape_refusal e
+compose_refusal (compose.TooLarge number) = error.TooLarge number
+compose_refusal compose.Memory = error.Memory

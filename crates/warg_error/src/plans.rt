@@ -1,12 +1,12 @@
 //! The errors of plans, as a client tells them.
 
 ghost use Rattle.std.specs.Prelude.{◌≡◌};
-ghost use Rattle.warg_error.specs.Plans.{learn_refusal, link_refusal, search_refusal, shape_refusal, stop_refusal};
+ghost use Rattle.warg_error.specs.Plans.{learn_refusal, compose_refusal, search_refusal, shape_refusal, stop_refusal};
 
 use crate::error::{ClientError, PlanFault};
 use comp_shape::ShapeError;
+use warg_compose::ComposeError;
 use warg_learn::LearnError;
-use warg_link::LinkError;
 use warg_plan::Stop;
 use warg_search::SearchError;
 
@@ -68,15 +68,15 @@ impl From<SearchError<LearnError<ShapeError>>> for ClientError {
     }
 }
 
-impl From<LinkError> for ClientError {
-    ghost from_gives = { λ e told. told ≡ link_refusal e };
+impl From<ComposeError> for ClientError {
+    ghost from_gives = { λ e told. told ≡ compose_refusal e };
 
-    fn from(error: LinkError) -> ClientError {
+    fn from(error: ComposeError) -> ClientError {
         match error {
-            LinkError::NotBuilt => ClientError::NotBuilt,
-            LinkError::BadComponent(error) => ClientError::from(error),
-            LinkError::TooLarge(number) => ClientError::TooLarge(number),
-            LinkError::Memory => ClientError::Memory,
+            ComposeError::NotBuilt => ClientError::NotBuilt,
+            ComposeError::BadComponent(error) => ClientError::from(error),
+            ComposeError::TooLarge(number) => ClientError::TooLarge(number),
+            ComposeError::Memory => ClientError::Memory,
         }
     }
 }

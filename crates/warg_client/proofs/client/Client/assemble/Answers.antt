@@ -5,7 +5,7 @@ use Rattle.warg_plan.specs.View.{plan_view}
 use Rattle.warg_fetch.specs.Stored.{IsOwnStore}
 use Rattle.warg_search.specs.Search.{Finds}
 use Rattle.warg_learn.specs.Learnt.{IsLearnt}
-use Rattle.warg_link.specs.Read.{IsComponent}
+use Rattle.warg_compose.specs.Read.{IsComponent}
 use Rattle.warg_client.specs.Assembled.{IsSearchRefused, wanted}
 use Rattle.warg_client.specs.Shown.{seen_by, tells}
 use Rattle.warg_client.proofs.AssembleLaws.{found_own, is_plan_of_text, search_own}

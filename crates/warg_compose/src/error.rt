@@ -1,15 +1,15 @@
 //! Why a plan is not linked.
 
 ghost use Rattle.std.specs.Prelude.{◌≡◌};
-ghost use Rattle.warg_link.specs.Refusals.{compose_refusal};
+ghost use Rattle.warg_compose.specs.Refusals.{linker_refusal};
 
 use comp_shape::ShapeError;
 use thiserror::Error;
-use wasm_compose::ComposeError;
+use wasm_compose::ComposeError as LinkerError;
 
 /// Why a plan is not linked.
 #[derive(Clone, Copy, Debug, PartialEq, Eq, Error)]
-pub enum LinkError {
+pub enum ComposeError {
     /// The plan has not one entry, or its content imports something, or exports what mentions a resource.
     #[error("a plan of several packages, or of one with open imports or with resources in its exports, is not linked yet: plan another")]
     NotBuilt,
@@ -24,14 +24,14 @@ pub enum LinkError {
     Memory,
 }
 
-impl From<ComposeError> for LinkError {
-    ghost from_gives = { λ e told. told ≡ compose_refusal e };
+impl From<LinkerError> for ComposeError {
+    ghost from_gives = { λ e told. told ≡ linker_refusal e };
 
-    fn from(error: ComposeError) -> LinkError {
+    fn from(error: LinkerError) -> ComposeError {
         match error {
-            ComposeError::NotBuilt => LinkError::NotBuilt,
-            ComposeError::TooLarge(number) => LinkError::TooLarge(number),
-            ComposeError::Memory => LinkError::Memory,
+            LinkerError::NotBuilt => ComposeError::NotBuilt,
+            LinkerError::TooLarge(number) => ComposeError::TooLarge(number),
+            LinkerError::Memory => ComposeError::Memory,
         }
     }
 }

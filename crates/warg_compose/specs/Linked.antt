@@ -7,8 +7,8 @@ use Rattle.comp_shape.specs.Refusal.{IsRefused}
 use Rattle.wasm_compose.specs.Link.{IsLinked, IsOfLink, LinkFits, link_exports, link_items, singles}
 use Rattle.wasm_compose.specs.Open.{IsOpen}
 use Rattle.warg_plan.specs.Walk.{Entry}
-use Rattle.warg_link.specs.declared.error.LinkError.{LinkError}
-use Rattle.warg_link.specs.declared.error.LinkError.TheVariants as error
+use Rattle.warg_compose.specs.declared.error.ComposeError.{ComposeError}
+use Rattle.warg_compose.specs.declared.error.ComposeError.TheVariants as error
 
 -- a plan has this entry alone, whose content is a component of this shape
 pub record IsSingle (es : List Entry) (e : Entry) (tree : ShapeTree) : Type 0 where
@@ -43,15 +43,15 @@ pub record IsTooLarge (es : List Entry) (number : ℕ) : Type 0 where
   pub does_not_fit : LinkFits entry.content (link_exports tree) → ⊥
 
 -- why a content is not taken as a component. Want of memory says nothing
-abbrev pub IsContentFault : LinkError → List ℕ → Type 0
+abbrev pub IsContentFault : ComposeError → List ℕ → Type 0
 IsContentFault error.NotBuilt bytes = ⊥
 IsContentFault (error.BadComponent e) bytes = IsRefused e bytes
 IsContentFault (error.TooLarge number) bytes = ⊥
 IsContentFault error.Memory bytes = Unit {0}
 
 -- why a plan is not linked. Want of memory says nothing
-abbrev pub IsLinkFault : LinkError → List Entry → Type 0
-IsLinkFault error.NotBuilt es = IsNotBuilt es
-IsLinkFault (error.BadComponent e) es = (entry : Entry) × (es ≡ entry ∷ []) × IsRefused e entry.content
-IsLinkFault (error.TooLarge number) es = IsTooLarge es number
-IsLinkFault error.Memory es = Unit {0}
+abbrev pub IsComposeFault : ComposeError → List Entry → Type 0
+IsComposeFault error.NotBuilt es = IsNotBuilt es
+IsComposeFault (error.BadComponent e) es = (entry : Entry) × (es ≡ entry ∷ []) × IsRefused e entry.content
+IsComposeFault (error.TooLarge number) es = IsTooLarge es number
+IsComposeFault error.Memory es = Unit {0}

@@ -6,6 +6,6 @@ mod plan;
 mod reader;
 
 pub use comp_shape::ShapeError;
-pub use error::LinkError;
-pub use plan::link_plan;
+pub use error::ComposeError;
+pub use plan::compose_plan;
 pub use reader::ComponentReader;

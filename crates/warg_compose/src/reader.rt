@@ -3,7 +3,7 @@
 ghost use Rattle.std.specs.Prelude.{◌≡◌, IfOk, IfErr, map};
 ghost use Rattle.comp_entity.specs.Views.{named_entities};
 ghost use Rattle.comp_shape.specs.Refusal.{IsRefused};
-ghost use Rattle.warg_link.specs.Read.{IsComponent, names_in};
+ghost use Rattle.warg_compose.specs.Read.{IsComponent, names_in};
 
 use comp_shape::{Entity, ShapeError, read_shape};
 use std::alloc::Global;
