@@ -6,12 +6,11 @@ use std::test::Fail;
 use warg_exchange::{
     CheckpointVerificationResponse, ConsistencyResponse, ContentSource, ContentSourcesResponse,
     FetchLogsResponse, FetchPackageNamesResponse, InclusionResponse, LedgerSourcesResponse,
-    PackageRecord, PackageRecordState, ServiceError, SignedCheckpoint, UploadEndpoint,
-    VerificationState,
+    PackageRecord, PackageRecordState, PublishedRecord, ServiceError, SignedCheckpoint,
+    UploadEndpoint, VerificationState,
 };
 use warg_hash::{AnyHash, LogId};
 use warg_json::{BodyError, FromBody};
-use warg_values::Text;
 
 /// The SHA-256 of `abc`, as its hash text.
 const HASH: &str = "sha256:ba7816bf8f01cfea414140de5dae2223b00361a396177a9cb410ff61f20015ad";
@@ -32,203 +31,255 @@ const RECORD: &str =
     "sha256:ba7816bf8f01cfea414140de5dae2223b00361a396177a9cb410ff61f20015ad":
     {"upload":[{"type":"http","method":"PUT","url":"up","headers":{"content-type":"a/b"}}]}}}"#;
 
-/// What a text of JSON is read as.
+/// What a text of JSON is read as, where the hash stands for `HASH`.
 fn read<T: FromBody>(alloc: Global, text: &str) -> Result<Result<T, BodyError>, Fail> {
-    let value = Value::from_str(alloc, text)?;
+    let text = text.replace(alloc, "HASH", HASH)?;
+    let value = Value::from_str(alloc, &text)?;
     Ok(T::from_body(alloc, &value))
+}
+
+/// What a text of JSON means.
+fn meant<T: FromBody>(alloc: Global, text: &str) -> Result<T, Fail> {
+    Ok(read(alloc, text)??)
+}
+
+/// A copy of the checkpoint of a text.
+fn checkpoint_of(alloc: Global, text: &str) -> Result<SignedCheckpoint, Fail> {
+    let checkpoint: SignedCheckpoint = meant(alloc, text)?;
+    Ok(checkpoint.try_clone(alloc)?)
 }
 
 #[test]
 fn a_checkpoint_is_read_in_any_order(rt: HostRuntime) -> Result<(), Fail> {
-    let alloc = rt.alloc();
-    let checkpoint: SignedCheckpoint = read(alloc, CHECKPOINT)??;
-    let hash = AnyHash::from_text(alloc, HASH)?;
-    let copy = checkpoint.try_clone(alloc)?;
+    let hash = AnyHash::from_text(rt.alloc(), HASH)?;
+    let copy = checkpoint_of(rt.alloc(), CHECKPOINT)?;
     assert!(rt; copy.contents.log_length == 7 && copy.contents.timestamp == 9);
     assert!(rt; copy.contents.log_root == hash && copy.contents.map_root != hash);
     assert!(rt; *copy.key_id.hash() == hash && copy.signature.as_str() == "ecdsa-p256:AA==");
     Ok(())
 }
 
-#[test]
-fn a_page_is_read(rt: HostRuntime) -> Result<(), Fail> {
-    let alloc = rt.alloc();
-    let page: FetchLogsResponse = read(alloc, PAGE)??;
-    let id = LogId::from_text(alloc, HASH)?;
-    let records = page.packages.get(&id).ok_or("the log is there")?;
-    let record = records.as_slice().first().ok_or("the record is there")?;
-    assert!(rt; page.more && page.operator.is_empty() && page.packages.len() == 1);
-    assert!(rt; record.content_bytes.as_slice() == b"hi".as_slice() && record.registry_index == 3);
-    assert!(rt; record.key_id.as_str() == "k" && record.signature.as_str() == "s");
-    assert!(rt; record.fetch_token.as_str() == "t");
-    Ok(())
+/// Whether a record has what stands in the page.
+fn is_in_page(record: &PublishedRecord) -> bool {
+    record.content_bytes.as_slice() == b"hi".as_slice()
+        && record.registry_index == 3
+        && record.key_id.as_str() == "k"
+        && record.signature.as_str() == "s"
+        && record.fetch_token.as_str() == "t"
+}
+
+/// Whether a page's log begins with the record that stands in the page.
+fn has_record(page: &FetchLogsResponse, id: &LogId) -> bool {
+    match page.packages.get(id) {
+        Some(records) => records.as_slice().first().is_some_and(is_in_page),
+        None => false,
+    }
 }
 
 #[test]
-fn a_record_in_publishing_is_read(rt: HostRuntime) -> Result<(), Fail> {
-    let alloc = rt.alloc();
-    let record: PackageRecord = read(alloc, RECORD)??;
-    let hash = AnyHash::from_text(alloc, HASH)?;
-    let missing = record
-        .missing_content
-        .get(&hash)
-        .ok_or("the content is missing")?;
-    let endpoint = missing.upload.as_slice().first().ok_or("an endpoint")?;
+fn a_page_is_read(rt: HostRuntime) -> Result<(), Fail> {
+    let id = LogId::from_text(rt.alloc(), HASH)?;
+    let page: FetchLogsResponse = meant(rt.alloc(), PAGE)?;
+    assert!(rt; page.more && page.operator.is_empty() && page.packages.len() == 1);
+    assert!(rt; has_record(&page, &id));
+    Ok(())
+}
+
+/// Whether an endpoint is the one that stands in the record.
+fn is_in_record(endpoint: &UploadEndpoint) -> bool {
     let UploadEndpoint::Http {
         method,
         url,
         headers,
     } = endpoint;
+    method.as_str() == "PUT" && url.as_str() == "up" && headers.len() == 1
+}
+
+/// Whether the first endpoint for a content that a record misses is the one that stands in the record.
+fn has_endpoint(record: &PackageRecord, hash: &AnyHash) -> bool {
+    match record.missing_content.get(hash) {
+        Some(missing) => missing.upload.as_slice().first().is_some_and(is_in_record),
+        None => false,
+    }
+}
+
+#[test]
+fn a_record_in_publishing_is_read(rt: HostRuntime) -> Result<(), Fail> {
+    let hash = AnyHash::from_text(rt.alloc(), HASH)?;
+    let record: PackageRecord = meant(rt.alloc(), RECORD)?;
     assert!(rt; record.state == PackageRecordState::Sourcing && record.reason.is_none());
-    assert!(rt; method.as_str() == "PUT" && url.as_str() == "up" && headers.len() == 1);
+    assert!(rt; has_endpoint(&record, &hash));
     Ok(())
 }
 
 #[test]
-fn other_replies_are_read(rt: HostRuntime) -> Result<(), Fail> {
-    let alloc = rt.alloc();
-    let verified: CheckpointVerificationResponse = read(
-        alloc,
+fn what_is_verified_is_read(rt: HostRuntime) -> Result<(), Fail> {
+    let verified: CheckpointVerificationResponse = meant(
+        rt.alloc(),
         r#"{"checkpoint":"verified","signature":"unverified","retryAfter":5}"#,
-    )??;
+    )?;
     assert!(rt; verified.checkpoint == VerificationState::Verified);
     assert!(rt;
         verified.signature == VerificationState::Unverified && verified.retry_after == Some(5)
     );
-    let bundles: InclusionResponse = read(alloc, r#"{"map":"aGk=","log":""}"#)??;
+    Ok(())
+}
+
+#[test]
+fn proofs_are_read(rt: HostRuntime) -> Result<(), Fail> {
+    let bundles: InclusionResponse = meant(rt.alloc(), r#"{"map":"aGk=","log":""}"#)?;
     assert!(rt; bundles.map.len() == 2 && bundles.log.is_empty());
-    let bundle: ConsistencyResponse = read(alloc, r#"{"proof":"aGk="}"#)??;
+    let bundle: ConsistencyResponse = meant(rt.alloc(), r#"{"proof":"aGk="}"#)?;
     assert!(rt; bundle.proof.len() == 2);
-    let ledger: LedgerSourcesResponse = read(
-        alloc,
+    Ok(())
+}
+
+#[test]
+fn sources_of_a_ledger_are_read(rt: HostRuntime) -> Result<(), Fail> {
+    let ledger: LedgerSourcesResponse = meant(
+        rt.alloc(),
         r#"{"hashAlgorithm":"sha256","sources":[{"firstRegistryIndex":0,"lastRegistryIndex":9,"url":"u","contentType":"t"}]}"#,
-    )??;
+    )?;
     assert!(rt; ledger.hash_algorithm.as_str() == "sha256" && ledger.sources.len() == 1);
     Ok(())
 }
 
-/// A text in which the hash stands for `HASH`.
-fn with_hash(alloc: Global, text: &str) -> Result<String, Fail> {
-    Ok(text.replace(alloc, "HASH", HASH)?)
+/// How many packages a reply names.
+fn named(alloc: Global, text: &str) -> Result<usize, Fail> {
+    let names: FetchPackageNamesResponse = meant(alloc, text)?;
+    Ok(names.packages.len())
+}
+
+/// Whether a source has this URL.
+fn is_at_url(source: &ContentSource) -> bool {
+    let ContentSource::HttpGet { url } = source;
+    url.as_str() == "u"
+}
+
+/// Whether a reply has sources of a content, each at the URL.
+fn has_sources(reply: &ContentSourcesResponse, hash: &AnyHash) -> bool {
+    match reply.content_sources.get(hash) {
+        Some(sources) => sources.as_slice().iter().all(is_at_url),
+        None => false,
+    }
 }
 
 #[test]
 fn names_and_sources_are_read(rt: HostRuntime) -> Result<(), Fail> {
-    let alloc = rt.alloc();
-    let named = with_hash(alloc, r#"{"packages":{"HASH":"a:b"}}"#)?;
-    let names: FetchPackageNamesResponse = read(alloc, &named)??;
-    let unnamed = with_hash(alloc, r#"{"packages":{"HASH":null}}"#)?;
-    let none: FetchPackageNamesResponse = read(alloc, &unnamed)??;
-    assert!(rt; names.packages.len() == 1 && none.packages.len() == 1);
-    let sourced = with_hash(
-        alloc,
+    assert!(rt; named(rt.alloc(), r#"{"packages":{"HASH":"a:b"}}"#)? == 1);
+    assert!(rt; named(rt.alloc(), r#"{"packages":{"HASH":null}}"#)? == 1);
+    let hash = AnyHash::from_text(rt.alloc(), HASH)?;
+    let sources: ContentSourcesResponse = meant(
+        rt.alloc(),
         r#"{"contentSources":{"HASH":[{"type":"httpGet","url":"u"}]}}"#,
     )?;
-    let sources: ContentSourcesResponse = read(alloc, &sourced)??;
-    let hash = AnyHash::from_text(alloc, HASH)?;
-    let found = sources
-        .content_sources
-        .get(&hash)
-        .ok_or("the content has sources")?;
-    for ContentSource::HttpGet { url } in found.as_slice() {
-        assert_eq!(rt; url.as_str(), "u");
-    }
+    assert!(rt; has_sources(&sources, &hash));
     Ok(())
 }
 
-/// Whether a text means nothing as such a type, since a member is missing or of another form.
-fn is_unexpected<T: FromBody>(alloc: Global, text: &str) -> Result<bool, Fail> {
-    let text = with_hash(alloc, text)?;
-    Ok(matches!(read::<T>(alloc, &text)?, Err(BodyError::Unexpected)))
+/// Texts that are no checkpoint.
+const NO_CHECKPOINTS: &[&str] = &[
+    "{}",
+    "[]",
+    r#"{"contents":{"logLength":7.0},"keyId":"HASH","signature":"k:AA=="}"#,
+    r#"{"contents":{"logLength":-1},"keyId":"HASH","signature":"k:AA=="}"#,
+    r#"{"contents":{"logLength":7,"logRoot":"HASH","mapRoot":"HASH","timestamp":9},"keyId":"HASH","signature":"no key"}"#,
+    r#"{"contents":{"logLength":7,"logRoot":"HASH","mapRoot":3,"timestamp":9},"keyId":"HASH","signature":"k:AA=="}"#,
+];
+
+/// Fails at the first text that means something as such a type, or is refused for another reason than that a member is
+/// missing or of another form.
+fn are_unexpected<T: FromBody>(alloc: Global, texts: &[&str]) -> Result<(), Fail> {
+    for text in texts {
+        if !matches!(read::<T>(alloc, text)?, Err(BodyError::Unexpected)) {
+            return Err(Fail::new(format_args!("{text} is expected")));
+        }
+    }
+    Ok(())
 }
 
 #[test]
 fn other_json_means_nothing(rt: HostRuntime) -> Result<(), Fail> {
     let alloc = rt.alloc();
-    for text in [
-        "{}",
-        "[]",
-        r#"{"contents":{"logLength":7.0},"keyId":"HASH","signature":"k:AA=="}"#,
-        r#"{"contents":{"logLength":-1},"keyId":"HASH","signature":"k:AA=="}"#,
-        r#"{"contents":{"logLength":7,"logRoot":"HASH","mapRoot":"HASH","timestamp":9},"keyId":"HASH","signature":"no key"}"#,
-        r#"{"contents":{"logLength":7,"logRoot":"HASH","mapRoot":3,"timestamp":9},"keyId":"HASH","signature":"k:AA=="}"#,
-    ] {
-        assert!(rt; is_unexpected::<SignedCheckpoint>(alloc, text)?, "{text}");
-    }
-    assert!(rt; is_unexpected::<InclusionResponse>(alloc, r#"{"log":"a","map":""}"#)?);
-    assert!(rt;
-        is_unexpected::<PackageRecord>(alloc, r#"{"recordId":"HASH","state":"rejected"}"#)?
-    );
-    assert!(rt;
-        is_unexpected::<FetchPackageNamesResponse>(alloc, r#"{"packages":{"HASH":"A:b"}}"#)?
-    );
-    assert!(rt;
-        is_unexpected::<ContentSourcesResponse>(
-            alloc,
-            r#"{"contentSources":{"HASH":[{"type":"ftp","url":"u"}]}}"#
-        )?
-    );
-    Ok(())
+    are_unexpected::<SignedCheckpoint>(alloc, NO_CHECKPOINTS)?;
+    are_unexpected::<InclusionResponse>(alloc, &[r#"{"log":"a","map":""}"#])?;
+    are_unexpected::<PackageRecord>(alloc, &[r#"{"recordId":"HASH","state":"rejected"}"#])?;
+    are_unexpected::<FetchPackageNamesResponse>(alloc, &[r#"{"packages":{"HASH":"A:b"}}"#])?;
+    are_unexpected::<ContentSourcesResponse>(
+        alloc,
+        &[r#"{"contentSources":{"HASH":[{"type":"ftp","url":"u"}]}}"#],
+    )?;
+    are_unexpected::<ServiceError>(alloc, &[r#"{"type":"other"}"#])
 }
 
-/// The text that a text of JSON has in place of a hash's.
-fn no_hash<T: FromBody>(alloc: Global, text: &str) -> Result<Text, Fail> {
+/// Whether a text of JSON has this text in place of a hash's.
+fn is_no_hash<T: FromBody>(alloc: Global, text: &str, told: &str) -> Result<bool, Fail> {
     match read::<T>(alloc, text)? {
-        Err(BodyError::NoHash(found)) => Ok(found),
-        _ => Err(Fail::from("no text is refused as a hash")),
+        Err(BodyError::NoHash(found)) => Ok(found.as_str() == told),
+        _ => Ok(false),
     }
 }
 
 #[test]
 fn texts_that_name_no_hash_are_told(rt: HostRuntime) -> Result<(), Fail> {
-    let alloc = rt.alloc();
-    let root = no_hash::<SignedCheckpoint>(
-        alloc,
-        r#"{"contents":{"logLength":7,"logRoot":"sha256:0"}}"#,
-    )?;
-    let id = no_hash::<FetchLogsResponse>(
-        alloc,
-        r#"{"more":false,"operator":[],"packages":{"sha1:0":3}}"#,
-    )?;
-    assert_eq!(rt; root.as_str(), "sha256:0");
-    assert_eq!(rt; id.as_str(), "sha1:0");
+    assert!(rt;
+        is_no_hash::<SignedCheckpoint>(
+            rt.alloc(),
+            r#"{"contents":{"logLength":7,"logRoot":"sha256:0"}}"#,
+            "sha256:0"
+        )?
+    );
+    assert!(rt;
+        is_no_hash::<FetchLogsResponse>(
+            rt.alloc(),
+            r#"{"more":false,"operator":[],"packages":{"sha1:0":3}}"#,
+            "sha1:0"
+        )?
+    );
     Ok(())
 }
 
-/// The text of the error that a text of JSON names.
-fn service_text(alloc: Global, text: &str) -> Result<String, Fail> {
-    let text = with_hash(alloc, text)?;
-    let error: ServiceError = read(alloc, &text)??;
-    Ok(format!(in alloc; "{error}")?)
+/// Errors of a registry, each with a part of its text.
+const ERRORS: &[(&str, &str)] = &[
+    (r#"{"type":"checkpointNotFound","length":7}"#, "7"),
+    (r#"{"type":"logNotFound","id":"HASH"}"#, HASH),
+    (r#"{"type":"fetchTokenNotFound","token":"tok"}"#, "tok"),
+    (r#"{"type":"recordNotFound","id":"HASH"}"#, HASH),
+    (r#"{"type":"recordNotSourcing"}"#, "contents"),
+    (
+        r#"{"type":"namespaceNotDefined","namespace":"spaced"}"#,
+        "spaced",
+    ),
+    (
+        r#"{"type":"namespaceImported","namespace":"spaced"}"#,
+        "spaced",
+    ),
+    (r#"{"type":"unauthorized","message":"said"}"#, "said"),
+    (r#"{"type":"conflictPendingPublish","id":"HASH"}"#, HASH),
+    (r#"{"type":"rejection","message":"said"}"#, "said"),
+    (r#"{"type":"contentDigestNotFound","digest":"HASH"}"#, HASH),
+    (r#"{"type":"leafNotFound","index":8}"#, "8"),
+    (r#"{"type":"message","message":"said"}"#, "said"),
+];
+
+/// Whether the text of the error that a text of JSON names has this part.
+fn is_told(alloc: Global, text: &str, part: &str) -> Result<bool, Fail> {
+    let error: ServiceError = meant(alloc, text)?;
+    let shown = format!(in alloc; "{error}")?;
+    Ok(shown.as_str().contains(part))
+}
+
+/// Fails at the first error whose text lacks its part.
+fn are_told(alloc: Global, rows: &[(&str, &str)]) -> Result<(), Fail> {
+    for (text, part) in rows {
+        if !is_told(alloc, text, part)? {
+            return Err(Fail::new(format_args!("{text} is told without {part}")));
+        }
+    }
+    Ok(())
 }
 
 #[test]
 fn each_error_of_a_registry_is_read(rt: HostRuntime) -> Result<(), Fail> {
-    let alloc = rt.alloc();
-    for (text, part) in [
-        (r#"{"type":"checkpointNotFound","length":7}"#, "7"),
-        (r#"{"type":"logNotFound","id":"HASH"}"#, HASH),
-        (r#"{"type":"fetchTokenNotFound","token":"tok"}"#, "tok"),
-        (r#"{"type":"recordNotFound","id":"HASH"}"#, HASH),
-        (r#"{"type":"recordNotSourcing"}"#, "contents"),
-        (
-            r#"{"type":"namespaceNotDefined","namespace":"spaced"}"#,
-            "spaced",
-        ),
-        (
-            r#"{"type":"namespaceImported","namespace":"spaced"}"#,
-            "spaced",
-        ),
-        (r#"{"type":"unauthorized","message":"said"}"#, "said"),
-        (r#"{"type":"conflictPendingPublish","id":"HASH"}"#, HASH),
-        (r#"{"type":"rejection","message":"said"}"#, "said"),
-        (r#"{"type":"contentDigestNotFound","digest":"HASH"}"#, HASH),
-        (r#"{"type":"leafNotFound","index":8}"#, "8"),
-        (r#"{"type":"message","message":"said"}"#, "said"),
-    ] {
-        let shown = service_text(alloc, text)?;
-        assert!(rt; shown.as_str().contains(part), "{text}");
-    }
-    assert!(rt; is_unexpected::<ServiceError>(alloc, r#"{"type":"other"}"#)?);
-    Ok(())
+    are_told(rt.alloc(), ERRORS)
 }

@@ -3,7 +3,7 @@
 use std::alloc::Global;
 use std::test::Fail;
 use warg_base::{Files, MemoryFiles};
-use wasm_compose::{Component, ExportIndex, link_root};
+use wasm_compose::{Component, ComponentError, ExportIndex, link_root};
 
 /// The header of a component.
 const EMPTY: &[u8] = b"\0asm\r\0\x01\0";
@@ -29,7 +29,7 @@ const TWICE: &[u8] =
     b"\0asm\r\0\x01\0\x07\x05\x01\x6f\x02\x79\x79\x0b\x0d\x02\0\x01t\x03\0\0\0\x01T\x03\0\0";
 
 /// The name and the bytes of a component, and what taking it answers.
-const TAKEN: [(&str, &[u8], &str); 7] = [
+const TAKEN: &[(&str, &[u8], &str)] = &[
     ("a", EMPTY, "taken"),
     ("", EMPTY, "BadName"),
     ("a", CUSTOM, "taken"),
@@ -41,7 +41,7 @@ const TAKEN: [(&str, &[u8], &str); 7] = [
 
 /// The number of the call that fails, the name of the component, the path, and what taking the file answers. The first
 /// call writes the file.
-const FROM_FILES: [(u64, &str, &str, &str); 5] = [
+const FROM_FILES: &[(u64, &str, &str, &str)] = &[
     (3, "a", "root.wasm", "taken"),
     (3, "a", "other.wasm", "File(Missing)"),
     (2, "a", "root.wasm", "File(Failed)"),
@@ -68,26 +68,51 @@ const LINKS: &[(&[u8], &str)] = &[
     (RESOURCE, "NotBuilt"),
 ];
 
-/// What taking these bytes answers.
-fn taken(alloc: Global, name: &str, bytes: &[u8]) -> Result<String, Fail> {
-    match Component::from_bytes(alloc, name, bytes) {
+/// An answer in the words of a row.
+fn answer_text(
+    alloc: Global,
+    answer: &Result<Component<'_>, ComponentError>,
+) -> Result<String, Fail> {
+    match answer {
         Ok(_) => Ok(String::from_str(alloc, "taken")?),
         Err(error) => Ok(format!(in alloc; "{error:?}")?),
     }
 }
 
+/// What taking these bytes answers.
+fn taken(alloc: Global, name: &str, bytes: &[u8]) -> Result<String, Fail> {
+    let answer = Component::from_bytes(alloc, name, bytes);
+    answer_text(alloc, &answer)
+}
+
+/// Files of which one is written, and the later call that fails.
+fn files(alloc: Global, path: &str, bytes: &[u8], call: u64) -> Result<MemoryFiles, Fail> {
+    let mut files = MemoryFiles::new(alloc);
+    files.write(alloc, path, bytes)?;
+    files.fail_at(call)?;
+    Ok(files)
+}
+
+/// The files of a row that asks for this path.
+fn files_for(alloc: Global, path: &str, call: u64) -> Result<MemoryFiles, Fail> {
+    if path == "twice.wasm" {
+        files(alloc, path, TWICE, call)
+    } else {
+        files(alloc, "root.wasm", TUPLE, call)
+    }
+}
+
 /// What taking the file at this path answers, where this call fails.
 fn from_file(alloc: Global, call: u64, name: &str, path: &str) -> Result<String, Fail> {
-    let mut files = MemoryFiles::new(alloc);
-    let (held, bytes) = if path == "twice.wasm" {
-        (path, TWICE)
-    } else {
-        ("root.wasm", TUPLE)
-    };
-    files.write(alloc, held, bytes)?;
-    files.fail_at(call)?;
-    match Component::from_file(alloc, &mut files, name, path) {
-        Ok(_) => Ok(String::from_str(alloc, "taken")?),
+    let mut files = files_for(alloc, path, call)?;
+    let answer = Component::from_file(alloc, &mut files, name, path);
+    answer_text(alloc, &answer)
+}
+
+/// The link of a component, in hexadecimal digits, or why it is not linked.
+fn link_text(alloc: Global, component: &Component<'_>) -> Result<String, Fail> {
+    match link_root(alloc, component) {
+        Ok(linked) => Ok(hex::encode(alloc, &linked)?),
         Err(error) => Ok(format!(in alloc; "{error:?}")?),
     }
 }
@@ -95,41 +120,73 @@ fn from_file(alloc: Global, call: u64, name: &str, path: &str) -> Result<String,
 /// The link of these bytes, in hexadecimal digits, or why they are not linked.
 fn linked(alloc: Global, bytes: &[u8]) -> Result<String, Fail> {
     let component = Component::from_bytes(alloc, "a", bytes)?;
-    match link_root(alloc, &component) {
-        Ok(linked) => Ok(hex::encode(alloc, &linked)?),
-        Err(error) => Ok(format!(in alloc; "{error:?}")?),
+    link_text(alloc, &component)
+}
+
+/// Fails at the first bytes of which taking them answers something else.
+fn are_taken(alloc: Global, rows: &[(&str, &[u8], &str)]) -> Result<(), Fail> {
+    for (name, bytes, want) in rows {
+        let text = taken(alloc, name, bytes)?;
+        if text.as_str() != *want {
+            return Err(Fail::new(format_args!("{text} in place of {want}")));
+        }
     }
+    Ok(())
+}
+
+/// Fails at the first file of which taking it answers something else.
+fn are_taken_from_files(alloc: Global, rows: &[(u64, &str, &str, &str)]) -> Result<(), Fail> {
+    for (call, name, path, want) in rows {
+        let text = from_file(alloc, *call, name, path)?;
+        if text.as_str() != *want {
+            return Err(Fail::new(format_args!("{path} at call {call}: {text}")));
+        }
+    }
+    Ok(())
 }
 
 #[test]
 fn components_are_taken_from_bytes_and_files(rt: HostRuntime) -> Result<(), Fail> {
-    for (name, bytes, want) in TAKEN {
-        assert_eq!(rt; taken(rt.alloc(), name, bytes)?.as_str(), want);
-    }
-    for (call, name, path, want) in FROM_FILES {
-        assert_eq!(rt; from_file(rt.alloc(), call, name, path)?.as_str(), want);
-    }
-    Ok(())
+    are_taken(rt.alloc(), TAKEN)?;
+    are_taken_from_files(rt.alloc(), FROM_FILES)
+}
+
+/// Whether a component shows its name, its bytes and that it has one export.
+fn is_shown(component: &Component<'_>) -> bool {
+    component.name() == "a"
+        && component.path().is_none()
+        && component.bytes() == TUPLE
+        && component.exports().count() == 1
+        && component.export(ExportIndex(1)).is_none()
+}
+
+/// The first export of a component, written out.
+fn export_text(alloc: Global, component: &Component<'_>) -> Result<String, Fail> {
+    let shown = component.export(ExportIndex(0));
+    Ok(format!(in alloc; "{shown:?}")?)
 }
 
 #[test]
 fn a_component_shows_what_it_exports(rt: HostRuntime) -> Result<(), Fail> {
     let component = Component::from_bytes(rt.alloc(), "a", TUPLE)?;
-    assert_eq!(rt; component.name(), "a");
-    assert!(rt; component.path().is_none());
-    assert_eq!(rt; component.bytes(), TUPLE);
-    assert_eq!(rt; component.exports().count(), 1);
-    assert!(rt; component.export(ExportIndex(1)).is_none());
-    let shown = component.export(ExportIndex(0));
-    let text = format!(in rt.alloc(); "{shown:?}")?;
+    assert!(rt; is_shown(&component));
+    let text = export_text(rt.alloc(), &component)?;
     assert_eq!(rt; text.as_str(), "Some((\"t\", Ty, 0))");
+    Ok(())
+}
+
+/// Fails at the first bytes whose link, or why they are not linked, is something else.
+fn are_linked(alloc: Global, rows: &[(&[u8], &str)]) -> Result<(), Fail> {
+    for (bytes, want) in rows {
+        let text = linked(alloc, bytes)?;
+        if text.as_str() != *want {
+            return Err(Fail::new(format_args!("{text} in place of {want}")));
+        }
+    }
     Ok(())
 }
 
 #[test]
 fn links_nest_the_component_and_export_what_it_exports(rt: HostRuntime) -> Result<(), Fail> {
-    for (bytes, want) in LINKS {
-        assert_eq!(rt; linked(rt.alloc(), bytes)?.as_str(), *want);
-    }
-    Ok(())
+    are_linked(rt.alloc(), LINKS)
 }

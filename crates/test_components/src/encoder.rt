@@ -111,132 +111,210 @@ fn sections(alloc: Global, builder: ComponentBuilder) -> Result<String, Fail> {
     Ok(digits)
 }
 
+/// Fails where a builder writes other sections than these, in hexadecimal digits.
+fn writes(alloc: Global, builder: ComponentBuilder, want: &str) -> Result<(), Fail> {
+    let written = sections(alloc, builder)?;
+    if written.as_str() != want {
+        return Err(Fail::new(format_args!("{written} is written")));
+    }
+    Ok(())
+}
+
+/// Adds a type of values, which it takes, since a caller that keeps one drops it on each way out.
+fn add_type(
+    alloc: Global,
+    builder: &mut ComponentBuilder,
+    ty: DefinedType,
+) -> Result<u32, EncodeError>
+    requires { IsDefined ty }
+{
+    builder.type_defined(alloc, &ty)
+}
+
+/// Adds a type of instances.
+fn add_instance_type(
+    alloc: Global,
+    builder: &mut ComponentBuilder,
+    ty: InstanceType,
+) -> Result<u32, EncodeError>
+    requires { AreDecls false (instance_type_tree ty) }
+{
+    builder.type_instance(alloc, &ty)
+}
+
+/// Adds a type of components.
+fn add_component_type(
+    alloc: Global,
+    builder: &mut ComponentBuilder,
+    ty: ComponentType,
+) -> Result<u32, EncodeError>
+    requires { AreDecls true (component_type_tree ty) }
+{
+    builder.type_component(alloc, &ty)
+}
+
+/// Adds a type of core modules.
+fn add_module_type(
+    alloc: Global,
+    builder: &mut ComponentBuilder,
+    ty: ModuleType,
+) -> Result<u32, EncodeError>
+    requires { AreModuleDecls (module_tree ty) }
+{
+    builder.core_type_module(alloc, &ty)
+}
+
 #[test]
 fn nested_components_have_sections_of_their_own(rt: HostRuntime) -> Result<(), Fail> {
     let mut builder = ComponentBuilder::new(rt.alloc());
-    assert_eq!(rt; add_empty(rt.alloc(), &mut builder)?, 0);
-    assert_eq!(rt; add_empty(rt.alloc(), &mut builder)?, 1);
-    let written = sections(rt.alloc(), builder)?;
-    assert_eq!(rt;
-        written.as_str(),
-        "04080061736d0d00010004080061736d0d000100"
-    );
-    Ok(())
+    let numbers = [
+        add_empty(rt.alloc(), &mut builder)?,
+        add_empty(rt.alloc(), &mut builder)?,
+    ];
+    assert!(rt; numbers == [0, 1]);
+    writes(
+        rt.alloc(),
+        builder,
+        "04080061736d0d00010004080061736d0d000100",
+    )
+}
+
+/// Adds an instance with an argument and one without; gives their numbers and how many there are.
+fn add_instances(alloc: Global, builder: &mut ComponentBuilder) -> Result<[u32; 3], EncodeError> {
+    let (name, sort, index) = (Text::copy_of(alloc, "a")?, Sort::Func, 2);
+    let args = [Arg { name, sort, index }];
+    let first = builder.instantiate(alloc, 1, &args)?;
+    let second = builder.instantiate(alloc, 200, &[])?;
+    Ok([first, second, builder.instance_count()])
 }
 
 #[test]
 fn neighbouring_instances_share_a_section(rt: HostRuntime) -> Result<(), Fail> {
     let mut builder = ComponentBuilder::new(rt.alloc());
-    let name = Text::copy_of(rt.alloc(), "a")?;
-    let sort = Sort::Func;
-    let index = 2;
-    let args = [Arg { name, sort, index }];
-    assert_eq!(rt; builder.instantiate(rt.alloc(), 1, &args)?, 0);
-    assert_eq!(rt; builder.instantiate(rt.alloc(), 200, &[])?, 1);
-    assert_eq!(rt; builder.instance_count(), 2);
-    let written = sections(rt.alloc(), builder)?;
-    assert_eq!(rt; written.as_str(), "050c020001010161010200c80100");
-    Ok(())
+    assert!(rt; add_instances(rt.alloc(), &mut builder)? == [0, 1, 2]);
+    writes(rt.alloc(), builder, "050c020001010161010200c80100")
+}
+
+/// Adds an alias of an export and an outer one; gives their numbers and how many types there are.
+fn add_aliases(alloc: Global, builder: &mut ComponentBuilder) -> Result<[u32; 3], EncodeError> {
+    let module = builder.alias_export(alloc, 3, "ab", Sort::Core(CoreSort::Module))?;
+    let ty = builder.alias_outer(alloc, 1, 2, Sort::Ty)?;
+    Ok([module, ty, builder.type_count()])
 }
 
 #[test]
 fn aliases_share_a_section(rt: HostRuntime) -> Result<(), Fail> {
     let mut builder = ComponentBuilder::new(rt.alloc());
-    assert_eq!(rt;
-        builder.alias_export(rt.alloc(), 3, "ab", Sort::Core(CoreSort::Module))?,
-        0
-    );
-    assert_eq!(rt; builder.alias_outer(rt.alloc(), 1, 2, Sort::Ty)?, 0);
-    assert_eq!(rt; builder.type_count(), 1);
-    let written = sections(rt.alloc(), builder)?;
-    assert_eq!(rt; written.as_str(), "060c020011000302616203020102");
-    Ok(())
+    assert!(rt; add_aliases(rt.alloc(), &mut builder)? == [0, 0, 1]);
+    writes(rt.alloc(), builder, "060c020011000302616203020102")
+}
+
+/// Adds two imports and two exports; gives their numbers.
+fn add_externs(alloc: Global, builder: &mut ComponentBuilder) -> Result<[u32; 4], EncodeError> {
+    Ok([
+        builder.import(alloc, "a", &TypeRef::TyFresh)?,
+        builder.import(alloc, "b", &TypeRef::Module(1))?,
+        builder.export(alloc, "c", Sort::Ty, 0, None)?,
+        builder.export(alloc, "d", Sort::Ty, 0, Some(&TypeRef::TyEqual(0)))?,
+    ])
 }
 
 #[test]
 fn imports_and_exports_share_with_their_own_kind(rt: HostRuntime) -> Result<(), Fail> {
     let mut builder = ComponentBuilder::new(rt.alloc());
-    assert_eq!(rt; builder.import(rt.alloc(), "a", &TypeRef::TyFresh)?, 0);
-    assert_eq!(rt; builder.import(rt.alloc(), "b", &TypeRef::Module(1))?, 0);
-    assert_eq!(rt; builder.export(rt.alloc(), "c", Sort::Ty, 0, None)?, 1);
-    assert_eq!(rt;
-        builder.export(rt.alloc(), "d", Sort::Ty, 0, Some(&TypeRef::TyEqual(0)))?,
-        2
-    );
-    let written = sections(rt.alloc(), builder)?;
-    assert_eq!(rt;
-        written.as_str(),
-        "0a0c0200016103010001620011010b1002000163030000000164030001030000"
-    );
-    Ok(())
+    assert!(rt; add_externs(rt.alloc(), &mut builder)? == [0, 0, 1, 2]);
+    writes(
+        rt.alloc(),
+        builder,
+        "0a0c0200016103010001620011010b1002000163030000000164030001030000",
+    )
+}
+
+/// Adds types about an import; gives their numbers and how many types there are.
+fn add_types_about_an_import(
+    alloc: Global,
+    builder: &mut ComponentBuilder,
+) -> Result<[u32; 5], EncodeError> {
+    let char = add_type(alloc, builder, DefinedType::Primitive(Primitive::Char))?;
+    let resource = builder.type_resource(alloc)?;
+    let import = builder.import(alloc, "a", &TypeRef::TyEqual(0))?;
+    let handle = add_type(alloc, builder, DefinedType::Own(1))?;
+    Ok([char, resource, import, handle, builder.type_count()])
 }
 
 #[test]
 fn types_share_a_section_until_another_kind_comes(rt: HostRuntime) -> Result<(), Fail> {
     let mut builder = ComponentBuilder::new(rt.alloc());
-    assert_eq!(rt;
-        builder.type_defined(rt.alloc(), &DefinedType::Primitive(Primitive::Char))?,
-        0
-    );
-    assert_eq!(rt; builder.type_resource(rt.alloc())?, 1);
-    assert_eq!(rt; builder.import(rt.alloc(), "a", &TypeRef::TyEqual(0))?, 2);
-    assert_eq!(rt; builder.type_defined(rt.alloc(), &DefinedType::Own(1))?, 3);
-    assert_eq!(rt; builder.type_count(), 4);
-    let written = sections(rt.alloc(), builder)?;
-    assert_eq!(rt;
-        written.as_str(),
-        "070502743f7f000a07010001610300000703016901"
-    );
-    Ok(())
+    assert!(rt; add_types_about_an_import(rt.alloc(), &mut builder)? == [0, 1, 2, 3, 4]);
+    writes(
+        rt.alloc(),
+        builder,
+        "070502743f7f000a07010001610300000703016901",
+    )
+}
+
+/// Adds a function.
+fn add_function(alloc: Global, builder: &mut ComponentBuilder) -> Result<u32, EncodeError> {
+    let ty = one_parameter(alloc)?;
+    builder.type_function(alloc, &ty)
+}
+
+/// Adds a function, a record and a tuple; gives their numbers.
+fn add_types(alloc: Global, builder: &mut ComponentBuilder) -> Result<[u32; 3], EncodeError> {
+    let function = add_function(alloc, builder)?;
+    let record = add_type(alloc, builder, two_fields(alloc)?)?;
+    let tuple = add_type(alloc, builder, one_part(alloc)?)?;
+    Ok([function, record, tuple])
 }
 
 #[test]
 fn functions_records_and_tuples_are_types(rt: HostRuntime) -> Result<(), Fail> {
-    let alloc = rt.alloc();
-    let mut builder = ComponentBuilder::new(alloc);
-    assert_eq!(rt; builder.type_function(alloc, &one_parameter(alloc)?)?, 0);
-    assert_eq!(rt; builder.type_defined(alloc, &two_fields(alloc)?)?, 1);
-    assert_eq!(rt; builder.type_defined(alloc, &one_part(alloc)?)?, 2);
-    let written = sections(alloc, builder)?;
-    assert_eq!(rt;
-        written.as_str(),
-        "07140340010170c000007f72020161790162036f017e"
-    );
-    Ok(())
+    let mut builder = ComponentBuilder::new(rt.alloc());
+    assert!(rt; add_types(rt.alloc(), &mut builder)? == [0, 1, 2]);
+    writes(
+        rt.alloc(),
+        builder,
+        "07140340010170c000007f72020161790162036f017e",
+    )
+}
+
+/// Adds types of instances, of components and of core modules; gives their numbers.
+fn add_built(alloc: Global, builder: &mut ComponentBuilder) -> Result<[u32; 3], EncodeError> {
+    let instance = add_instance_type(alloc, builder, instance_type(alloc)?)?;
+    let component = add_component_type(alloc, builder, component_type(alloc)?)?;
+    let module = add_module_type(alloc, builder, module_type(alloc)?)?;
+    Ok([instance, component, module])
 }
 
 #[test]
 fn types_are_built_by_their_declarations(rt: HostRuntime) -> Result<(), Fail> {
-    let alloc = rt.alloc();
-    let mut builder = ComponentBuilder::new(alloc);
-    assert_eq!(rt; builder.type_instance(alloc, &instance_type(alloc)?)?, 0);
-    assert_eq!(rt; builder.type_component(alloc, &component_type(alloc)?)?, 1);
-    assert_eq!(rt; builder.core_type_module(alloc, &module_type(alloc)?)?, 0);
-    let written = sections(alloc, builder)?;
-    assert_eq!(rt;
-        written.as_str(),
-        "072f024204017d02030201020060000004000174030000410503000169030101680000500002001002000004000165050403190150040160017f00021001010500016d016e00000300037e01"
-    );
-    Ok(())
+    let mut builder = ComponentBuilder::new(rt.alloc());
+    assert!(rt; add_built(rt.alloc(), &mut builder)? == [0, 1, 0]);
+    writes(
+        rt.alloc(),
+        builder,
+        "072f024204017d02030201020060000004000174030000410503000169030101680000500002001002000004000165050403190150040160017f00021001010500016d016e00000300037e01",
+    )
+}
+
+/// Adds a type, a section of two types and another type; gives how many types there are behind the section, and the
+/// numbers of the types about it.
+fn add_about_a_section(
+    alloc: Global,
+    builder: &mut ComponentBuilder,
+) -> Result<[u32; 3], EncodeError> {
+    let before = add_type(alloc, builder, DefinedType::ListOf(ValType::Index(0)))?;
+    add_padded(alloc, builder)?;
+    let count = builder.type_count();
+    let behind = add_type(alloc, builder, DefinedType::OptionOf(ValType::Index(1)))?;
+    Ok([before, count, behind])
 }
 
 #[test]
 fn a_raw_section_keeps_its_spelling_and_counts(rt: HostRuntime) -> Result<(), Fail> {
-    let alloc = rt.alloc();
-    let mut builder = ComponentBuilder::new(alloc);
-    assert_eq!(rt;
-        builder.type_defined(alloc, &DefinedType::ListOf(ValType::Index(0)))?,
-        0
-    );
-    add_padded(alloc, &mut builder)?;
-    assert_eq!(rt; builder.type_count(), 3);
-    assert_eq!(rt;
-        builder.type_defined(alloc, &DefinedType::OptionOf(ValType::Index(1)))?,
-        3
-    );
-    let written = sections(alloc, builder)?;
-    assert_eq!(rt; written.as_str(), "0703017000070482007f7e0703016b01");
-    Ok(())
+    let mut builder = ComponentBuilder::new(rt.alloc());
+    assert!(rt; add_about_a_section(rt.alloc(), &mut builder)? == [0, 3, 3]);
+    writes(rt.alloc(), builder, "0703017000070482007f7e0703016b01")
 }
 
 /// A variant of a case with a value and a case without one.
@@ -303,66 +381,79 @@ fn memory_type(alloc: Global) -> Result<ModuleType, EncodeError>
     Ok(ty)
 }
 
+/// Adds types without parts, a list and handles.
+fn add_values(alloc: Global, builder: &mut ComponentBuilder) -> Result<(), EncodeError> {
+    add_type(alloc, builder, DefinedType::Primitive(Primitive::Bool))?;
+    add_type(alloc, builder, DefinedType::Primitive(Primitive::Text))?;
+    add_type(alloc, builder, DefinedType::ListOf(ValType::Index(64)))?;
+    add_type(alloc, builder, DefinedType::Own(128))?;
+    add_type(alloc, builder, DefinedType::Borrow(5))?;
+    Ok(())
+}
+
 #[test]
 fn types_of_values_are_written_by_their_bytes(rt: HostRuntime) -> Result<(), Fail> {
-    let alloc = rt.alloc();
-    let mut builder = ComponentBuilder::new(alloc);
-    let (bool, text) = (Primitive::Bool, Primitive::Text);
-    builder.type_defined(alloc, &DefinedType::Primitive(bool))?;
-    builder.type_defined(alloc, &DefinedType::Primitive(text))?;
-    builder.type_defined(alloc, &DefinedType::ListOf(ValType::Index(64)))?;
-    builder.type_defined(alloc, &DefinedType::Own(128))?;
-    builder.type_defined(alloc, &DefinedType::Borrow(5))?;
-    let written = sections(alloc, builder)?;
-    assert_eq!(rt; written.as_str(), "070b057f7370c0006980016805");
+    let mut builder = ComponentBuilder::new(rt.alloc());
+    add_values(rt.alloc(), &mut builder)?;
+    writes(rt.alloc(), builder, "070b057f7370c0006980016805")
+}
+
+/// Adds an option, and results with a value and with an error.
+fn add_results(alloc: Global, builder: &mut ComponentBuilder) -> Result<(), EncodeError> {
+    let (s32, u64) = (
+        ValType::Primitive(Primitive::S32),
+        ValType::Primitive(Primitive::U64),
+    );
+    add_type(alloc, builder, DefinedType::OptionOf(s32))?;
+    let (ok, err) = (Some(s32), None);
+    add_type(alloc, builder, DefinedType::ResultOf { ok, err })?;
+    let (ok, err) = (None, Some(u64));
+    add_type(alloc, builder, DefinedType::ResultOf { ok, err })?;
     Ok(())
 }
 
 #[test]
 fn options_and_results_are_written_with_their_flags(rt: HostRuntime) -> Result<(), Fail> {
-    let alloc = rt.alloc();
-    let mut builder = ComponentBuilder::new(alloc);
-    let (s32, u64) = (
-        ValType::Primitive(Primitive::S32),
-        ValType::Primitive(Primitive::U64),
-    );
-    builder.type_defined(alloc, &DefinedType::OptionOf(s32))?;
-    let (ok, err) = (Some(s32), None);
-    builder.type_defined(alloc, &DefinedType::ResultOf { ok, err })?;
-    let (ok, err) = (None, Some(u64));
-    builder.type_defined(alloc, &DefinedType::ResultOf { ok, err })?;
-    let written = sections(alloc, builder)?;
-    assert_eq!(rt; written.as_str(), "070b036b7a6a017a006a000177");
+    let mut builder = ComponentBuilder::new(rt.alloc());
+    add_results(rt.alloc(), &mut builder)?;
+    writes(rt.alloc(), builder, "070b036b7a6a017a006a000177")
+}
+
+/// Adds a variant, flags and an enumeration.
+fn add_labelled(alloc: Global, builder: &mut ComponentBuilder) -> Result<(), EncodeError> {
+    add_type(alloc, builder, two_cases(alloc)?)?;
+    add_type(alloc, builder, two_flags(alloc)?)?;
+    add_type(alloc, builder, two_names(alloc)?)?;
     Ok(())
 }
 
 #[test]
 fn labels_are_written_with_what_stands_behind_them(rt: HostRuntime) -> Result<(), Fail> {
-    let alloc = rt.alloc();
-    let mut builder = ComponentBuilder::new(alloc);
-    builder.type_defined(alloc, &two_cases(alloc)?)?;
-    builder.type_defined(alloc, &two_flags(alloc)?)?;
-    builder.type_defined(alloc, &two_names(alloc)?)?;
-    let written = sections(alloc, builder)?;
-    assert_eq!(rt;
-        written.as_str(),
-        "07180371020161017d00016200006e02016101626d0201610162"
-    );
+    let mut builder = ComponentBuilder::new(rt.alloc());
+    add_labelled(rt.alloc(), &mut builder)?;
+    writes(
+        rt.alloc(),
+        builder,
+        "07180371020161017d00016200006e02016101626d0201610162",
+    )
+}
+
+/// Adds types without declarations, a type with an alias and a type of core modules.
+fn add_small(alloc: Global, builder: &mut ComponentBuilder) -> Result<(), EncodeError> {
+    add_component_type(alloc, builder, ComponentType::new(alloc))?;
+    add_instance_type(alloc, builder, InstanceType::new(alloc))?;
+    add_instance_type(alloc, builder, alias_type(alloc)?)?;
+    add_module_type(alloc, builder, memory_type(alloc)?)?;
     Ok(())
 }
 
 #[test]
 fn types_without_declarations_and_aliases_are_written(rt: HostRuntime) -> Result<(), Fail> {
-    let alloc = rt.alloc();
-    let mut builder = ComponentBuilder::new(alloc);
-    builder.type_component(alloc, &ComponentType::new(alloc))?;
-    builder.type_instance(alloc, &InstanceType::new(alloc))?;
-    builder.type_instance(alloc, &alias_type(alloc)?)?;
-    builder.core_type_module(alloc, &memory_type(alloc)?)?;
-    let written = sections(alloc, builder)?;
-    assert_eq!(rt;
-        written.as_str(),
-        "070d03410042004201020300020174031901500303016d02010102000161016201700001030167037c00"
-    );
-    Ok(())
+    let mut builder = ComponentBuilder::new(rt.alloc());
+    add_small(rt.alloc(), &mut builder)?;
+    writes(
+        rt.alloc(),
+        builder,
+        "070d03410042004201020300020174031901500303016d02010102000161016201700001030167037c00",
+    )
 }

@@ -272,59 +272,92 @@ fn chained(alloc: Global, count: u8) -> Result<Vec<u8>, Fail> {
     Ok(bytes)
 }
 
+/// Fails at the first component whose shape, or the error, is another one.
+fn are_shaped(alloc: Global, rows: &[(&str, &str)]) -> Result<(), Fail> {
+    for (sections, want) in rows {
+        let bytes = component(alloc, sections)?;
+        let text = shape_text(alloc, &bytes)?;
+        if text.as_str() != *want {
+            return Err(Fail::new(format_args!("{sections}: {text}")));
+        }
+    }
+    Ok(())
+}
+
 #[test]
 fn shapes_have_all_indices_followed(rt: HostRuntime) -> Result<(), Fail> {
-    for (sections, want) in SHAPES {
-        let bytes = component(rt.alloc(), sections)?;
-        assert_eq!(rt; shape_text(rt.alloc(), &bytes)?.as_str(), *want);
+    are_shaped(rt.alloc(), SHAPES)
+}
+
+/// Whether a component imports and exports these names, or has this error.
+fn is_named(alloc: Global, bytes: &[u8], want: &str) -> Result<bool, Fail> {
+    let text = names_or_error(alloc, bytes)?;
+    Ok(text.as_str().trim_end() == want)
+}
+
+/// Fails at the first component that imports and exports other names, or has another error.
+fn are_named(alloc: Global, rows: &[(&str, &str)]) -> Result<(), Fail> {
+    for (sections, want) in rows {
+        let bytes = component(alloc, sections)?;
+        if !is_named(alloc, &bytes, want)? {
+            return Err(Fail::new(format_args!("{sections} is not {want}")));
+        }
     }
     Ok(())
 }
 
 #[test]
 fn components_import_and_export_by_the_rules(rt: HostRuntime) -> Result<(), Fail> {
-    for (sections, want) in NAMES {
-        let bytes = component(rt.alloc(), sections)?;
-        assert_eq!(rt;
-            names_or_error(rt.alloc(), &bytes)?.as_str().trim_end(),
-            *want
-        );
+    are_named(rt.alloc(), NAMES)
+}
+
+/// The link image of the component of these sections, or the error, written out.
+fn image_of(alloc: Global, names: &[&str], sections: &str) -> Result<String, Fail> {
+    let bytes = component(alloc, sections)?;
+    let names = set_of(alloc, names)?;
+    image_text(alloc, &names, &bytes)
+}
+
+/// Fails at the first component whose link image, or the error, is another one.
+fn are_imaged(alloc: Global, rows: &[(&[&str], &str, &str)]) -> Result<(), Fail> {
+    for (names, sections, want) in rows {
+        let text = image_of(alloc, names, sections)?;
+        if text.as_str() != *want {
+            return Err(Fail::new(format_args!("{sections}: {text}")));
+        }
     }
     Ok(())
 }
 
 #[test]
 fn images_are_those_of_nested_and_imported_components(rt: HostRuntime) -> Result<(), Fail> {
-    for (names, sections, want) in IMAGES {
-        let bytes = component(rt.alloc(), sections)?;
-        let names = set_of(rt.alloc(), names)?;
-        assert_eq!(rt; image_text(rt.alloc(), &names, &bytes)?.as_str(), *want);
-    }
-    Ok(())
+    are_imaged(rt.alloc(), IMAGES)
 }
 
 #[test]
 fn what_lies_in_scopes_that_are_closed_nests_without_bounds(rt: HostRuntime) -> Result<(), Fail> {
     let bytes = chained(rt.alloc(), 40)?;
-    assert_eq!(rt; names_or_error(rt.alloc(), &bytes)?.as_str(), "-> ");
+    assert!(rt; is_named(rt.alloc(), &bytes, "->")?);
     Ok(())
+}
+
+/// Whether so many nested components have these names, or this error.
+fn nest(alloc: Global, levels: usize, want: &str) -> Result<bool, Fail> {
+    let bytes = nested(alloc, levels)?;
+    is_named(alloc, &bytes, want)
+}
+
+/// Whether a component of so many types, of which each is a list of the one before, has these names, or this error.
+fn list(alloc: Global, count: u8, want: &str) -> Result<bool, Fail> {
+    let bytes = lists(alloc, count)?;
+    is_named(alloc, &bytes, want)
 }
 
 #[test]
 fn scopes_and_value_types_nest_up_to_their_bounds(rt: HostRuntime) -> Result<(), Fail> {
-    for (levels, want) in [(32, "->"), (33, "TooDeep")] {
-        let bytes = nested(rt.alloc(), levels)?;
-        assert_eq!(rt;
-            names_or_error(rt.alloc(), &bytes)?.as_str().trim_end(),
-            want
-        );
-    }
-    for (count, want) in [(100, "->"), (101, "TooDeep")] {
-        let bytes = lists(rt.alloc(), count)?;
-        assert_eq!(rt;
-            names_or_error(rt.alloc(), &bytes)?.as_str().trim_end(),
-            want
-        );
-    }
+    assert!(rt; nest(rt.alloc(), 32, "->")?);
+    assert!(rt; nest(rt.alloc(), 33, "TooDeep")?);
+    assert!(rt; list(rt.alloc(), 100, "->")?);
+    assert!(rt; list(rt.alloc(), 101, "TooDeep")?);
     Ok(())
 }

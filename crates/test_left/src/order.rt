@@ -7,7 +7,7 @@ use warg_values::Text;
 
 /// What each thing needs, a word for each with the numbers of what it needs as digits, or `-`; and the order as digits, or
 /// `stuck` and the number of the first one without a place.
-const ORDERS: [(&str, &str); 9] = [
+const ORDERS: &[(&str, &str)] = &[
     ("", ""),
     ("- - -", "012"),
     ("1 - 0", "102"),
@@ -20,7 +20,7 @@ const ORDERS: [(&str, &str); 9] = [
 ];
 
 /// Names, and the numbers of the first two that are alike, or `none`.
-const NAMES: [(&str, &str); 6] = [
+const NAMES: &[(&str, &str)] = &[
     ("", "none"),
     ("a b c", "none"),
     ("a A", "0 1"),
@@ -40,48 +40,86 @@ fn digits(alloc: Global, word: &str) -> Result<Vec<usize>, Fail> {
     Ok(numbers)
 }
 
-/// The order of the things of a row, in its words.
-fn order(alloc: Global, row: &str) -> Result<String, Fail> {
+/// What each thing of a row needs.
+fn needs(alloc: Global, row: &str) -> Result<Vec<Vec<usize>>, Fail> {
     let mut needs = Vec::new(alloc);
     for word in row.split_whitespace() {
         needs.push(digits(alloc, word)?)?;
     }
+    Ok(needs)
+}
+
+/// Numbers, one after the other.
+fn numbers_text(alloc: Global, numbers: &[usize]) -> Result<String, Fail> {
     let mut text = String::new(alloc);
-    match order_of(alloc, &needs)? {
-        Order::Whole(numbers) => {
-            for number in &numbers {
-                text.push_str(&format!(in alloc; "{number}")?)?;
-            }
-        }
-        Order::Circle(number) => text.push_str(&format!(in alloc; "stuck {number}")?)?,
+    for number in numbers {
+        let digits = format!(in alloc; "{number}")?;
+        text.push_str(&digits)?;
     }
     Ok(text)
 }
 
-/// The first two names of a row that are alike, in its words.
-fn clash(alloc: Global, row: &str) -> Result<String, Fail> {
+/// An order in the words of a row.
+fn order_text(alloc: Global, order: &Order) -> Result<String, Fail> {
+    match order {
+        Order::Whole(numbers) => numbers_text(alloc, numbers),
+        Order::Circle(number) => Ok(format!(in alloc; "stuck {number}")?),
+    }
+}
+
+/// The order of the things of a row, in its words.
+fn order(alloc: Global, row: &str) -> Result<String, Fail> {
+    let needs = needs(alloc, row)?;
+    let order = order_of(alloc, &needs)?;
+    order_text(alloc, &order)
+}
+
+/// The names of a row.
+fn names(alloc: Global, row: &str) -> Result<Vec<Text>, Fail> {
     let mut names = Vec::new(alloc);
     for name in row.split_whitespace() {
         names.push(Text::copy_of(alloc, name)?)?;
     }
+    Ok(names)
+}
+
+/// The first two names of a row that are alike, in its words.
+fn clash(alloc: Global, row: &str) -> Result<String, Fail> {
+    let names = names(alloc, row)?;
     match case_clash(alloc, &names)? {
         Some(CaseClash { earlier, later }) => Ok(format!(in alloc; "{earlier} {later}")?),
         None => Ok(String::from_str(alloc, "none")?),
     }
 }
 
+/// Fails at the first row whose order is another one.
+fn are_ordered(alloc: Global, rows: &[(&str, &str)]) -> Result<(), Fail> {
+    for (needs, expected) in rows {
+        let text = order(alloc, needs)?;
+        if text.as_str() != *expected {
+            return Err(Fail::new(format_args!("{text} of {needs}")));
+        }
+    }
+    Ok(())
+}
+
 #[test]
 fn what_is_needed_comes_first_or_a_circle_is_found(rt: HostRuntime) -> Result<(), Fail> {
-    for (needs, expected) in ORDERS {
-        assert_eq!(rt; order(rt.alloc(), needs)?.as_str(), expected, "of {needs}");
+    are_ordered(rt.alloc(), ORDERS)
+}
+
+/// Fails at the first row of which other names are alike.
+fn are_alike(alloc: Global, rows: &[(&str, &str)]) -> Result<(), Fail> {
+    for (names, expected) in rows {
+        let text = clash(alloc, names)?;
+        if text.as_str() != *expected {
+            return Err(Fail::new(format_args!("{text} of {names}")));
+        }
     }
     Ok(())
 }
 
 #[test]
 fn names_are_alike_where_only_ascii_letter_case_differs(rt: HostRuntime) -> Result<(), Fail> {
-    for (names, expected) in NAMES {
-        assert_eq!(rt; clash(rt.alloc(), names)?.as_str(), expected, "of {names}");
-    }
-    Ok(())
+    are_alike(rt.alloc(), NAMES)
 }

@@ -10,20 +10,57 @@ use std::test::Fail;
 use warg_values::{Memory, Sequence, Text};
 
 /// A given entity, one that is asked for, whether they are equal, and whether the first fits the second.
-const ROWS: [&str; 13] = [
-    "bool bool equal fits",
-    "bool list differs unfit",
-    "named renamed equal fits",
-    "named list differs unfit",
-    "first second differs fits",
-    "own-first own-second differs unfit",
-    "own-first own-first equal fits",
-    "file-first file-second differs fits",
-    "mixed file-second differs unfit",
-    "file-first bare-file differs fits",
-    "bare-file file-first differs unfit",
-    "module module equal fits",
-    "module bool differs unfit",
+const ROWS: &[(&str, &str, bool, bool)] = &[
+    ("bool", "bool", true, true),
+    ("bool", "list", false, false),
+    ("named", "renamed", true, true),
+    ("named", "list", false, false),
+    ("first", "second", false, true),
+    ("own-first", "own-second", false, false),
+    ("own-first", "own-first", true, true),
+    ("file-first", "file-second", false, true),
+    ("mixed", "file-second", false, false),
+    ("file-first", "bare-file", false, true),
+    ("bare-file", "file-first", false, false),
+    ("module", "module", true, true),
+    ("module", "bool", false, false),
+];
+
+/// What an entity of a row is.
+enum Sample {
+    /// A truth value.
+    Bool,
+    /// A list of truth values.
+    List,
+    /// A record that is named by this place.
+    Record(usize),
+    /// The resource type of this number.
+    Resource(usize),
+    /// A handle of the resource of this number.
+    Own(usize),
+    /// An instance that exports the resource of the first number, and a function that gives one of the second.
+    File(usize, usize),
+    /// An instance that exports a resource alone.
+    BareFile,
+    /// A core module that exports a function.
+    Module,
+}
+
+/// The words of the rows.
+const SAMPLES: &[(&str, Sample)] = &[
+    ("bool", Sample::Bool),
+    ("list", Sample::List),
+    ("named", Sample::Record(1)),
+    ("renamed", Sample::Record(2)),
+    ("first", Sample::Resource(1)),
+    ("second", Sample::Resource(2)),
+    ("own-first", Sample::Own(1)),
+    ("own-second", Sample::Own(2)),
+    ("file-first", Sample::File(1, 1)),
+    ("file-second", Sample::File(2, 2)),
+    ("mixed", Sample::File(1, 4)),
+    ("bare-file", Sample::BareFile),
+    ("module", Sample::Module),
 ];
 
 /// The resource of a number of the scope at hand.
@@ -102,52 +139,64 @@ fn of_resource(number: usize, is_handle: bool) -> Entity {
     }
 }
 
-/// The entity of a word in a row.
-pub fn entity(alloc: Global, word: &str) -> Result<Entity, Memory> {
-    match word {
-        "list" => Ok(value(ValueShape::ListOf(Box::new(
-            alloc,
-            ValueShape::Primitive(Primitive::Bool),
-        )?))),
-        "named" => record(alloc, 1),
-        "renamed" => record(alloc, 2),
-        "first" => Ok(of_resource(1, false)),
-        "second" => Ok(of_resource(2, false)),
-        "own-first" => Ok(of_resource(1, true)),
-        "own-second" => Ok(of_resource(2, true)),
-        "file-first" => file(alloc, 1, 1),
-        "file-second" => file(alloc, 2, 2),
-        "mixed" => file(alloc, 1, 4),
-        "bare-file" => bare_file(alloc),
-        "module" => module(alloc),
-        _ => Ok(value(ValueShape::Primitive(Primitive::Bool))),
+/// A list of truth values.
+fn list(alloc: Global) -> Result<Entity, Memory> {
+    let item = Box::new(alloc, ValueShape::Primitive(Primitive::Bool))?;
+    Ok(value(ValueShape::ListOf(item)))
+}
+
+/// The entity of a sample.
+fn of_sample(alloc: Global, sample: &Sample) -> Result<Entity, Memory> {
+    match sample {
+        Sample::Bool => Ok(value(ValueShape::Primitive(Primitive::Bool))),
+        Sample::List => list(alloc),
+        Sample::Record(place) => record(alloc, *place),
+        Sample::Resource(number) => Ok(of_resource(*number, false)),
+        Sample::Own(number) => Ok(of_resource(*number, true)),
+        Sample::File(made, given) => file(alloc, *made, *given),
+        Sample::BareFile => bare_file(alloc),
+        Sample::Module => module(alloc),
     }
 }
 
-/// What is found of the two entities of a row, in its words.
-fn outcome(alloc: Global, given: &str, asked: &str) -> Result<String, Fail> {
-    let given_entity = entity(alloc, given)?;
-    let asked_entity = entity(alloc, asked)?;
-    let equality = if equal(&given_entity, &asked_entity) {
-        "equal"
-    } else {
-        "differs"
-    };
-    let fit = if fits(&given_entity, &asked_entity) {
-        "fits"
-    } else {
-        "unfit"
-    };
-    Ok(format!(in alloc; "{given} {asked} {equality} {fit}")?)
+/// The entity of a word in a row.
+pub fn entity(alloc: Global, word: &str) -> Result<Entity, Fail> {
+    for (name, sample) in SAMPLES {
+        if *name == word {
+            return Ok(of_sample(alloc, sample)?);
+        }
+    }
+    Err(Fail::new(format_args!("no sample is called {word}")))
+}
+
+/// The two entities of a row. They stand in a vector, since each way out of a function that holds an entity of its own
+/// is proved for each kind of entity.
+fn entities(alloc: Global, given: &str, asked: &str) -> Result<Vec<Entity>, Fail> {
+    let mut entities = Vec::new(alloc);
+    entities.push(entity(alloc, given)?)?;
+    entities.push(entity(alloc, asked)?)?;
+    Ok(entities)
+}
+
+/// Whether the two entities of a row are equal, and whether the first fits the second.
+fn found(alloc: Global, given: &str, asked: &str) -> Result<(bool, bool), Fail> {
+    match entities(alloc, given, asked)?.as_slice() {
+        [given, asked] => Ok((equal(given, asked), fits(given, asked))),
+        _ => Err(Fail::new("a row has two entities")),
+    }
+}
+
+/// Fails at the first row that is found otherwise.
+fn are_found(alloc: Global, rows: &[(&str, &str, bool, bool)]) -> Result<(), Fail> {
+    for (given, asked, is_equal, is_fit) in rows {
+        if found(alloc, given, asked)? != (*is_equal, *is_fit) {
+            return Err(Fail::new(format_args!("of {given} and {asked}")));
+        }
+    }
+    Ok(())
 }
 
 #[test]
 fn entities_are_equal_and_fit_as_the_rules_say(rt: HostRuntime) -> Result<(), Fail> {
-    for row in ROWS {
-        let mut words = row.split_whitespace();
-        let given = words.next().unwrap_or("");
-        let asked = words.next().unwrap_or("");
-        assert_eq!(rt; outcome(rt.alloc(), given, asked)?.as_str(), row);
-    }
-    Ok(())
+    are_found(rt.alloc(), ROWS)
 }

@@ -6,21 +6,21 @@ ghost use Rattle.comp_entity.specs.Names.{deeper};
 use crate::entity::entity;
 use comp_entity::{Primitive, ResourceNo, TypeNo};
 use comp_rename::{Renaming, renamed};
-use comp_table::{Head, Numbers, TypeTable};
+use comp_table::{Head, Numbers, TypeNumber, TypeTable};
 use std::alloc::Global;
 use std::test::Fail;
 use warg_values::Memory;
 
 /// Two entities, whether they have one number, and whether they are equal by their numbers.
-const ROWS: [&str; 8] = [
-    "bool bool one equal",
-    "named named one equal",
-    "named renamed two equal",
-    "named list two differs",
-    "file-first file-first one equal",
-    "file-first file-second two differs",
-    "module module one equal",
-    "first second two differs",
+const ROWS: &[(&str, &str, bool, bool)] = &[
+    ("bool", "bool", true, true),
+    ("named", "named", true, true),
+    ("named", "renamed", false, true),
+    ("named", "list", false, false),
+    ("file-first", "file-first", true, true),
+    ("file-first", "file-second", false, false),
+    ("module", "module", true, true),
+    ("first", "second", false, false),
 ];
 
 /// The number of a tuple of two parts, each of the type of this number.
@@ -45,43 +45,44 @@ fn a_type_stands_once_with_its_size(rt: HostRuntime) -> Result<(), Fail> {
     let again = pair_of(alloc, &mut table, truth)?;
     let four = pair_of(alloc, &mut table, again)?;
     assert_eq!(rt; again, pair);
-    assert_eq!(rt; table.is_same(four, again), false);
+    assert!(rt; !table.is_same(four, again));
     assert_eq!(rt; table.size(four), 7);
     assert_eq!(rt; table.depth(four), 3);
     assert_eq!(rt; table.parts(four).len(), 2);
-    assert_eq!(rt; matches!(table.head(four), Head::TupleOf), true);
+    assert!(rt; matches!(table.head(four), Head::TupleOf));
     Ok(())
 }
 
-/// What is found of the two entities of a row by their numbers, in its words.
-fn outcome(alloc: Global, first: &str, second: &str) -> Result<String, Fail> {
+/// The number of the entity of a word in a row.
+fn number_in(alloc: Global, table: &mut TypeTable, word: &str) -> Result<TypeNumber, Fail>
+    ensures there { IfOk result (λ n. n.0 < length table.new) }
+    ensures kept { length table.old ≤ length table.new }
+{
+    let entity = entity(alloc, word)?;
+    Ok(table.intern(alloc, &entity)?)
+}
+
+/// Whether the two entities of a row have one number, and whether they are equal by their numbers.
+fn found(alloc: Global, first: &str, second: &str) -> Result<(bool, bool), Fail> {
     let mut table = TypeTable::new(alloc);
-    let first_entity = entity(alloc, first)?;
-    let second_entity = entity(alloc, second)?;
-    let first_number = table.intern(alloc, &first_entity)?;
-    let second_number = table.intern(alloc, &second_entity)?;
-    let numbers = if first_number == second_number {
-        "one"
-    } else {
-        "two"
-    };
-    let equality = if table.equal(first_number, second_number) {
-        "equal"
-    } else {
-        "differs"
-    };
-    Ok(format!(in alloc; "{first} {second} {numbers} {equality}")?)
+    let first = number_in(alloc, &mut table, first)?;
+    let second = number_in(alloc, &mut table, second)?;
+    Ok((first == second, table.equal(first, second)))
+}
+
+/// Fails at the first row that is found otherwise.
+fn are_found(alloc: Global, rows: &[(&str, &str, bool, bool)]) -> Result<(), Fail> {
+    for (first, second, is_one, is_equal) in rows {
+        if found(alloc, first, second)? != (*is_one, *is_equal) {
+            return Err(Fail::new(format_args!("of {first} and {second}")));
+        }
+    }
+    Ok(())
 }
 
 #[test]
 fn entities_have_one_number_and_are_equal_by_it(rt: HostRuntime) -> Result<(), Fail> {
-    for row in ROWS {
-        let mut words = row.split_whitespace();
-        let first = words.next().unwrap_or("");
-        let second = words.next().unwrap_or("");
-        assert_eq!(rt; outcome(rt.alloc(), first, second)?.as_str(), row);
-    }
-    Ok(())
+    are_found(rt.alloc(), ROWS)
 }
 
 /// Names as they are called three scopes further in.
@@ -125,6 +126,6 @@ fn a_type_in_other_names_is_the_type_of_the_other_names(rt: HostRuntime) -> Resu
     let moved = renamed(&mut table, alloc, &Deeper, near)?;
     let far = handles(alloc, &mut table, 4)?;
     assert_eq!(rt; moved, far);
-    assert_eq!(rt; moved == near, false);
+    assert!(rt; moved != near);
     Ok(())
 }
