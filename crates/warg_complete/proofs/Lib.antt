@@ -1,0 +1,5 @@
+mod RepliesLaws
+mod PartLaws
+mod LearntLaws
+mod FaultLaws
+mod SearchLaws

@@ -1,0 +1,137 @@
+-- That of two updates with replies that agree one is the front of the other.
+use Rattle.std.proofs.Common.{◌≡◌, ◌<◌, ◌⊎◌, ◌++◌, ◌∷◌, [], inl, inr, List, ℕ, zero, suc, Bool, true, false, Option, Some, None, refl, sym, ◌∙◌, ap, subst, take, length, map, append_assoc}
+use Rattle.std.proofs.Math.Seq.{take-append_seam}
+use Rattle.std.proofs.lemmas.List.{append-nil}
+use Rattle.std.specs.Prelude.{slice_get}
+use Rattle.warg_log.specs.Rules.{Accepts}
+use Rattle.warg_exchange.specs.declared.exchange.Exchange.{Exchange}
+use Rattle.warg_exchange.specs.declared.exchange.Request.{Request}
+use Rattle.warg_exchange.specs.declared.exchange.Reply.{Reply}
+use Rattle.warg_exchange.specs.declared.checkpoint.SignedCheckpoint.{SignedCheckpoint}
+use Rattle.warg_exchange.specs.Requests.{Asker}
+use Rattle.warg_page.specs.Logs.{Logs}
+use Rattle.warg_update.specs.Proved.{AsksCheckpoint, Turns, Pages, Succeeds, Start, Opens, Shows, Proves, Asks, AreAsked, for_checkpoint, for_page, for_inclusion, for_consistency}
+use Rattle.warg_course.specs.Replies.{IsFront, AreRepliesOf}
+use Rattle.warg_course.proofs.ReplyLaws.{head-is, tail-is, exchange-same}
+use Rattle.warg_course.proofs.AskLaws.{OneBringing, asks-once, asks-over, proves-opens}
+
+-- that pages leave logs in one way, and that exchanges come in turn
+pub record Laws : Type 0 where
+  pub once : OneBringing
+  pub first : (a : Asker) (start : Start) (x : Exchange) (c : SignedCheckpoint) → AsksCheckpoint a x c → Opens a start (x ∷ []) c start.logs true
+  pub more : (a : Asker) (start : Start) (xs : List Exchange) (c : SignedCheckpoint) (mid after : Logs) (x : Exchange) (more : Bool) → Opens a start xs c mid true → Turns a c.contents.log_length mid x after more → Opens a start (xs ++ x ∷ []) c after more
+
+-- ---- each exchange is asked for
+
+-- at its place
+at-length : (before after : List Exchange) (x : Exchange) → slice_get (before ++ x ∷ after) (length before) ≡ Some x
+at-length [] after x = refl
+at-length (y ∷ before) after x = at-length before after x
+
+pub asked-at : (a : Asker) (start : Start) (before after : List Exchange) (x : Exchange) → AreAsked a start (before ++ x ∷ after) → Asks a start before x.request
+asked-at a start before after x asked =
+    subst (λ (l : List Exchange). Asks a start l x.request) (take-append_seam before (x ∷ after)) (asked (length before) x (at-length before after x))
+
+asked-none : (a : Asker) (start : Start) → AreAsked a start []
+asked-none a start n x there = absurd cc
+
+-- an item of a list with one item more stands in the list, or is the one more
+pushed-at : (xs : List Exchange) (x : Exchange) (n : ℕ) (y : Exchange) → slice_get (xs ++ x ∷ []) n ≡ Some y
+    → ((slice_get xs n ≡ Some y) × (take n (xs ++ x ∷ []) ≡ take n xs)) ⊎ ((x ≡ y) × (take n (xs ++ x ∷ []) ≡ xs))
+pushed-at [] x zero y e = let same : x ≡ y = cc in inr (same, refl)
+pushed-at [] x (suc n) y e = absurd cc
+pushed-at (z ∷ xs) x zero y e = inl (e, refl)
+pushed-at (z ∷ xs) x (suc n) y e = behind (pushed-at xs x n y e)
+  where
+    behind : ((slice_get xs n ≡ Some y) × (take n (xs ++ x ∷ []) ≡ take n xs)) ⊎ ((x ≡ y) × (take n (xs ++ x ∷ []) ≡ xs))
+        → ((slice_get xs n ≡ Some y) × (z ∷ take n (xs ++ x ∷ []) ≡ z ∷ take n xs)) ⊎ ((x ≡ y) × (z ∷ take n (xs ++ x ∷ []) ≡ z ∷ xs))
+    behind (inl here) = inl (here.0, ap (λ (l : List Exchange). z ∷ l) here.1)
+    behind (inr last) = inr (last.0, ap (λ (l : List Exchange). z ∷ l) last.1)
+
+pub asked-push : (a : Asker) (start : Start) (xs : List Exchange) (x : Exchange) → AreAsked a start xs → Asks a start xs x.request → AreAsked a start (xs ++ x ∷ [])
+asked-push a start xs x asked next n y there = by_place (pushed-at xs x n y there)
+  where
+    by_place : ((slice_get xs n ≡ Some y) × (take n (xs ++ x ∷ []) ≡ take n xs)) ⊎ ((x ≡ y) × (take n (xs ++ x ∷ []) ≡ xs)) → Asks a start (take n (xs ++ x ∷ [])) y.request
+    by_place (inl here) = subst (λ (l : List Exchange). Asks a start l y.request) (sym here.1) (asked n y here.0)
+    by_place (inr last) = subst (λ (l : List Exchange). Asks a start l y.request) (sym last.1) (subst (λ (e : Exchange). Asks a start xs e.request) last.0 next)
+
+-- pages, behind exchanges that were asked for
+pages-asked : Laws → (a : Asker) (start : Start) (c : SignedCheckpoint) (done xs : List Exchange) (mid logs : Logs) (more : Bool) → Opens a start done c mid true → AreAsked a start done → Pages a c.contents.log_length mid xs logs more → AreAsked a start (done ++ xs)
+pages-asked laws a start c done [] mid logs more opens asked pages = subst (AreAsked a start) (sym (append-nil done)) asked
+pages-asked laws a start c done (x ∷ xs) mid logs more opens asked (inl step) =
+    let one : AreAsked a start (done ++ x ∷ []) = asked-push a start done x asked (for_page c mid opens step.1.asked) in
+    subst (AreAsked a start) (append_assoc done (x ∷ []) xs) (pages-asked laws a start c (done ++ x ∷ []) xs step.0 logs more (laws.more a start done c mid step.0 x true opens step.1) one step.2)
+pages-asked laws a start c done (x ∷ xs) mid logs more opens asked (inr last) =
+    let one : AreAsked a start (done ++ x ∷ []) = asked-push a start done x asked (for_page c mid opens last.0.asked) in
+    subst (λ (l : List Exchange). AreAsked a start (done ++ x ∷ l)) (sym last.1) one
+
+pub opens-asked : Laws → (a : Asker) (start : Start) (xs : List Exchange) (c : SignedCheckpoint) (logs : Logs) (more : Bool) → Opens a start xs c logs more → AreAsked a start xs
+opens-asked laws a start xs c logs more p =
+    let first : AreAsked a start (p.first ∷ []) = asked-push a start [] p.first (asked-none a start) (for_checkpoint refl p.asks_checkpoint.asked) in
+    subst (AreAsked a start) (sym p.in_turn) (pages-asked laws a start c (p.first ∷ []) p.pages start.logs logs more (laws.first a start p.first c p.asks_checkpoint) first p.asks_pages)
+
+shows-asked : Laws → (a : Asker) (start : Start) (xs : List Exchange) (old c : SignedCheckpoint) (logs : Logs) → Shows a start xs old c logs → AreAsked a start xs
+shows-asked laws a start xs old c logs s =
+    subst (AreAsked a start) (sym s.in_turn) (asked-push a start s.before s.inclusion (opens-asked laws a start s.before c logs false s.opens) (for_inclusion c logs s.opens s.asks_inclusion.asked))
+
+-- what something is asked behind was asked for
+pub asks-asked : Laws → (a : Asker) (start : Start) (xs : List Exchange) (r : Request) → Asks a start xs r → AreAsked a start xs
+asks-asked laws a start xs r (for_checkpoint none e) = subst (AreAsked a start) (sym none) (asked-none a start)
+asks-asked laws a start xs r (for_page c logs o e) = opens-asked laws a start xs c logs true o
+asks-asked laws a start xs r (for_inclusion c logs o e) = opens-asked laws a start xs c logs false o
+asks-asked laws a start xs r (for_consistency old c logs s e) = shows-asked laws a start xs old c logs s
+
+-- what the stored checkpoint asks for, behind all else
+rest-asked : Laws → (accepts : Accepts) (a : Asker) (start : Start) (before : List Exchange) (inclusion : Exchange) (rest : List Exchange) (logs : Logs) (c : SignedCheckpoint) (stored : Option SignedCheckpoint) → start.stored ≡ stored
+    → ((old : SignedCheckpoint) → stored ≡ Some old → old.contents.log_length < c.contents.log_length → Shows a start (before ++ inclusion ∷ []) old c logs) → AreAsked a start (before ++ inclusion ∷ []) → Succeeds a stored c.contents rest
+    → AreAsked a start ((before ++ inclusion ∷ []) ++ rest)
+rest-asked laws accepts a start before inclusion rest logs c None is shows asked succeeds = subst (AreAsked a start) (sym (ap (λ (l : List Exchange). (before ++ inclusion ∷ []) ++ l) succeeds ∙ append-nil (before ++ inclusion ∷ []))) asked
+rest-asked laws accepts a start before inclusion rest logs c (Some old) is shows asked (inl settled) =
+    subst (AreAsked a start) (sym (ap (λ (l : List Exchange). (before ++ inclusion ∷ []) ++ l) settled.1 ∙ append-nil (before ++ inclusion ∷ []))) asked
+rest-asked laws accepts a start before inclusion rest logs c (Some old) is shows asked (inr longer) =
+    subst (λ (l : List Exchange). AreAsked a start ((before ++ inclusion ∷ []) ++ l)) (sym longer.3) (asked-push a start (before ++ inclusion ∷ []) longer.1 asked (for_consistency old c logs (shows old refl longer.0) longer.2.asked))
+
+pub proves-asked : Laws → (accepts : Accepts) (a : Asker) (start : Start) (xs : List Exchange) (logs : Logs) (c : SignedCheckpoint) → Proves accepts a start xs logs c → AreAsked a start xs
+proves-asked laws accepts a start xs logs c p =
+    let before : List Exchange = p.first ∷ p.pages in
+    let opens : Opens a start (p.first ∷ p.pages) c logs false = proves-opens accepts a start xs logs c p in
+    let asked : AreAsked a start ((p.first ∷ p.pages) ++ p.inclusion ∷ []) = asked-push a start (p.first ∷ p.pages) p.inclusion (opens-asked laws a start (p.first ∷ p.pages) c logs false opens) (for_inclusion c logs opens p.asks_inclusion.asked) in
+    let shows : (old : SignedCheckpoint) → start.stored ≡ Some old → old.contents.log_length < c.contents.log_length → Shows a start ((p.first ∷ p.pages) ++ p.inclusion ∷ []) old c logs = λ old stored shorter.
+    record { before = p.first ∷ p.pages; inclusion = p.inclusion; in_turn = refl; opens = opens; asks_inclusion = p.asks_inclusion; stored = stored; shorter = shorter } in
+    subst (AreAsked a start) (append_assoc (p.first ∷ p.pages) (p.inclusion ∷ []) p.rest ∙ sym p.in_turn) (rest-asked laws accepts a start (p.first ∷ p.pages) p.inclusion p.rest logs c start.stored refl shows asked p.succeeds)
+
+-- ---- replies that agree
+
+front-more : (x y : Exchange) (xs ys : List Exchange) → x ≡ y → IsFront xs ys ⊎ IsFront ys xs → IsFront (x ∷ xs) (y ∷ ys) ⊎ IsFront (y ∷ ys) (x ∷ xs)
+front-more x y xs ys same (inl f) = inl (f.0, ap (λ (l : List Exchange). y ∷ l) f.1 ∙ ap (λ (z : Exchange). z ∷ (xs ++ f.0)) (sym same))
+front-more x y xs ys same (inr f) = inr (f.0, ap (λ (l : List Exchange). x ∷ l) f.1 ∙ ap (λ (z : Exchange). z ∷ (ys ++ f.0)) same)
+
+-- behind the same exchanges
+fronts-behind : OneBringing → (a : Asker) (start : Start) (done xs ys : List Exchange) (us vs : List Reply) → AreAsked a start (done ++ xs) → AreAsked a start (done ++ ys) → map (λ x. x.reply) xs ++ us ≡ map (λ x. x.reply) ys ++ vs
+    → IsFront xs ys ⊎ IsFront ys xs
+fronts-behind once a start done [] ys us vs p q e = inl (ys, refl)
+fronts-behind once a start done (x ∷ xs) [] us vs p q e = inr (x ∷ xs, refl)
+fronts-behind once a start done (x ∷ xs) (y ∷ ys) us vs p q e =
+    let came : x.reply ≡ y.reply = head-is x.reply y.reply (map (λ x. x.reply) xs ++ us) (map (λ x. x.reply) ys ++ vs) e in
+    let asked : x.request ≡ y.request = asks-once once a start done x.request y.request (asked-at a start done xs x p) (asked-at a start done ys y q) in
+    let same : x ≡ y = exchange-same x y asked came in
+    let left : AreAsked a start ((done ++ x ∷ []) ++ xs) = subst (AreAsked a start) (sym (append_assoc done (x ∷ []) xs)) p in
+    let right : AreAsked a start ((done ++ x ∷ []) ++ ys) = subst (AreAsked a start) (sym (append_assoc done (x ∷ []) ys)) (subst (λ (z : Exchange). AreAsked a start (done ++ z ∷ ys)) (sym same) q) in
+    front-more x y xs ys same (fronts-behind once a start (done ++ x ∷ []) xs ys us vs left right (tail-is x.reply y.reply (map (λ x. x.reply) xs ++ us) (map (λ x. x.reply) ys ++ vs) e))
+
+pub fronts-agree : OneBringing → (a : Asker) (start : Start) (xs ys : List Exchange) (replies : List Reply) → AreAsked a start xs → AreAsked a start ys → AreRepliesOf xs replies → AreRepliesOf ys replies → IsFront xs ys ⊎ IsFront ys xs
+fronts-agree once a start xs ys replies p q r s = fronts-behind once a start [] xs ys r.unused s.unused p q (sym r.are ∙ s.are)
+
+-- nothing is behind exchanges that prove logs
+pub proves-last : OneBringing → (accepts : Accepts) (a : Asker) (start : Start) (xs ys : List Exchange) (logs : Logs) (c : SignedCheckpoint) → AreAsked a start xs → Proves accepts a start ys logs c → IsFront ys xs → xs ≡ ys
+proves-last once accepts a start xs ys logs c asked p ([], e) = e ∙ append-nil ys
+proves-last once accepts a start xs ys logs c asked p (x ∷ more, e) =
+    absurd (asks-over once accepts a start ys logs c x.request p (asked-at a start ys more x (subst (AreAsked a start) e asked)))
+
+pub proves-front : Laws → (accepts : Accepts) (a : Asker) (start : Start) (xs ys : List Exchange) (replies : List Reply) (logs : Logs) (c : SignedCheckpoint) → AreAsked a start xs → Proves accepts a start ys logs c → AreRepliesOf xs replies → AreRepliesOf ys replies
+    → IsFront xs ys
+proves-front laws accepts a start xs ys replies logs c asked p r s = by_front (fronts-agree laws.once a start xs ys replies asked (proves-asked laws accepts a start ys logs c p) r s)
+  where
+    by_front : IsFront xs ys ⊎ IsFront ys xs → IsFront xs ys
+    by_front (inl f) = f
+    by_front (inr f) = ([], sym (append-nil xs ∙ proves-last laws.once accepts a start xs ys logs c asked p f))
