@@ -3,6 +3,7 @@
 ghost use Rattle.std.specs.Prelude.{◌≡◌, ◌≢◌, ◌≤◌, [], codes, true, Some, None, Ok, Err, IfOk, IfErr, IfSome, OnErr, option_copied};
 ghost use Rattle.url.specs.declared.error.ParseError.{ParseError as Fault};
 ghost use Rattle.url.specs.Parts.{Parts, nonempty_host};
+ghost use Rattle.warg_url.specs.declared.error.UrlError.{UrlError};
 ghost use Rattle.warg_url.specs.RegistryUrl.{IsLocal, IsSafe, ReadsAs, base_of};
 ghost use Rattle.warg_url.specs.declared.error.UrlError.TheVariants.{NotUrl as IsNotUrl, NotHttps as IsNotHttps, Insecure as IsInsecure};
 ghost use Rattle.warg_store.specs.Held.{Tells};
@@ -72,6 +73,7 @@ impl<L: Link, R: Drop, C: Drop, N: Drop, V: Drop, D: Drop> Client<L, R, C, N, V,
             × (read.scheme ≢ codes "https") × (read.scheme ≢ codes "http") }
         ensures insecure { (result ≡ Err (url_refusal IsInsecure)) → (read : Parts) × ReadsAs url.now (Ok read)
             × (read.scheme ≡ codes "http") × (IsLocal (nonempty_host read) → ⊥) }
+        ensures of_url { IfErr result (λ e. (refusal : UrlError) × (e ≡ url_refusal refusal)) }
     {
         let client = RegistryClient::new(alloc, url, auth_token)?;
         Ok(Client {
@@ -133,6 +135,13 @@ impl<L: Link, R: Drop, C: Drop, N: Drop, V: Drop, D: Drop> Client<L, R, C, N, V,
         ensures { option_copied result ≡ plan_of self.now }
     {
         self.last_plan.as_ref()
+    }
+
+    /// The plan that was found last, without the client.
+    pub fn into_plan(self) -> Option<Plan>
+        ensures { result ≡ plan_of self }
+    {
+        self.last_plan
     }
 
     /// The stores: those of registries, of contents and of the registries of namespaces.
