@@ -1,4 +1,4 @@
-//! What becomes of texts over recorded replies.
+//! What becomes of plans over recorded replies, by `assemble PLAN REPLIES CHECKED OUT` over files and an output in memory.
 
 use crate::world::{
     CHECKED, LINKED, NOTHING_CONTENT, NOTHING_SOURCES, OPEN_CHECKPOINT, OPEN_CONTENT,
@@ -8,125 +8,143 @@ use crate::world::{
 };
 use hex::encode;
 use std::alloc::Global;
+use std::rt::HostRuntime;
 use std::test::Fail;
-use warg_api::RecordedLink;
-use warg_client::{Client, Settings};
-use warg_hint::AlwaysDecide;
-use warg_log::ListedVerifier;
-use warg_recorded::{read_checked, read_replies};
-use warg_store::{MemoryContent, MemoryNamespaces, MemoryRegistry};
+use warg_base::{Files, MemoryFiles, MemoryOut};
+use warg_program::{Stop, outcome};
 
-/// A client with stores in memory.
-type TestClient = Client<
-    RecordedLink,
-    MemoryRegistry,
-    MemoryContent,
-    MemoryNamespaces,
-    ListedVerifier,
-    AlwaysDecide,
->;
+/// The words of the command.
+const WORDS: &[&str] = &["assemble", "plan", "replies", "checked", "out"];
 
 /// The text of a plan of one package.
 const TEXT: &str = "instantiations:\n  root:\n    dependency: demo:app\n";
 
-/// Texts, with the bodies of replies in the order in which they come, and what becomes of them: the component, in hex, and
-/// how many replies were asked for, or the beginning of the error's text.
-const ROWS: [(&str, &[&str], &str); 12] = [
-    (
-        TEXT,
-        &[
+/// What is given, and how it ends.
+struct Row {
+    /// The text of the plan.
+    text: &'static str,
+    /// The bodies of the replies, in the order in which they come.
+    bodies: &'static [&'static str],
+    /// What is printed.
+    printed: &'static str,
+    /// The component, in hex, or the status and the beginning of the cause.
+    ended: &'static str,
+}
+
+const ROWS: &[Row] = &[
+    Row {
+        text: TEXT,
+        bodies: &[
             TYPES_CHECKPOINT,
             TYPES_PAGE,
             TYPES_INCLUSION,
             TYPES_SOURCES,
             TYPES_CONTENT,
         ],
-        LINKED,
-    ),
-    (
-        "instantiations:\n  root:\n    dependency: demo:app@{<1.1.0}\n",
-        &[
+        printed: "entry demo:app 1.1.0 sha256:191d8b6cf1703426361caf20b95d05b13018134aa737605635be82ca70b14196 named root\nbundle 57 e41da149a1013026158395250a1d4b819ead3f2e0d47a57de1fd964442c5d451\n",
+        ended: LINKED,
+    },
+    // A release below a version, and a reply more than is asked for.
+    Row {
+        text: "instantiations:\n  root:\n    dependency: demo:app@{<1.1.0}\n",
+        bodies: &[
             TYPES_CHECKPOINT,
             TYPES_PAGE,
             TYPES_INCLUSION,
             NOTHING_SOURCES,
             NOTHING_CONTENT,
+            NOTHING_CONTENT,
         ],
-        "0061736d0d00010004080061736d0d0001000504010000",
-    ),
-    (
-        "instantiations:\n  root:\n    dependency: demo:app@{>=2.0.0}\n",
-        &[TYPES_CHECKPOINT, TYPES_PAGE, TYPES_INCLUSION],
-        "no release of demo:app is what is asked for",
-    ),
-    (
-        TEXT,
-        &[TYPES_CHECKPOINT, TYPES_PAGE, TYPES_NO_PROOF],
-        "the bundle does not hold the proofs",
-    ),
-    (
-        TEXT,
-        &[
+        printed: "entry demo:app 1.0.0 sha256:24eaf3439a60c96764c4f2c92a0a81b52bd4fe5d5b91f090184a0f6486b1bf29 named root\nbundle 24 251c41b4a061e17112655e1ae12d851da9dbdef7499d0bd5b11cb933ca4fa8cd\n",
+        ended: "0061736d0d00010004080061736d0d0001000504010000",
+    },
+    Row {
+        text: "instantiations:\n  root:\n    dependency: demo:app@{>=2.0.0}\n",
+        bodies: &[TYPES_CHECKPOINT, TYPES_PAGE, TYPES_INCLUSION],
+        printed: "refused PackageVersionRequirementDoesNotExist\n",
+        ended: "6 no release of demo:app is what is asked for",
+    },
+    Row {
+        text: TEXT,
+        bodies: &[TYPES_CHECKPOINT, TYPES_PAGE, TYPES_NO_PROOF],
+        printed: "refused Api/Proof\n",
+        ended: "6 the bundle does not hold the proofs",
+    },
+    Row {
+        text: TEXT,
+        bodies: &[
             TYPES_CHECKPOINT,
             TYPES_PAGE,
             TYPES_INCLUSION,
             TYPES_SOURCES,
             NOTHING_CONTENT,
         ],
-        "a content has the digest",
-    ),
-    (
-        TEXT,
-        &[
+        printed: "refused IncorrectContent\n",
+        ended: "6 a content has the digest",
+    },
+    Row {
+        text: TEXT,
+        bodies: &[
             TYPES_CHECKPOINT,
             TYPES_PAGE,
             TYPES_INCLUSION,
             NOTHING_SOURCES,
         ],
-        "no source gave the content",
-    ),
-    (
-        TEXT,
-        &[TYPES_CHECKPOINT, TYPES_PAGE, TYPES_INCLUSION, TYPES_SOURCES],
-        "the registry could not be reached",
-    ),
-    (
-        TEXT,
-        &[
+        printed: "refused Api/AllSourcesFailed\n",
+        ended: "6 no source gave the content",
+    },
+    Row {
+        text: TEXT,
+        bodies: &[TYPES_CHECKPOINT, TYPES_PAGE, TYPES_INCLUSION, TYPES_SOURCES],
+        printed: "refused LinkFault\n",
+        ended: "6 the registry could not be reached",
+    },
+    Row {
+        text: TEXT,
+        bodies: &[
             OPEN_CHECKPOINT,
             OPEN_PAGE,
             OPEN_INCLUSION,
             OPEN_SOURCES,
             OPEN_CONTENT,
         ],
-        "hints at other registries, and plans of several packages",
-    ),
-    (
-        TEXT,
-        &[
+        printed: "refused NotBuilt\n",
+        ended: "6 hints at other registries, and plans of several packages",
+    },
+    Row {
+        text: TEXT,
+        bodies: &[
             TEXT_CHECKPOINT,
             TEXT_PAGE,
             TEXT_INCLUSION,
             TEXT_SOURCES,
             TEXT_CONTENT,
         ],
-        "a package's content is no component",
-    ),
-    ("a: 1\n", &[], "the plan: there is no field `a`"),
-    (
-        "search-paths: [x]\ninstantiations:\n  root:\n    dependency: demo:app\n",
-        &[],
-        "the plan: `search-paths` are folders",
-    ),
-    (
-        "instantiations:\n  root:\n    dependency: demo\n",
-        &[],
-        "the plan: an instance has a dependency that is no package",
-    ),
+        printed: "refused BadComponent\n",
+        ended: "6 a package's content is no component",
+    },
+    Row {
+        text: "a: 1\n",
+        bodies: &[],
+        printed: "refused BadPlan\n",
+        ended: "6 the plan: there is no field `a`",
+    },
+    Row {
+        text: "search-paths: [x]\ninstantiations:\n  root:\n    dependency: demo:app\n",
+        bodies: &[],
+        printed: "refused BadPlan\n",
+        ended: "6 the plan: `search-paths` are folders",
+    },
+    Row {
+        text: "instantiations:\n  root:\n    dependency: demo\n",
+        bodies: &[],
+        printed: "refused BadPlan\n",
+        ended: "6 the plan: an instance has a dependency that is no package",
+    },
 ];
 
 /// A file of replies with these bodies.
-fn file(alloc: Global, bodies: &[&str]) -> Result<String, Fail> {
+fn replies(alloc: Global, bodies: &[&str]) -> Result<String, Fail> {
     let mut text = String::from_str(alloc, "[")?;
     for body in bodies {
         if text.len() > 1 {
@@ -140,48 +158,123 @@ fn file(alloc: Global, bodies: &[&str]) -> Result<String, Fail> {
     Ok(text)
 }
 
-/// A client over replies with these bodies.
-fn client(alloc: Global, bodies: &[&str]) -> Result<TestClient, Fail> {
-    let link = RecordedLink::new(alloc, read_replies(alloc, file(alloc, bodies)?.as_bytes())?);
-    let settings = Settings {
-        ignore_federation_hints: false,
-        disable_auto_accept_federation_hints: false,
-        disable_auto_package_init: false,
-        disable_interactive: false,
-        round_limit: 3,
-        polls: 1,
-    };
-    Ok(Client::new(
-        alloc,
-        "https://home.test",
-        link,
-        MemoryRegistry::new(alloc),
-        MemoryContent::new(alloc),
-        MemoryNamespaces::new(alloc),
-        read_checked(alloc, CHECKED.as_bytes())?,
-        AlwaysDecide { answer: true },
-        None,
-        settings,
-    )?)
+/// How a run ended: the bytes of OUT in hex, or the status and the cause.
+fn told(
+    alloc: Global,
+    files: &mut MemoryFiles,
+    ended: &Result<(), Stop<'_>>,
+) -> Result<String, Fail> {
+    match ended {
+        Ok(()) => Ok(encode(alloc, files.read(alloc, "out")?)?),
+        Err(stop) => Ok(format!(in alloc; "{} {stop}", stop.status())?),
+    }
 }
 
-/// What becomes of a text over replies with these bodies.
-fn outcome(alloc: Global, text: &str, bodies: &[&str]) -> Result<String, Fail> {
-    let mut client = client(alloc, bodies)?;
-    match client.assemble(alloc, text) {
-        Ok(bytes) => Ok(encode(alloc, bytes)?),
-        Err(error) => Ok(format!(in alloc; "{error}")?),
+/// How a run of these words ends.
+fn ended_by(
+    alloc: Global,
+    words: &[String],
+    files: &mut MemoryFiles,
+    out: &mut MemoryOut,
+) -> Result<String, Fail> {
+    let ended = outcome(alloc, words, files, out);
+    told(alloc, files, &ended)
+}
+
+/// What a run over files prints, and how it ends.
+fn ended(alloc: Global, files: &mut MemoryFiles) -> Result<(String, String), Fail> {
+    let mut words = Vec::new(alloc);
+    for word in WORDS {
+        words.push(String::from_str(alloc, word)?)?;
     }
+    let mut out = MemoryOut::new(alloc);
+    let told = ended_by(alloc, &words, files, &mut out)?;
+    Ok((String::from_utf8_lossy(alloc, out.bytes())?, told))
+}
+
+/// The files of a row.
+fn files_of(alloc: Global, row: &Row) -> Result<MemoryFiles, Fail> {
+    let mut files = MemoryFiles::new(alloc);
+    files.write(alloc, "plan", row.text.as_bytes())?;
+    files.write(alloc, "replies", replies(alloc, row.bodies)?.as_bytes())?;
+    files.write(alloc, "checked", CHECKED.as_bytes())?;
+    Ok(files)
+}
+
+/// Fails at the first row that ends otherwise.
+fn end_so(alloc: Global, rows: &[Row]) -> Result<(), Fail> {
+    for row in rows {
+        let (printed, told) = ended(alloc, &mut files_of(alloc, row)?)?;
+        if printed.as_str() != row.printed || !told.starts_with(row.ended) {
+            return Err(Fail::new(format_args!("{printed}{told} where {} was to come", row.ended)));
+        }
+    }
+    Ok(())
 }
 
 #[test]
-fn a_text_is_assembled_or_tells_the_first_fault(rt: HostRuntime) -> Result<(), Fail> {
-    for (text, bodies, expected) in ROWS.as_slice() {
-        let found = outcome(rt.alloc(), text, bodies)?;
-        assert!(rt;
-            found.starts_with(*expected),
-            "{found} where {expected} was to come"
-        );
+fn a_plan_is_assembled_or_tells_the_first_fault(rt: HostRuntime) -> Result<(), Fail> {
+    end_so(rt.alloc(), ROWS)
+}
+
+/// The bytes of PLAN, REPLIES and CHECKED, where these files are there, and the line that is printed and the beginning of
+/// the status and the cause.
+const FILES: &[(&[Option<&[u8]>; 3], &str, &str)] = &[
+    (
+        &[None, None, None],
+        "missing plan\n",
+        "3 plan: there is no such file",
+    ),
+    (
+        &[Some(b"\xff"), None, None],
+        "bad plan\n",
+        "5 plan: the plan is no UTF-8 text",
+    ),
+    (
+        &[Some(b"a: 1\n"), None, None],
+        "missing replies\n",
+        "3 replies: there is no such file",
+    ),
+    (
+        &[Some(b"a: 1\n"), Some(b"{}"), None],
+        "bad replies\n",
+        "5 replies: no recorded replies",
+    ),
+    (
+        &[Some(b"a: 1\n"), Some(b"[]"), None],
+        "missing checked\n",
+        "3 checked: there is no such file",
+    ),
+    (
+        &[Some(b"a: 1\n"), Some(b"[]"), Some(b"[1]")],
+        "bad checked\n",
+        "5 checked: no checked signatures",
+    ),
+    (
+        &[Some(b"a: 1\n"), Some(b"[]"), Some(b"[]")],
+        "refused BadPlan\n",
+        "6 the plan: there is no field `a`",
+    ),
+];
+
+/// Fails at the first row of files that are judged otherwise.
+fn are_judged_so(alloc: Global, rows: &[(&[Option<&[u8]>; 3], &str, &str)]) -> Result<(), Fail> {
+    for (given, line, cause) in rows {
+        let mut files = MemoryFiles::new(alloc);
+        for (path, bytes) in ["plan", "replies", "checked"].iter().zip(given.iter()) {
+            if let Some(bytes) = bytes {
+                files.write(alloc, path, bytes)?;
+            }
+        }
+        let (printed, told) = ended(alloc, &mut files)?;
+        if printed.as_str() != *line || !told.starts_with(*cause) {
+            return Err(Fail::new(format_args!("{printed}{told} where {cause} was to come")));
+        }
     }
     Ok(())
+}
+
+#[test]
+fn files_are_judged_one_by_one_in_the_order_of_the_words(rt: HostRuntime) -> Result<(), Fail> {
+    are_judged_so(rt.alloc(), FILES)
 }

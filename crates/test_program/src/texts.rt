@@ -5,53 +5,60 @@ use std::alloc::Global;
 use std::rt::HostRuntime;
 use std::test::Fail;
 use warg_base::Text;
-use warg_program::{Access, Stop};
+use warg_program::{Access, Form, Stop};
 
-/// The text of a stop.
-fn text_of(alloc: Global, stop: &Stop<'_>) -> Result<String, Fail> {
-    Ok(format!(in alloc; "{stop}")?)
+/// Fails where the text of a stop begins otherwise, or says no more.
+fn says(alloc: Global, stop: Stop<'_>, front: &str) -> Result<(), Fail> {
+    let text = format!(in alloc; "{stop}")?;
+    if !text.starts_with(front) || text.len() <= front.len() + 10 {
+        return Err(Fail::new(format_args!("{text}")));
+    }
+    Ok(())
 }
 
 #[test]
 fn a_stop_names_the_file_and_says_what_to_do(rt: HostRuntime) -> Result<(), Fail> {
-    let rows = [
-        (Stop::Missing { path: "a.wasm" }, "a.wasm: "),
-        (
-            Stop::Fault(Access::Read("a.wasm")),
-            "a.wasm: the file could not be read",
-        ),
-        (
-            Stop::Fault(Access::Written("o.wasm")),
-            "o.wasm: the file could not be written",
-        ),
-        (Stop::Fault(Access::Printed), "standard output: "),
-        (
-            Stop::BadComponent {
-                path: "a.wasm",
-                error: ShapeError::Form(4),
-            },
-            "a.wasm: ",
-        ),
-        (
-            Stop::NotBuilt { path: "a.wasm" },
-            "a.wasm: a component that imports something",
-        ),
-        (
-            Stop::TooLarge {
-                path: "o.wasm",
-                number: 4_294_967_296,
-            },
-            "o.wasm: 4294967296 is more than",
-        ),
-        (Stop::Usage, "these words are no command"),
-        (Stop::Memory, "out of memory"),
-    ];
-    for (stop, front) in rows {
-        let text = text_of(rt.alloc(), &stop)?;
-        assert!(rt; text.starts_with(front), "{text}");
-        assert!(rt; text.len() > front.len() + 10, "{text}");
-    }
-    Ok(())
+    let alloc = rt.alloc();
+    let path = "a.wasm";
+    says(alloc, Stop::Missing { path }, "a.wasm: ")?;
+    says(
+        alloc,
+        Stop::Fault(Access::Read(path)),
+        "a.wasm: the file could not be read",
+    )?;
+    says(
+        alloc,
+        Stop::Fault(Access::Written(path)),
+        "a.wasm: the file could not be written",
+    )?;
+    says(alloc, Stop::Fault(Access::Printed), "standard output: ")?;
+    says(
+        alloc,
+        Stop::NotBuilt { path },
+        "a.wasm: a component that imports something",
+    )
+}
+
+#[test]
+fn a_stop_of_a_form_or_a_number_says_which(rt: HostRuntime) -> Result<(), Fail> {
+    let alloc = rt.alloc();
+    let path = "a.wasm";
+    let error = ShapeError::Form(4);
+    says(alloc, Stop::BadComponent { path, error }, "a.wasm: ")?;
+    let number = 4_294_967_296;
+    says(
+        alloc,
+        Stop::TooLarge { path, number },
+        "a.wasm: 4294967296 is more than",
+    )?;
+    let form = Form::Replies;
+    says(
+        alloc,
+        Stop::Bad { path, form },
+        "a.wasm: no recorded replies",
+    )?;
+    says(alloc, Stop::Usage, "these words are no command")?;
+    says(alloc, Stop::Memory, "out of memory")
 }
 
 #[test]

@@ -6,7 +6,7 @@ use std::env;
 use std::io::{self, ErrorKind};
 use std::process::ExitCode;
 use std::rt::HostRuntime;
-use warg_base::{HostFiles, HostOut};
+use warg_base::{Files, HostFiles, HostOut, Out};
 use warg_program::{Stop, outcome, refuse};
 
 /// The words that the program was given, without its own name.
@@ -25,23 +25,35 @@ fn stopped(rt: &HostRuntime, stop: &Stop<'_>) -> ExitCode {
     ExitCode::from(stop.status())
 }
 
+/// Says why the words could not be read.
+fn unread<O: Out>(rt: &HostRuntime, error: &io::Error, out: &mut O) -> ExitCode {
+    let stop = match error.kind() {
+        ErrorKind::OutOfMemory => Stop::Memory,
+        // A word that is no UTF-8 is none of the commands.
+        _ => Stop::Usage,
+    };
+    refuse(rt.alloc(), out, &stop);
+    stopped(rt, &stop)
+}
+
+/// Does what the words ask for.
+fn done<F: Files, O: Out>(
+    rt: &HostRuntime,
+    words: &[String],
+    files: &mut F,
+    out: &mut O,
+) -> ExitCode {
+    match outcome(rt.alloc(), words, files, out) {
+        Ok(()) => ExitCode::SUCCESS,
+        Err(stop) => stopped(rt, &stop),
+    }
+}
+
 fn main(rt: HostRuntime) -> ExitCode {
     let mut files = HostFiles::new(&rt);
     let mut out = HostOut::new(&rt);
-    let words = match words_of(&rt) {
-        Ok(words) => words,
-        Err(error) => {
-            let stop = match error.kind() {
-                ErrorKind::OutOfMemory => Stop::Memory,
-                // A word that is no UTF-8 is none of the commands.
-                _ => Stop::Usage,
-            };
-            refuse(rt.alloc(), &mut out, &stop);
-            return stopped(&rt, &stop);
-        }
-    };
-    match outcome(rt.alloc(), &words, &mut files, &mut out) {
-        Ok(()) => ExitCode::SUCCESS,
-        Err(stop) => stopped(&rt, &stop),
+    match words_of(&rt) {
+        Ok(words) => done(&rt, &words, &mut files, &mut out),
+        Err(error) => unread(&rt, &error, &mut out),
     }
 }

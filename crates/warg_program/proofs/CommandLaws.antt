@@ -1,6 +1,6 @@
 -- The words of commands.
 use Rattle.std.proofs.Common.{◌≡◌, ◌≤◌, ◌<◌, ℕ, List, [], ◌∷◌, length, get_or, refl, sym, ap, ◌∙◌, arith}
-use Rattle.warg_program.specs.Command.{Link, IsCommand}
+use Rattle.warg_program.specs.Command.{Asked, Link, Assemble, IsCommand}
 
 -- a list of three
 pub three_are : {X : Type 0} (xs : List X) (a b c : X) → 3 ≤ length xs → length xs < 4 → xs ≡ get_or xs 0 a ∷ get_or xs 1 b ∷ get_or xs 2 c ∷ []
@@ -10,6 +10,26 @@ three_are (x ∷ y ∷ []) a b c least most = absurd (omega arith)
 three_are (x ∷ y ∷ z ∷ []) a b c least most = refl
 three_are (x ∷ y ∷ z ∷ w ∷ xs) a b c least most = absurd (omega arith)
 
+-- a list of five
+pub five_are : {X : Type 0} (xs : List X) (a b c d e : X) → 5 ≤ length xs → length xs < 6
+    → xs ≡ get_or xs 0 a ∷ get_or xs 1 b ∷ get_or xs 2 c ∷ get_or xs 3 d ∷ get_or xs 4 e ∷ []
+five_are [] a b c d e least most = absurd (omega arith)
+five_are (v ∷ []) a b c d e least most = absurd (omega arith)
+five_are (v ∷ w ∷ []) a b c d e least most = absurd (omega arith)
+five_are (v ∷ w ∷ x ∷ []) a b c d e least most = absurd (omega arith)
+five_are (v ∷ w ∷ x ∷ y ∷ []) a b c d e least most = absurd (omega arith)
+five_are (v ∷ w ∷ x ∷ y ∷ z ∷ []) a b c d e least most = refl
+five_are (v ∷ w ∷ x ∷ y ∷ z ∷ u ∷ xs) a b c d e least most = absurd (omega arith)
+
+-- words of different numbers
+three_or_five : {P : Type 0} (a b c v w x y z : List ℕ) → a ∷ b ∷ c ∷ [] ≡ v ∷ w ∷ x ∷ y ∷ z ∷ [] → P
+three_or_five a b c v w x y z e = let lengths : 3 ≡ 5 = ap length e in absurd (omega (arith, lengths))
+
 -- the path of the component that words name
 pub one_root : (words : List (List ℕ)) (root out other last : List ℕ) → IsCommand words (Link root out) → IsCommand words (Link other last) → root ≡ other
 one_root words root out other last h k = ap (λ (l : List (List ℕ)). get_or l 1 []) (sym h ∙ k)
+
+-- words that are a link are no other command
+pub is_link : {P : Type 0} (words : List (List ℕ)) (root out : List ℕ) (c : Asked) → IsCommand words (Link root out) → IsCommand words c → ((other last : List ℕ) → c ≡ Link other last → root ≡ other → P) → P
+is_link words root out (Link other last) h k then = then other last refl (one_root words root out other last h k)
+is_link words root out (Assemble sources last) h k then = three_or_five _ _ _ _ _ _ _ _ (sym h ∙ k)

@@ -1,2 +1,3 @@
 mod CommandLaws
+mod SourceLaws
 mod StopLaws

@@ -1,5 +1,9 @@
 pub mod World
 pub mod Command
+pub mod Variants
+pub mod Lines
 pub mod Stop
 pub mod Link
+pub mod Assembly
+pub mod Delivery
 pub mod Run

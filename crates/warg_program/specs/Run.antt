@@ -1,23 +1,35 @@
 -- A run of the program: what it does for its words, and why it stops.
 use Rattle.std.specs.Prelude.{◌≡◌, ◌⊎◌, ℕ, List, ◌≤◌}
-use Rattle.warg_program.specs.World.{World, SameFiles, PrintsNothing, PrintsPartly}
-use Rattle.warg_program.specs.Command.{Asked, Link, IsCommand, IsNoCommand}
-use Rattle.warg_program.specs.Link.{LinkDone, LinkHolds, LinkStops}
+use Rattle.warg_program.specs.World.{SeenFiles, World, SameFiles, PrintsNothing, PrintsPartly}
+use Rattle.warg_program.specs.Command.{Asked, Link, Assemble, IsCommand, IsNoCommand, out_of}
+use Rattle.warg_program.specs.Link.{IsLink, IsLinkCause}
+use Rattle.warg_program.specs.Assembly.{IsAssembly, IsAssemblyCause}
+use Rattle.warg_program.specs.Delivery.{Delivers, Undelivers, HoldsMade, StopsAtOnce}
 use Rattle.warg_program.specs.Stop.{line_of}
 use Rattle.warg_program.specs.declared.stop.Stop.{Stop}
 use Rattle.warg_program.specs.declared.stop.Stop.TheVariants as stop
 
+-- what a command makes of files: the bytes of its file, and the lines that tell of them
+abbrev pub Makes : Asked → SeenFiles → (bytes lines : List ℕ) → Type 0
+Makes (Link root out) files bytes lines = IsLink root files bytes lines
+Makes (Assemble sources out) files bytes lines = IsAssembly sources files bytes lines
+
+-- why it makes nothing
+abbrev pub IsUnmade : Stop → Asked → (before after : SeenFiles) → Type 0
+IsUnmade s (Link root out) before after = IsLinkCause s root out before after
+IsUnmade s (Assemble sources out) before after = IsAssemblyCause s sources before after
+
 -- the command did what it is for
 abbrev pub Does : Asked → (before after : World) → Type 0
-Does (Link root out) before after = LinkDone root out before after
+Does c before after = Delivers (Makes c) (out_of c) before after
 
 -- the command stopped, for this reason
 abbrev pub Stops : Stop → Asked → (before after : World) → Type 0
-Stops s (Link root out) before after = LinkStops s root out before after
+Stops s c before after = StopsAtOnce (IsUnmade s c) before after ⊎ Undelivers (Makes c) (out_of c) before after s
 
 -- what the files hold, however the command ended
 abbrev pub Holds : Asked → (before after : World) → Type 0
-Holds (Link root out) before after = LinkHolds root out before after
+Holds c before after = SameFiles before after ⊎ HoldsMade (Makes c) (out_of c) before after
 
 -- The words are no command, and nothing was done.
 pub record RefusesWords (s : Stop) (words : List (List ℕ)) (before after : World) : Type 0 where

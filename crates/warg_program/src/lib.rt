@@ -1,16 +1,21 @@
-//! The program's commands, over any files and any output: `link ROOT OUT`.
+//! The program's commands, over any files and any output: `link ROOT OUT` and `assemble PLAN REPLIES CHECKED OUT`.
 //!
 //! [`run`] gives the exit status, and [`outcome`] the cause beside it. The program `warg` hands them the host's words,
 //! files and output.
 #![tactic(auto)]
 
+mod assemble;
 mod command;
+mod delivery;
 mod lines;
 mod link;
 mod program;
+mod sources;
 mod stop;
+mod variant;
 
-pub use command::{Command, command_of};
+pub use command::{Command, Sources, command_of};
 pub use lines::refuse;
 pub use program::{outcome, run};
-pub use stop::{Access, Stop};
+pub use stop::{Access, Form, Stop};
+pub use warg_replay::ClientError;

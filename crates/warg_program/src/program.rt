@@ -1,6 +1,6 @@
 //! A run of the program.
 
-ghost use Rattle.std.specs.Prelude.{◌≡◌, ◌≤◌, ◌⊎◌, ℕ, List, Some, map, IfErr, OnOk, string_bytes};
+ghost use Rattle.std.specs.Prelude.{◌≡◌, ◌≤◌, ◌⊎◌, ℕ, List, Some, map, IfOk, IfErr, OnOk, string_bytes};
 ghost use Rattle.warg_values.specs.Faults.{Rose};
 ghost use Rattle.warg_base.specs.Files.{FileMap, file_at};
 ghost use Rattle.comp_entity.specs.Entity.{ShapeTree};
@@ -8,18 +8,35 @@ ghost use Rattle.comp_shape.specs.Shape.{HasShape};
 ghost use Rattle.wasm_compose.specs.Link.{LinkFits, link_exports};
 ghost use Rattle.wasm_compose.specs.Open.{IsOpen};
 ghost use Rattle.warg_program.specs.World.{seen_files, seen_output, world};
-ghost use Rattle.warg_program.specs.Command.{Link, IsCommand};
-ghost use Rattle.warg_program.specs.Run.{IsDone, IsShortOfMemory, IsStop, IsStopped, MayHold};
+ghost use Rattle.warg_program.specs.Command.{Link, IsCommand, asked};
+ghost use Rattle.warg_program.specs.Run.{IsDone, IsShortOfMemory, IsStop, IsStopped, IsUnmade, Makes, MayHold};
 ghost use Rattle.warg_program.specs.Stop.{status_of};
 ghost use Rattle.warg_program.specs.declared.stop.Stop.{Stop as AnyStop};
 
+use crate::assemble::assembled;
 use crate::command::{Command, command_of};
+use crate::delivery::{Made, deliver};
 use crate::lines::refuse;
-use crate::link::link;
+use crate::link::linked;
 use crate::stop::Stop;
 use comp_shape::laws::one_shape;
 use std::alloc::Global;
 use warg_base::{Files, Out};
+
+/// What a command makes. Nothing is written yet.
+fn make<'a, F: Files>(alloc: Global, command: &Command<'a>, files: &mut F) -> Result<Made, Stop<'a>>
+    ensures never_falls { F.faults files.old ≤ F.faults files.new }
+    ensures kept { F.told files.new ≡ F.told files.old }
+    ensures made { IfOk result (λ made. Makes (asked command.now)
+        (seen_files (F.told files.old) (F.faults files.old)) made.bytes.items (string_bytes made.lines)) }
+    ensures unmade { IfErr result (λ stop. IsUnmade stop (asked command.now)
+        (seen_files (F.told files.old) (F.faults files.old)) (seen_files (F.told files.new) (F.faults files.new))) }
+{
+    match *command {
+        Command::Link { root, out } => linked(alloc, files, root, out),
+        Command::Assemble { sources, .. } => assembled(alloc, files, sources),
+    }
+}
 
 /// Does what the words ask for. The line of a stop is not printed yet.
 fn perform<'a, F: Files, O: Out>(
@@ -45,10 +62,11 @@ fn perform<'a, F: Files, O: Out>(
         (seen_output (O.told out.new) (O.faults out.new)) in
         IfErr result (λ stop. IsStopped stop (map string_bytes words.now) before after) }
 {
-    match command_of(words) {
-        None => Err(Stop::Usage),
-        Some(Command::Link { root, out: path }) => link(alloc, files, out, root, path),
-    }
+    let Some(command) = command_of(words) else {
+        return Err(Stop::Usage);
+    };
+    let made = make(alloc, &command, files)?;
+    deliver(alloc, files, out, command.out(), &made)
 }
 
 /// What [`run`] does, with the cause where it stops.
@@ -103,23 +121,27 @@ pub fn outcome<'a, F: Files, O: Out>(
 /// Runs the command that the words are, and gives the exit status of the program.
 ///
 /// `link ROOT OUT` reads the component in the file ROOT and writes, into the file OUT, the component that nests it, makes
-/// one instance of it and exports that instance's exports. The line `bytes LENGTH HEX` tells how many bytes OUT has, and
-/// their SHA-256 in lower case. All other words are none of the commands.
+/// one instance of it and exports that instance's exports. `assemble PLAN REPLIES CHECKED OUT` reads the text of a plan, a
+/// registry's replies and the signatures that were checked, and writes, into the file OUT, the component of the plan, as a
+/// client assembles it that has kept nothing. All other words are none of the commands.
 ///
 /// | status | line | cause |
 /// |---|---|---|
-/// | 0 | `bytes LENGTH HEX` | OUT is written |
+/// | 0 | `bytes LENGTH HEX` | OUT is written by `link`: how many bytes it has, and their SHA-256 in lower case |
+/// | 0 | `entry PACKAGE VERSION DIGEST KEY`, `bundle LENGTH HEX` | OUT is written by `assemble`: a line for each entry of the plan, and that of OUT |
 /// | 2 | `usage` | the words are no command |
-/// | 3 | `missing PATH` | there is no file ROOT |
-/// | 4 | `fault` | the files failed, or the output did at the line of status 0 |
+/// | 3 | `missing PATH` | there is no file at PATH, which is to be read |
+/// | 4 | `fault` | the files failed, or the output did at the lines of status 0 |
+/// | 5 | `bad PATH` | PLAN is no UTF-8 text, or REPLIES or CHECKED has another form |
 /// | 6 | `refused BadComponent` | ROOT is no component, or has no shape |
 /// | 6 | `refused NotBuilt` | ROOT imports something, or an export of it mentions a resource |
 /// | 6 | `refused TooLarge` | a length, a count or an index of OUT would be above 2^32 - 1 |
-/// | 7 | `memory` | no memory was left, or more than 200 scopes, or a thousand types, of ROOT lie in each other |
+/// | 6 | `refused VARIANT` | the plan is not assembled: the variant of the client's error |
+/// | 7 | `memory` | no memory was left, or more than 200 scopes, or a thousand types, of a component lie in each other |
 ///
-/// With the statuses 2, 3 and 6 no file changes. With 4 and 7 OUT is as it was, holds a front of the new bytes, or is
-/// written whole where its line was not printed. A line that tells of a stop and that the output does not take changes no
-/// status.
+/// With the statuses 2, 3, 5 and 6 no file changes. With 4 and 7 OUT is as it was, holds a front of the new bytes, or is
+/// written whole where its lines were not all printed. A line that tells of a stop and that the output does not take
+/// changes no status.
 pub fn run<F: Files, O: Out>(alloc: Global, words: &[String], files: &mut F, out: &mut O) -> u8
     ensures files_never_fall { F.faults files.old ≤ F.faults files.new }
     ensures out_never_falls { O.faults out.old ≤ O.faults out.new }

@@ -6,6 +6,8 @@ ghost use Rattle.warg_program.specs.Stop.{status_of};
 use comp_shape::ShapeError;
 use std::fmt;
 use warg_base::FileError;
+use warg_recorded::FormError;
+use warg_replay::ClientError;
 use wasm_compose::ComposeError;
 
 /// What was asked of the outside when it failed.
@@ -19,10 +21,21 @@ pub enum Access<'a> {
     Printed,
 }
 
+/// What a file is to be.
+#[derive(Clone, Copy, Debug, PartialEq, Eq)]
+pub enum Form {
+    /// A text in UTF-8: the plan.
+    Text,
+    /// Replies of registries, as they were recorded.
+    Replies,
+    /// Signatures that were checked.
+    Signatures,
+}
+
 /// Why nothing was done, or not all.
 ///
 /// Its `Display` is for people: the file, the cause, and what to do.
-#[derive(Clone, Copy, Debug)]
+#[derive(Debug, Drop)]
 pub enum Stop<'a> {
     /// The words are no command: status 2.
     Usage,
@@ -30,12 +43,16 @@ pub enum Stop<'a> {
     Missing { path: &'a str },
     /// Files or the output failed: status 4.
     Fault(Access<'a>),
+    /// The file at this path has not this form: status 5.
+    Bad { path: &'a str, form: Form },
     /// The file at this path is no component that is carried: status 6.
     BadComponent { path: &'a str, error: ShapeError },
     /// The component at this path imports something, or an export of it mentions a resource: status 6.
     NotBuilt { path: &'a str },
     /// This length, count or index of what was to be written to this path is above 2^32 - 1: status 6.
     TooLarge { path: &'a str, number: u64 },
+    /// The plan is not assembled: status 6.
+    Refused(ClientError),
     /// No memory was left: status 7.
     Memory,
 }
@@ -49,9 +66,11 @@ impl Stop<'_> {
             Stop::Usage => 2,
             Stop::Missing { .. } => 3,
             Stop::Fault(_) => 4,
+            Stop::Bad { .. } => 5,
             Stop::BadComponent { .. } => 6,
             Stop::NotBuilt { .. } => 6,
             Stop::TooLarge { .. } => 6,
+            Stop::Refused(_) => 6,
             Stop::Memory => 7,
         }
     }
@@ -80,18 +99,33 @@ impl fmt::Display for Access<'_> {
     }
 }
 
+impl fmt::Display for Form {
+    fn fmt<W: fmt::Write>(&self, f: &mut fmt::Formatter<W>) -> fmt::Result {
+        match self {
+            Form::Text => write!(f, "the plan is no UTF-8 text: save it as one"),
+            Form::Replies => write!(f, "no recorded replies: {}", FormError::Form),
+            Form::Signatures => write!(f, "no checked signatures: {}", FormError::Form),
+        }
+    }
+}
+
 impl fmt::Display for Stop<'_> {
     fn fmt<W: fmt::Write>(&self, f: &mut fmt::Formatter<W>) -> fmt::Result {
         match self {
-            Stop::Usage => write!(f, "these words are no command: write `warg link ROOT OUT`"),
+            Stop::Usage => write!(
+                f,
+                "these words are no command: write `warg link ROOT OUT` or `warg assemble PLAN REPLIES CHECKED OUT`"
+            ),
             Stop::Missing { path } => write!(f, "{path}: {}", FileError::Missing),
             Stop::Fault(access) => write!(f, "{access}"),
+            Stop::Bad { path, form } => write!(f, "{path}: {form}"),
             Stop::BadComponent { path, error } => write!(f, "{path}: {error}"),
             Stop::NotBuilt { path } => write!(f, "{path}: {}", ComposeError::NotBuilt),
             Stop::TooLarge { path, number } => write!(
                 f,
                 "{path}: {number} is more than a component can count: make the component smaller"
             ),
+            Stop::Refused(error) => write!(f, "{error}"),
             Stop::Memory => write!(
                 f,
                 "out of memory: free some, or give the program more; over 200 scopes or 1000 types in each other end so"

@@ -1,7 +1,10 @@
-use Rattle.std.proofs.Common.{◌∙◌, inr}
-use Rattle.warg_program.proofs.StopLaws.{status_short}
+use Rattle.std.proofs.Common.{◌∙◌, inr, sym}
+use Rattle.warg_program.proofs.StopLaws.{never_zero, status_short}
 use Rattle.warg_program.proofs.program.run.Goals as goal
 
 pub returns-in-Err-clause-complete : goal.returns-in-Err-clause-complete
 returns-in-Err-clause-complete g c = λ root path held bytes tree asked told there has_shape not_open fits files out.
     inr (c.status.ensures ∙ status_short c.in-Err.stop (c.in-Err.ensures.complete root path held bytes tree asked told there has_shape not_open fits files out))
+
+pub returns-in-Err-clause-done : goal.returns-in-Err-clause-done
+returns-in-Err-clause-done g c = λ zero. never_zero c.in-Err.stop (sym c.status.ensures ∙ zero)

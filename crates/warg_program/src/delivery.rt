@@ -1,0 +1,58 @@
+//! What a command makes, written to its file and told by lines.
+
+ghost use Rattle.std.specs.Prelude.{◌≤◌, IfErr, OnOk, string_bytes};
+ghost use Rattle.warg_program.specs.World.{seen_files, seen_output, world};
+ghost use Rattle.warg_program.specs.Delivery.{IsDelivered, IsUndelivered};
+
+use crate::stop::{Access, Stop};
+use std::alloc::Global;
+use warg_base::{FileError, Files, Out, OutError};
+
+/// What a command makes. It is made before anything is written, so want of memory for it leaves the file as it was.
+#[derive(Debug, Drop)]
+pub struct Made {
+    /// The bytes of the command's file.
+    pub bytes: Vec<u8>,
+    /// The lines that tell of them.
+    pub lines: String,
+}
+
+/// Writes what was made to the file at `out`, and prints its lines.
+pub fn deliver<'a, F: Files, O: Out>(
+    alloc: Global,
+    files: &mut F,
+    output: &mut O,
+    out: &'a str,
+    made: &Made,
+) -> Result<(), Stop<'a>>
+    ensures files_never_fall { F.faults files.old ≤ F.faults files.new }
+    ensures out_never_falls { O.faults output.old ≤ O.faults output.new }
+    ensures done { let before = world
+        (seen_files (F.told files.old) (F.faults files.old))
+        (seen_output (O.told output.old) (O.faults output.old)) in
+        let after = world
+        (seen_files (F.told files.new) (F.faults files.new))
+        (seen_output (O.told output.new) (O.faults output.new)) in
+        OnOk result (IsDelivered out.now made.now.bytes.items (string_bytes made.now.lines) before after) }
+    ensures stopped { let before = world
+        (seen_files (F.told files.old) (F.faults files.old))
+        (seen_output (O.told output.old) (O.faults output.old)) in
+        let after = world
+        (seen_files (F.told files.new) (F.faults files.new))
+        (seen_output (O.told output.new) (O.faults output.new)) in
+        IfErr result (λ stop.
+        IsUndelivered stop out.now made.now.bytes.items (string_bytes made.now.lines) before after) }
+{
+    match files.write(alloc, out, &made.bytes) {
+        Ok(()) => {}
+        Err(FileError::Failed) => return Err(Stop::Fault(Access::Written(out))),
+        Err(FileError::Memory) => return Err(Stop::Memory),
+        // Only a read answers this.
+        Err(FileError::Missing) => unreachable!(),
+    }
+    match output.write_all(alloc, made.lines.as_bytes()) {
+        Ok(()) => Ok(()),
+        Err(OutError::Failed) => Err(Stop::Fault(Access::Printed)),
+        Err(OutError::Memory) => Err(Stop::Memory),
+    }
+}
