@@ -1,5 +1,5 @@
 -- What is known and what is left once what an update proved was to be kept.
-use Rattle.std.proofs.Common.{◌≡◌, ℕ, ◌≤◌, Bool, cond, List, [], ◌∷◌, Option, Some, None, IfSome, ap, subst, ◌∙◌, inl, inr}
+use Rattle.std.proofs.Common.{◌≡◌, ℕ, ◌≤◌, Bool, true, false, cond, List, [], ◌∷◌, Option, Some, None, IfSome, sym, ap, subst, ◌∙◌, inl, inr}
 use Rattle.warg_log.specs.Rules.{Accepts}
 use Rattle.warg_exchange.specs.declared.exchange.Exchange.{Exchange}
 use Rattle.warg_exchange.specs.Requests.{Asker}
@@ -9,14 +9,14 @@ use Rattle.warg_session.specs.declared.error.UpdateRefusal.{UpdateRefusal}
 use Rattle.warg_store.specs.declared.error.StoreError.{StoreError}
 use Rattle.warg_store.specs.declared.error.StoreError.TheVariants as store
 use Rattle.warg_store.specs.Entry.{Entry, Whole, Unreadable, IsStoreFault, SameEntries, with_entry}
-use Rattle.warg_store.specs.Held.{Registry, Held, SameHeld, Tells, is_registry, is_package}
+use Rattle.warg_store.specs.Held.{Registry, Held, SameHeld, Tells, is_registry, is_package, operator_info}
 use Rattle.warg_store.specs.Namespaces.{Names}
 use Rattle.warg_assemble.specs.Known.{Known, registry_of}
 use Rattle.warg_assemble.specs.Parts.{Updated, known_after}
 use Rattle.warg_fetch.specs.Fetched.{IsFetchFault, IsFetched, IsGoodUpdate, IsOpeningFault, Loads, update_of, writes_in}
 use Rattle.warg_fetch.specs.Kept.{IsStoresFault, LeavesPackage}
 use Rattle.warg_fetch.specs.Refusals.{store_refusal}
-use Rattle.warg_fetch.specs.Stored.{IsOwnStore, Knows}
+use Rattle.warg_fetch.specs.Stored.{CanBeRead, IsOwnStore, IsReadable, Knows}
 use Rattle.warg_fetch.specs.WriteLaws.{knows_after, own_after}
 use Rattle.warg_fetch.specs.Writes.{Write, OperatorLog, PackageLog, LastCheckpoint, HoldsFront, with_write, without_write, with_writes, writes_of}
 use Rattle.warg_fetch.specs.declared.error.FetchError.{FetchError}
@@ -112,6 +112,26 @@ module _ (accepts : Accepts) (old loaded new : Option Held) (got : PackageUpdate
         own = own_kept k.own kept good writes (stored_front loaded new (writes_in got) stored);
         namespaces = record { held = k.namespaces.held; tells = same ∙ k.namespaces.tells; mapped = k.namespaces.mapped };
       }
+
+-- ---- what can be read
+
+can_be_with : {X : Type 0} (b : Bool) (x : X) (e : Entry X) → CanBeRead e → CanBeRead (cond b (Whole x) e)
+can_be_with true x e h = record {}
+can_be_with false x e h = h
+
+-- a store that is asked and then keeps an update can be read still
+pub readable_kept : (old loaded new : Option Held) (got : PackageUpdate) → IsReadable old → IfSome old (Tells loaded) → IfSome loaded (λ held. Tells new (with_writes held (writes_in got))) → IsReadable new
+readable_kept old loaded new got reads kept stored =
+    let t = if_some (Tells loaded) old reads.held reads.tells kept in
+    let u = if_some (λ held. Tells new (with_writes held (writes_in got))) loaded t.now t.tells stored in
+    record {
+      held = u.now;
+      tells = u.tells;
+      operators = λ r. subst CanBeRead (sym (u.same.operators r))
+          (can_be_with (is_registry got.info.registry r) (operator_info got.operator) (t.now.operators r) (subst CanBeRead (sym (t.same.operators r)) (reads.operators r)));
+      checkpoints = λ r. subst CanBeRead (sym (u.same.checkpoints r))
+          (can_be_with (is_registry got.info.registry r) got.checkpoint (t.now.checkpoints r) (subst CanBeRead (sym (t.same.checkpoints r)) (reads.checkpoints r)));
+    }
 
 -- ---- what a refusal leaves, and its cause
 

@@ -11,7 +11,7 @@ use Rattle.warg_page.specs.Logs.{Logs}
 use Rattle.warg_page.specs.Views.{logs_view}
 use Rattle.warg_update.specs.Proved.{AreAsked, Start, Proves}
 use Rattle.warg_session.specs.Recording.{Transcript}
-use Rattle.warg_session.specs.Updating.{IsBegun, IsUpdated, IsUpdateRefusal}
+use Rattle.warg_session.specs.Updating.{IsBegun, IsUpdated, IsUpdateRefusal, LeavesPages}
 use Rattle.warg_session.specs.declared.error.UpdateRefusal.{UpdateRefusal}
 use Rattle.warg_session.specs.declared.error.UpdateRefusal.TheVariants as update
 use Rattle.warg_store.specs.declared.error.StoreError.{StoreError}
@@ -49,11 +49,14 @@ module _ {T : Type 0} (asker : Registry → Asker) (known : Known) (old now : Tr
   pub begun_by : r ≡ s → start ≡ start_of known r name → IsBegun (asker r) start old now → IsBegun (asker s) (start_of known s name) old now
   begun_by is begins h = subst (λ b. IsBegun (asker s) b old now) (start_seen known r s name start is begins) (subst (λ q. IsBegun (asker q) start old now) is h)
 
-  pub cause_by : (e : UpdateRefusal) (ids jds : List (List ℕ)) (accepts : Accepts) (said : Bool → Bool) (Steps : T → Asked → T → Type 0) → ids ≡ jds → r ≡ s → start ≡ start_of known r name
-      → IsUpdateRefusal e ids accepts said (asker r) start Steps old now → IsUpdateRefusal e jds accepts said (asker s) (start_of known s name) Steps old now
-  cause_by e ids jds accepts said Steps same is begins h =
-      subst (λ i. IsUpdateRefusal e i accepts said (asker s) (start_of known s name) Steps old now) same
-      (subst (λ b. IsUpdateRefusal e ids accepts said (asker s) b Steps old now) (start_seen known r s name start is begins) (subst (λ q. IsUpdateRefusal e ids accepts said (asker q) start Steps old now) is h))
+  pub pages_by : (limit left : ℕ) → r ≡ s → LeavesPages (asker r) old now limit left → LeavesPages (asker s) old now limit left
+  pages_by limit left is h = subst (λ q. LeavesPages (asker q) old now limit left) is h
+
+  pub cause_by : (e : UpdateRefusal) (ids jds : List (List ℕ)) (accepts : Accepts) (said : Bool → Bool) (limit : ℕ) (Steps : T → Asked → T → Type 0) → ids ≡ jds → r ≡ s → start ≡ start_of known r name
+      → IsUpdateRefusal e ids accepts said limit (asker r) start Steps old now → IsUpdateRefusal e jds accepts said limit (asker s) (start_of known s name) Steps old now
+  cause_by e ids jds accepts said limit Steps same is begins h =
+      subst (λ i. IsUpdateRefusal e i accepts said limit (asker s) (start_of known s name) Steps old now) same
+      (subst (λ b. IsUpdateRefusal e ids accepts said limit (asker s) b Steps old now) (start_seen known r s name start is begins) (subst (λ q. IsUpdateRefusal e ids accepts said limit (asker q) start Steps old now) is h))
 
 -- ---- what is proved
 

@@ -1,9 +1,10 @@
 -- What the fetch of a content gives, what it leaves in the store, and why it gives nothing.
-use Rattle.std.specs.Prelude.{◌≡◌, ◌⊎◌, ℕ, List, Option, Some, None, option_map, IfSome}
+use Rattle.std.specs.Prelude.{◌≡◌, ◌⊎◌, ℕ, true, List, Option, Some, None, option_map, IfSome}
 use Rattle.warg_exchange.specs.declared.exchange.Exchange.{Exchange}
 use Rattle.warg_exchange.specs.Requests.{Asker}
 use Rattle.warg_api.specs.Download.{Downloads, IsDownloadFault}
 use Rattle.warg_api.specs.Link.{Asked}
+use Rattle.warg_api.specs.declared.error.ClientError.{ClientError}
 use Rattle.warg_session.specs.Recording.{Transcript, IsRecorded, AreKept}
 use Rattle.warg_store.specs.declared.error.StoreError.{StoreError}
 use Rattle.warg_store.specs.Contents.{Contents, TellsContents, LeavesContent, IsContentFault, IsStoreContentFault, with_content}
@@ -36,27 +37,31 @@ module _ {T : Type 0} (a : Asker) (digest : List ℕ) (Steps : T → Asked → T
     pub downloaded : IsDownloaded bytes
     pub fault : IsStoreContentFault e bytes (Some digest) before after
 
+  -- no reply was lost, and a download gives nothing
+  pub record IsUndownloaded (e : ClientError) : Type 0 where
+    pub whole : now.is_whole ≡ true
+    pub fault : IsDownloadFault a digest e (IsRecorded Steps) begun now
+
   -- why a download gives nothing
   abbrev pub IsDownloadCause : LoadError → Type 0
   IsDownloadCause (error.Store e) = ⊥
-  IsDownloadCause (error.Call e) = IsDownloadFault a digest e (IsRecorded Steps) begun now
+  IsDownloadCause (error.Call e) = IsUndownloaded e
   IsDownloadCause error.Memory = Unit {0}
 
   -- why a content is not downloaded and kept
   abbrev pub IsStoreCause : LoadError → ℕ → ℕ → Type 0
   IsStoreCause (error.Store e) before after = IsUnstored e before after
-  IsStoreCause (error.Call e) before after = IsDownloadFault a digest e (IsRecorded Steps) begun now
+  IsStoreCause (error.Call e) before after = IsUndownloaded e
   IsStoreCause error.Memory before after = Unit {0}
 
-  -- why a content is not fetched: the store does not give it, or does not keep it; or it is not kept, and the download
-  -- gives nothing. Want of memory says nothing
+  -- why a content is not fetched: the store does not give it; or it is not held, and the store does not keep it, or the
+  -- download gives nothing. Want of memory says nothing
   abbrev pub IsLoadRefusal : LoadError → Loads Contents → Type 0
   IsLoadRefusal (error.Store e) contents =
       IsContentFault e digest contents.before contents.after
       (option_map (λ (held : Contents). held digest) contents.told)
-      ⊎ IsUnstored e contents.before contents.after
-  IsLoadRefusal (error.Call e) contents =
-      IfSome contents.told (λ held. held digest ≡ None) × IsDownloadFault a digest e (IsRecorded Steps) begun now
+      ⊎ (IfSome contents.told (λ held. held digest ≡ None) × IsUnstored e contents.before contents.after)
+  IsLoadRefusal (error.Call e) contents = IfSome contents.told (λ held. held digest ≡ None) × IsUndownloaded e
   IsLoadRefusal error.Memory contents = Unit {0}
 
   -- bytes that were downloaded, or a front of them, are held besides

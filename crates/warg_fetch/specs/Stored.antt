@@ -30,6 +30,19 @@ log_in Unreadable = []
 abbrev pub mapped_in : Entry Names → List ℕ → Registry
 mapped_in names namespace = lookup (λ n. bytes_eq namespace n) (names_of names)
 
+-- an entry is none that can't be read
+abbrev pub CanBeRead : {X : Type 0} → Entry X → Type 0
+CanBeRead Absent = Unit {0}
+CanBeRead (Whole x) = Unit {0}
+CanBeRead Unreadable = ⊥
+
+-- a store tells what it holds, and each operator and checkpoint in it can be read
+pub record IsReadable (told : Option Held) : Type 0 where
+  pub held : Held
+  pub tells : told ≡ Some held
+  pub operators : (r : Registry) → CanBeRead (held.operators r)
+  pub checkpoints : (r : Registry) → CanBeRead (held.checkpoints r)
+
 -- ---- what is known
 
 -- a store tells what it holds of registries, and this is what is known of them

@@ -37,11 +37,12 @@ fn download<L: Link>(
     ensures fault { IfErr result (λ e. IsDownloadCause (asker client.now (option_copied registry.entry)) digest.now
         L.Steps (transcript L.told link.old) (transcript L.told link.new) e) }
 {
-    let bytes = client.download_whole(alloc, link, registry, digest)?;
+    let downloaded = client.download_whole(alloc, link, registry, digest);
+    // A reply that was lost for want of memory may be what the download lacks.
     if !link.is_whole() {
         return Err(LoadError::Memory);
     }
-    Ok(bytes)
+    Ok(downloaded?)
 }
 
 /// Downloads a content, and keeps it where it has the digest.

@@ -6,13 +6,13 @@ ghost use Rattle.warg_hash.specs.Hash.{package_log_id};
 ghost use Rattle.warg_exchange.specs.declared.exchange.Exchange.{Exchange as Said};
 ghost use Rattle.warg_api.specs.Asking.{asker};
 ghost use Rattle.warg_session.specs.Recording.{link_of, transcript};
-ghost use Rattle.warg_session.specs.Updating.{IsBegun, IsUpdateRefusal};
+ghost use Rattle.warg_session.specs.Updating.{IsBegun, IsUpdateRefusal, LeavesPages};
 ghost use Rattle.warg_session.specs.declared.error.UpdateRefusal.TheVariants.{LinkFault as IsLinkFault};
 ghost use Rattle.warg_assemble.specs.Known.{Known, registry_of};
 ghost use Rattle.warg_assemble.specs.Parts.{Updated, known_after, start_of};
 ghost use Rattle.warg_fetch.specs.Fetched.{IsFetchFault, IsFetched, IsSoundUpdate, update_of};
 ghost use Rattle.warg_fetch.specs.Kept.{IsStoresFault, LeavesPackage};
-ghost use Rattle.warg_fetch.specs.Stored.{IsOwnStore, Knows};
+ghost use Rattle.warg_fetch.specs.Stored.{IsOwnStore, IsReadable, Knows};
 ghost use Rattle.warg_fetch.specs.declared.error.FetchError.TheVariants.{Update as IsUpdateFault};
 
 use crate::error::FetchError;
@@ -65,10 +65,12 @@ impl<V: Verifier> Fetcher<'_, V> {
         ensures own { (known : Known)
             → Knows (V.good self.now.verifier.now) (R.told registries.old) (N.told namespaces.old) known
             → IsOwnStore (V.good self.now.verifier.now) (R.told registries.new) }
+        ensures readable { OnOk result (IsReadable (R.told registries.old) → IsReadable (R.told registries.new)) }
         ensures sound { IfOk result IsSoundUpdate }
         ensures pages { IfOk result (λ got. (known : Known)
             → Knows (V.good self.now.verifier.now) (R.told registries.old) (N.told namespaces.old) known
-            → got.pages_left ≤ self.now.settings.round_limit) }
+            → LeavesPages (asker self.now.client.now (registry_of known name.now)) (transcript L.told link.old)
+            (transcript L.told link.new) self.now.settings.round_limit got.pages_left) }
         ensures unasked { OnOk result ((known : Known)
             → Knows (V.good self.now.verifier.now) (R.told registries.old) (N.told namespaces.old) known
             → decide.new ≡ decide.old) }
@@ -93,7 +95,8 @@ impl<V: Verifier> Fetcher<'_, V> {
               told = N.told namespaces.old;
             }))
             (λ e. IsUpdateRefusal e (package_log_id name.now ∷ []) (V.good self.now.verifier.now)
-            (D.said decide.old decide.new) (asker self.now.client.now (registry_of known name.now))
+            (D.said decide.old decide.new) self.now.settings.round_limit
+            (asker self.now.client.now (registry_of known name.now))
             (start_of known (registry_of known name.now) name.now) L.Steps
             (transcript L.told link.old) (transcript L.told link.new))) }
     {

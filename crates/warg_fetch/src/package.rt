@@ -9,7 +9,7 @@ ghost use Rattle.warg_api.specs.Asking.{asker};
 ghost use Rattle.warg_page.specs.Steps.{AreGood, IsGoodOperator};
 ghost use Rattle.warg_page.specs.Views.{AreSound, logs_view};
 ghost use Rattle.warg_session.specs.Recording.{link_of, transcript};
-ghost use Rattle.warg_session.specs.Updating.{IsBegun, IsUpdateRefusal};
+ghost use Rattle.warg_session.specs.Updating.{IsBegun, IsUpdateRefusal, LeavesPages};
 ghost use Rattle.warg_session.specs.declared.error.UpdateRefusal.TheVariants.{LinkFault as IsLinkFault};
 ghost use Rattle.warg_store.specs.Held.{Tells};
 ghost use Rattle.warg_assemble.specs.Known.{Known, registry_of};
@@ -142,7 +142,8 @@ impl<V: Verifier> Fetcher<'_, V> {
             → IsGoodUpdate (V.good self.now.verifier.now) got) }
         ensures pages { IfOk result (λ got. (known : Known)
             → Knows (V.good self.now.verifier.now) (R.told registries.old) (N.told namespaces.old) known
-            → got.pages_left ≤ self.now.settings.round_limit) }
+            → LeavesPages (asker self.now.client.now (registry_of known name.now)) (transcript L.told link.old)
+            (transcript L.told link.new) self.now.settings.round_limit got.pages_left) }
         ensures unasked { OnOk result ((known : Known)
             → Knows (V.good self.now.verifier.now) (R.told registries.old) (N.told namespaces.old) known
             → decide.new ≡ decide.old) }
@@ -166,7 +167,8 @@ impl<V: Verifier> Fetcher<'_, V> {
               told = N.told namespaces.old;
             }))
             (λ e. IsUpdateRefusal e (package_log_id name.now ∷ []) (V.good self.now.verifier.now)
-            (D.said decide.old decide.new) (asker self.now.client.now (registry_of known name.now))
+            (D.said decide.old decide.new) self.now.settings.round_limit
+            (asker self.now.client.now (registry_of known name.now))
             (start_of known (registry_of known name.now) name.now) L.Steps
             (transcript L.told link.old) (transcript L.told link.new))) }
     {

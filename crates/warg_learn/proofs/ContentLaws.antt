@@ -1,5 +1,5 @@
 -- What a content teaches a learner, and what is left where it teaches nothing.
-use Rattle.std.proofs.Common.{◌≡◌, ℕ, ◌≤◌, Bool, true, List, Some, IfSome, bytes_eq, refl, sym, ap, subst, ◌∙◌, inl, inr}
+use Rattle.std.proofs.Common.{◌≡◌, ◌+◌, ℕ, ◌≤◌, Bool, true, List, Some, IfSome, bytes_eq, refl, sym, ap, subst, ◌∙◌, inl, inr, arith}
 use Rattle.std.specs.Map.{lookup}
 use Rattle.sha2.specs.Sha256.{sha256}
 use Rattle.warg_values.specs.Faults.{Rose}
@@ -13,7 +13,7 @@ use Rattle.warg_assemble.specs.Parts.{Load, Loaded, Comes, updated_under}
 use Rattle.warg_fetch.specs.declared.error.LoadError.{LoadError}
 use Rattle.warg_fetch.specs.declared.error.LoadError.TheVariants as load
 use Rattle.warg_fetch.specs.Loaded.{IsContentFetched, IsLoadRefusal, LeavesFetch, with_bytes}
-use Rattle.warg_fetch.specs.Stored.{IsOwn, KnowsContents}
+use Rattle.warg_fetch.specs.Stored.{CanBeRead, IsOwn, KnowsContents}
 use Rattle.warg_learn.specs.Learnt.{IsLearnt}
 use Rattle.warg_learn.specs.Refusals.{load_refusal}
 use Rattle.warg_learn.specs.Seen.{Seen, IsSame, NeverFalls, updated_in, content_loads}
@@ -113,7 +113,7 @@ module _ {T D : Type 0} (Steps : T → Asked → T → Type 0) (old new : Seen T
   abbrev pub load_since : Content → Load
   load_since content = record { registry = registry; digest = digest; exchanges = since old.transcript new.transcript; content = content }
 
-  pub content_learnt : (Reads : Content → Type 0) (content : Content) (bytes : List ℕ) → IsTaught bytes → content.bytes ≡ bytes → new.pages_left ≤ old.pages_left → new.decider ≡ old.decider → Reads content
+  pub content_learnt : (Reads : Content → Type 0) (content : Content) (bytes : List ℕ) → IsTaught bytes → content.bytes ≡ bytes → new.pages_left ≡ old.pages_left → new.decider ≡ old.decider → Reads content
       → (l : Load) × (l.digest ≡ digest) × (l.content ≡ content) × IsLearnt Steps Reads old (NeedsContent name digest) (Loaded l) new
   content_learnt Reads content bytes taught same pages undecided reads = (
     load_since content,
@@ -122,6 +122,10 @@ module _ {T D : Type 0} (Steps : T → Asked → T → Type 0) (old new : Seen T
     record {
       same = taught.rest.same;
       never_falls = taught.rest.never_falls;
+      reads = λ all. record {
+        registries = record { held = all.registries.held; tells = taught.rest.registries ∙ all.registries.tells; operators = all.registries.operators; checkpoints = all.registries.checkpoints };
+        names = subst (λ o. IfSome o CanBeRead) (sym taught.rest.names) all.names;
+      };
       right = λ known k.
           let f = taught.fetched known k.contents in
           let xs = since_is old.transcript new.transcript f.exchanges f.kept.exchanges in
@@ -153,7 +157,7 @@ module _ {T D : Type 0} (Steps : T → Asked → T → Type 0) (old new : Seen T
               contents = let c : KnowsContents new.contents (with_bytes known digest content.bytes) = subst (λ bs. KnowsContents new.contents (with_bytes known digest bs)) (sym same) kept in record { held = c.held; tells = c.tells; contents = c.contents };
               updated = λ n. k.updated n ∙ ap (λ es. lookup (λ m. bytes_eq n m) es) (sym taught.rest.updated);
             };
-            pages = pages;
+            pages = omega (arith, pages);
             undecided = undecided;
           };
     },

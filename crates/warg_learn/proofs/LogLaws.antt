@@ -1,10 +1,12 @@
 -- What the update of a package teaches a learner, and what is left where it teaches nothing.
-use Rattle.std.proofs.Common.{◌≡◌, ℕ, ◌≤◌, Bool, true, List, Some, bytes_eq, cond, refl, sym, ap, subst, ◌∙◌, inl, inr}
+use Rattle.std.proofs.Common.{◌≡◌, ◌+◌, ◌++◌, ℕ, ◌≤◌, Bool, true, List, Some, IfSome, bytes_eq, cond, refl, sym, ap, subst, ◌∙◌, inl, inr}
 use Rattle.std.specs.Map.{lookup}
 use Rattle.warg_values.specs.Faults.{Rose}
 use Rattle.warg_exchange.specs.declared.exchange.Exchange.{Exchange}
 use Rattle.warg_api.specs.Link.{Asked}
+use Rattle.warg_session.specs.Pages.{pages_asked}
 use Rattle.warg_session.specs.Recording.{AreKept}
+use Rattle.warg_session.specs.Updating.{LeavesPages}
 use Rattle.warg_session.specs.declared.error.UpdateRefusal.TheVariants as update
 use Rattle.warg_info.specs.Info.{package_log}
 use Rattle.warg_plan.specs.Keys.{Release}
@@ -16,7 +18,7 @@ use Rattle.warg_fetch.specs.declared.error.FetchError.TheVariants as fetch
 use Rattle.warg_fetch.specs.declared.package.PackageUpdate.{PackageUpdate}
 use Rattle.warg_fetch.specs.Fetched.{IsFetched, update_of}
 use Rattle.warg_fetch.specs.Kept.{LeavesPackage}
-use Rattle.warg_fetch.specs.Stored.{IsOwnStore, Knows}
+use Rattle.warg_fetch.specs.Stored.{CanBeRead, IsOwnStore, IsReadable, Knows}
 use Rattle.warg_learn.specs.Learnt.{IsLearnt}
 use Rattle.warg_learn.specs.Refusals.{fetch_refusal}
 use Rattle.warg_learn.specs.Seen.{Seen, IsSame, NeverFalls}
@@ -126,16 +128,17 @@ module _ {T D : Type 0} (Steps : T → Asked → T → Type 0) (old new : Seen T
   update_is : (got : PackageUpdate) (xs : List Exchange) → got.info.name ≡ name → since old.transcript new.transcript ≡ xs → update_since got ≡ update_of got xs
   update_is got xs named same = ap (λ n. record (update_of got (since old.transcript new.transcript)) { name = n }) (sym named) ∙ ap (λ xs. update_of got xs) same
 
-  pub log_learnt : (Reads : Content → Type 0) (got : PackageUpdate) (releases : List Release) → IsTaught got → releases_in (package_log got.info) ≡ releases → ForKnown (λ known. new.pages_left ≤ old.pages_left) → ForKnown (λ known. new.decider ≡ old.decider)
+  pub log_learnt : (Reads : Content → Type 0) (got : PackageUpdate) (releases : List Release) → IsTaught got → releases_in (package_log got.info) ≡ releases → ForKnown (λ known. LeavesPages (old.asker (registry_of known name)) old.transcript new.transcript old.pages_left new.pages_left) → ForKnown (λ known. new.decider ≡ old.decider) → (IsReadable old.registries → IsReadable new.registries)
       → (key : List ℕ) → key ≡ name → ((q : List ℕ) → lookup (λ n. bytes_eq q n) new.updated ≡ cond (bytes_eq key q) (Some got.info.registry) (lookup (λ n. bytes_eq q n) old.updated))
       → (u : Update) × (u.name ≡ name) × (releases_in u.log ≡ releases) × IsLearnt Steps Reads old (NeedsLog name) (Updated u) new
-  log_learnt Reads got releases taught are pages undecided key is_key noted = (
+  log_learnt Reads got releases taught are pages undecided reads key is_key noted = (
     update_since got,
     refl,
     are,
     record {
       same = taught.way.same;
       never_falls = taught.way.never_falls;
+      reads = λ all. record { registries = reads all.registries; names = subst (λ o. IfSome o CanBeRead) (sym taught.way.names) all.names };
       right = λ known k.
           let f = taught.fetched known k.stores in
           let xs = since_is old.transcript new.transcript f.0 f.1.kept.exchanges in
@@ -150,7 +153,11 @@ module _ {T D : Type 0} (Steps : T → Asked → T → Type 0) (old new : Seen T
               contents = knows_contents old.contents new.contents known (known_after known (Updated (update_since got))) taught.way.contents (λ digest. refl) k.contents;
               updated = noted_first old.updated new.updated known.updated name key got.info.registry is_key noted k.updated;
             };
-            pages = pages known k.stores;
+            pages =
+                let all : new.transcript.exchanges ≡ old.transcript.exchanges ++ since old.transcript new.transcript = f.1.kept.exchanges ∙ ap (λ xs. old.transcript.exchanges ++ xs) (sym xs) in
+                let under : registry_of known name ≡ got.info.registry = sym (f.1.under ∙ ap (registry_of known) (taught.named known k.stores)) in
+                subst (λ r. new.pages_left + pages_asked (old.asker r) (since old.transcript new.transcript) ≡ old.pages_left) under
+                (pages known k.stores (since old.transcript new.transcript) all);
             undecided = undecided known k.stores;
           };
     },

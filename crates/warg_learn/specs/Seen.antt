@@ -1,5 +1,5 @@
 -- What is seen of a learner, and what is known by it.
-use Rattle.std.specs.Prelude.{◌≡◌, ◌≤◌, ℕ, List, Option, bytes_eq}
+use Rattle.std.specs.Prelude.{◌≡◌, ◌≤◌, ℕ, List, Option, IfSome, bytes_eq}
 use Rattle.std.specs.Map.{lookup}
 use Rattle.warg_log.specs.Rules.{Accepts}
 use Rattle.warg_exchange.specs.Requests.{Asker}
@@ -12,7 +12,7 @@ use Rattle.warg_store.specs.Namespaces.{Names}
 use Rattle.warg_assemble.specs.Known.{Known}
 use Rattle.warg_assemble.specs.Parts.{updated_under}
 use Rattle.warg_fetch.specs.Fetched.{Loads}
-use Rattle.warg_fetch.specs.Stored.{Knows, KnowsContents}
+use Rattle.warg_fetch.specs.Stored.{CanBeRead, IsReadable, Knows, KnowsContents}
 use Rattle.warg_learn.specs.declared.learner.Learner.{Learner}
 
 -- how many calls of a link and of stores have failed so far
@@ -80,6 +80,11 @@ module _ {T D : Type 0} where
     pub stores : Knows s.accepts s.registries s.names known
     pub contents : KnowsContents s.contents known
     pub updated : (name : List ℕ) → updated_under known name ≡ updated_in s name
+
+  -- each entry that its stores of registries and of names hold can be read
+  pub record ReadsStores (s : Seen T D) : Type 0 where
+    pub registries : IsReadable s.registries
+    pub names : IfSome s.names CanBeRead
 
   -- what stays between two moments: by which signatures a learner goes, and as whom it asks
   pub record IsSame (old new : Seen T D) : Type 0 where

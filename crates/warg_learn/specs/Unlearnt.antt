@@ -99,7 +99,7 @@ module _ {T D : Type 0} (Steps : T → Asked → T → Type 0) (old new : Seen T
         IsFetchFault e
         (λ e. IsStoresFault old.accepts old.asker known name Steps old.transcript new.transcript e
         (registry_loads old new) (name_loads old new))
-        (λ e. IsUpdateRefusal e (package_log_id name ∷ []) old.accepts (said old.decider new.decider)
+        (λ e. IsUpdateRefusal e (package_log_id name ∷ []) old.accepts (said old.decider new.decider) old.pages_left
         (old.asker (registry_of known name)) (start_of known (registry_of known name) name) Steps
         old.transcript new.transcript)
 

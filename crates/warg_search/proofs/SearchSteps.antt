@@ -1,28 +1,31 @@
 -- How a search goes on, and how it ends.
 use Rattle.std.proofs.Common.{◌≡◌, List, [], ◌∷◌, ◌++◌, Option, Some, IfSome, Result, Ok, Err, refl, sym, ap, subst, ◌∙◌, inl, inr}
+use Rattle.warg_hash.specs.declared.hash.AnyHash.{AnyHash}
+use Rattle.warg_hash.specs.declared.name.PackageName.{PackageName}
 use Rattle.warg_plan.specs.Walk.{Facts, Stop, Entry, nothing_known}
 use Rattle.warg_plan.specs.View.{stop_view}
 use Rattle.warg_plan.specs.declared.stop.Stop.{Stop as Stopped}
 use Rattle.warg_plan.specs.declared.stop.Stop.TheVariants as stopped
 use Rattle.warg_assemble.specs.Parts.{Part, learnt, learnt_by}
 use Rattle.warg_assemble.specs.Session.{Wanted, walked}
-use Rattle.warg_search.specs.Search.{AreLearnt, IsUnderWay, HasLearnt, Finds, IsSearchRefusal}
+use Rattle.warg_search.specs.Search.{AreLearnt, AsksFor, IsUnderWay, HasLearnt, Finds, IsSearchRefusal}
 use Rattle.warg_search.specs.SearchLaws.{learnt_more, learns_by}
 use Rattle.warg_search.specs.Steps.{IsStep, IsStepFault}
 use Rattle.warg_search.specs.declared.error.SearchError.{SearchError}
 use Rattle.warg_search.specs.declared.error.SearchError.TheVariants as error
 
--- a stop that is no want of memory is one of the walk's
-pub told_by : (s : Stopped) → (s ≡ stopped.Memory → ⊥) → (told : Stop) × (stop_view s ≡ Some told)
-told_by stopped.Memory h = absurd (h refl)
-told_by (stopped.NeedsLog name) h = (_, refl)
-told_by (stopped.NeedsContent name digest) h = (_, refl)
-told_by (stopped.NoPackage key) h = (_, refl)
-told_by (stopped.NoRelease name) h = (_, refl)
-told_by (stopped.BadImportName name) h = (_, refl)
-told_by (stopped.NoSuchImport key name) h = (_, refl)
-told_by (stopped.Cycle key) h = (_, refl)
-told_by stopped.TooDeep h = (_, refl)
+-- a stop that asks for nothing, and is no want of memory, is one of the walk's
+pub told_by : (s : Stopped) → (s ≡ stopped.Memory → ⊥) → ((name : PackageName) → s ≡ stopped.NeedsLog name → ⊥) → ((name : PackageName) (digest : AnyHash) → s ≡ stopped.NeedsContent name digest → ⊥)
+    → (told : Stop) × (stop_view s ≡ Some told) × (AsksFor told → ⊥)
+told_by stopped.Memory memory log content = absurd (memory refl)
+told_by (stopped.NeedsLog name) memory log content = absurd (log name refl)
+told_by (stopped.NeedsContent name digest) memory log content = absurd (content name digest refl)
+told_by (stopped.NoPackage key) memory log content = (_, refl, λ asks. asks)
+told_by (stopped.NoRelease name) memory log content = (_, refl, λ asks. asks)
+told_by (stopped.BadImportName name) memory log content = (_, refl, λ asks. asks)
+told_by (stopped.NoSuchImport key name) memory log content = (_, refl, λ asks. asks)
+told_by (stopped.Cycle key) memory log content = (_, refl, λ asks. asks)
+told_by stopped.TooDeep memory log content = (_, refl, λ asks. asks)
 
 some_told : {X : Type 0} (P : X → Type 0) (o : Option X) (x : X) → o ≡ Some x → IfSome o P → P x
 some_told P o x e h = subst (λ o. IfSome o P) e h
@@ -56,10 +59,11 @@ module _ {T : Type 0} (w : Wanted) (Learns : T → Stop → Part → T → Type 
       → IfSome (stop_view stop) (λ s. walked w f ≡ Err s) → IsStepFault Learns Refuses stop mid new e → IsSearchRefusal w Learns Refuses old new e
   refused_by Refuses mid new f stop (error.NoPlan s) u stops h = record {
     parts = u.parts;
-    are = subst (λ t. AreLearnt w Learns nothing_known old u.parts t) (sym h.3) u.are;
+    are = subst (λ t. AreLearnt w Learns nothing_known old u.parts t) (sym h.4) u.are;
     told = h.0;
     says = h.1;
-    stops = seen mid f (Err h.0) u (some_told (λ s. walked w f ≡ Err s) (stop_view stop) h.0 (ap stop_view (sym h.2) ∙ h.1) stops);
+    final = h.2;
+    stops = seen mid f (Err h.0) u (some_told (λ s. walked w f ≡ Err s) (stop_view stop) h.0 (ap stop_view (sym h.3) ∙ h.1) stops);
   }
   refused_by Refuses mid new f stop (error.Refused e) u stops h = record {
     parts = u.parts;

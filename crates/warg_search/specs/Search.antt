@@ -3,7 +3,7 @@ use Rattle.std.specs.Prelude.{◌≡◌, List, [], ◌∷◌, codes, Some, Ok, E
 use Rattle.compose_config.specs.View.{settings_of}
 use Rattle.compose_config.specs.declared.config.Config.{Config}
 use Rattle.warg_plan.specs.Keys.{Named}
-use Rattle.warg_plan.specs.Walk.{Facts, Stop, Entry, nothing_known, most_open}
+use Rattle.warg_plan.specs.Walk.{Facts, Stop, NeedsContent, NeedsLog, Entry, nothing_known, most_open}
 use Rattle.warg_plan.specs.View.{stop_view}
 use Rattle.warg_plan.specs.declared.stop.Stop.{Stop as Stopped}
 use Rattle.warg_assemble.specs.Parts.{Part, learnt, learnt_by}
@@ -14,6 +14,12 @@ use Rattle.warg_search.specs.declared.error.SearchError.TheVariants as error
 -- the plan of a text begins at its instance `root`
 abbrev pub wanted_by : Config → Wanted
 wanted_by config = record { settings = settings_of config; root = Named (codes "root"); depth = most_open }
+
+-- a stop of the walk asks for a log or a content
+abbrev pub AsksFor : Stop → Type 0
+AsksFor (NeedsLog name) = Unit {0}
+AsksFor (NeedsContent name digest) = Unit {0}
+AsksFor _ = ⊥
 
 module _ {T : Type 0} (w : Wanted) (Learns : T → Stop → Part → T → Type 0) where
   -- the walk stops over what is known, and what it asks for is learnt by this part
@@ -50,6 +56,7 @@ module _ {T : Type 0} (w : Wanted) (Learns : T → Stop → Part → T → Type 
     pub are : AreLearnt nothing_known old parts new
     pub told : Stop
     pub says : stop_view stop ≡ Some told
+    pub final : ¬ AsksFor told
     pub stops : walked w (learnt_by nothing_known parts) ≡ Err told
 
   -- over what they teach the walk asks for something that is refused

@@ -4,6 +4,7 @@ use Rattle.warg_plan.specs.Walk.{Facts, Stop}
 use Rattle.warg_plan.specs.View.{stop_view}
 use Rattle.warg_plan.specs.declared.stop.Stop.{Stop as Stopped}
 use Rattle.warg_assemble.specs.Parts.{Part, learnt}
+use Rattle.warg_search.specs.Search.{AsksFor}
 use Rattle.warg_search.specs.declared.error.SearchError.{SearchError}
 use Rattle.warg_search.specs.declared.error.SearchError.TheVariants as error
 
@@ -22,7 +23,7 @@ module _ {T : Type 0} (Learns : T → Stop → Part → T → Type 0) where
   -- why a step teaches nothing, where the walk stopped so
   abbrev pub IsStepFault : {E : Type 0} → (T → Stop → E → T → Type 0) → Stopped → T → T → SearchError E → Type 0
   IsStepFault Refuses stopped old new (error.NoPlan stop) =
-      (told : Stop) × (stop_view stop ≡ Some told) × (stop ≡ stopped) × (new ≡ old)
+      (told : Stop) × (stop_view stop ≡ Some told) × (¬ AsksFor told) × (stop ≡ stopped) × (new ≡ old)
   IsStepFault Refuses stopped old new (error.Refused e) =
       (asked : Stop) × (stop_view stopped ≡ Some asked) × Refuses old asked e new
   IsStepFault Refuses stopped old new error.Memory =

@@ -1,3 +1,4 @@
+mod PageSteps
 mod RecordingSteps
 mod RunSteps
 mod TakenReplies

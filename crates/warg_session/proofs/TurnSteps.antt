@@ -10,7 +10,7 @@ use Rattle.warg_exchange.specs.declared.exchange.Reply.{Reply}
 use Rattle.warg_exchange.specs.Requests.{Asker}
 use Rattle.warg_api.specs.Link.{Asked, answered}
 use Rattle.warg_update.specs.Proved.{Start, Asks}
-use Rattle.warg_update.specs.Standing.{Stands, Advances, IsRefused, request_at}
+use Rattle.warg_update.specs.Standing.{Stands, Advances, Counts, IsRefused, request_at}
 use Rattle.warg_update.specs.FeedFaults.{AsksDecision}
 use Rattle.warg_update.specs.declared.step.UpdateStep.{UpdateStep}
 use Rattle.warg_session.specs.Recording.{Transcript, IsKept, exchange}
@@ -18,6 +18,7 @@ use Rattle.warg_session.specs.RecordingLaws.{one_more_kept}
 use Rattle.warg_session.specs.Turns.{IsSilent, IsUnanswered, IsAnswered, IsUnasked, IsUnfit}
 use Rattle.warg_session.specs.Updating.{IsBegun, IsUnderWay, IsUpdateRefusal, IsRefusedTurn}
 use Rattle.warg_session.specs.declared.error.UpdateRefusal.{UpdateRefusal}
+use Rattle.warg_session.proofs.PageSteps.{counted_on}
 use Rattle.warg_session.proofs.TakenReplies.{no_decision}
 use Rattle.warg_session.specs.declared.error.UpdateRefusal.TheVariants as refusal
 
@@ -34,9 +35,9 @@ at_some P (Some y) x is h = subst P (cc) h
 abbrev pub Replied : {T : Type 0} → Asker → (T → Asked → T → Type 0) → Transcript T → UpdateStep → Transcript T → ℕ → Type 0
 Replied a Steps now step next place = (accepts : Accepts) (start : Start) (xs : List Exchange) → Stands accepts a start step xs → IsAnswered Steps now a step place next
 
-module _ {T : Type 0} (accepts : Accepts) (said : Bool → Bool) (a : Asker) (start : Start) (Steps : T → Asked → T → Type 0) (begun : Transcript T) where
+module _ {T : Type 0} (accepts : Accepts) (said : Bool → Bool) (limit : ℕ) (a : Asker) (start : Start) (Steps : T → Asked → T → Type 0) (begun : Transcript T) where
   abbrev On : Transcript T → UpdateStep → Type 0
-  On now step = IsUnderWay accepts a start Steps begun now step
+  On now step = IsUnderWay accepts a start Steps begun now limit step
 
   -- an update that is under way has begun, and so it has where nothing more is kept
   pub begun_by : (now : Transcript T) (step : UpdateStep) → On now step → IsBegun a start begun now
@@ -46,15 +47,19 @@ module _ {T : Type 0} (accepts : Accepts) (said : Bool → Bool) (a : Asker) (st
   begun_still now next step same w = record { exchanges = w.0; kept = same ∙ w.1.kept.exchanges; asked = w.1.stands.asked }
 
   -- with a reply to what was asked an update goes on
-  pub goes_on : (now next : Transcript T) (old new : UpdateStep) (request : Request) (reply : Reply) → On now old → request_at a old ≡ Some request → IsKept Steps now (answered request reply) next → Advances accepts old reply new → On next new
-  goes_on now next old new request reply w asked kept advances = (
+  pub goes_on : (now next : Transcript T) (old new : UpdateStep) (request : Request) (reply : Reply) → On now old → request_at a old ≡ Some request → IsKept Steps now (answered request reply) next → Advances accepts old reply new → Counts old new → On next new
+  goes_on now next old new request reply w asked kept advances counts = (
     w.0 ++ exchange request reply ∷ [],
-    record { kept = one_more_kept Steps begun now next w.0 (exchange request reply) w.1.kept kept; stands = advances a start w.0 request asked w.1.stands },
+    record {
+      kept = one_more_kept Steps begun now next w.0 (exchange request reply) w.1.kept kept;
+      stands = advances a start w.0 request asked w.1.stands;
+      counted = counted_on a old new request reply w.0 limit asked counts w.1.counted;
+    },
   )
 
   -- nothing is asked next
-  pub silent : (e : UpdateRefusal) (ids : List (List ℕ)) (now : Transcript T) (step : UpdateStep) → IsSilent e a step → On now step → IsUpdateRefusal e ids accepts said a start Steps begun now
-  silent refusal.RoundLimit ids now step h w = record { step = step; under_way = w; limit = h }
+  pub silent : (e : UpdateRefusal) (ids : List (List ℕ)) (now : Transcript T) (step : UpdateStep) → IsSilent e a step → On now step → IsUpdateRefusal e ids accepts said limit a start Steps begun now
+  silent refusal.RoundLimit ids now step h w = record { step = step; under_way = w; none_left = h }
   silent refusal.BadHeader ids now step h w = h
   silent refusal.Memory ids now step h w = record {}
   silent (refusal.SameLog id) ids now step h w = absurd h
@@ -62,7 +67,7 @@ module _ {T : Type 0} (accepts : Accepts) (said : Bool → Bool) (a : Asker) (st
   silent (refusal.Reply e) ids now step h w = absurd h
 
   -- no reply comes
-  pub unanswered_is : (e : UpdateRefusal) (ids : List (List ℕ)) (now next : Transcript T) (step : UpdateStep) (request : Request) → IsUnanswered e Steps now request next → (w : On now step) → Asks a start w.0 request → IsUpdateRefusal e ids accepts said a start Steps begun next
+  pub unanswered_is : (e : UpdateRefusal) (ids : List (List ℕ)) (now next : Transcript T) (step : UpdateStep) (request : Request) → IsUnanswered e Steps now request next → (w : On now step) → Asks a start w.0 request → IsUpdateRefusal e ids accepts said limit a start Steps begun next
   unanswered_is refusal.LinkFault ids now next step request h w asks = record { exchanges = w.0; before = now; kept = w.1.kept; request = request; asks = asks; no_reply = h }
   unanswered_is refusal.Memory ids now next step request h w asks = record {}
   unanswered_is refusal.RoundLimit ids now next step request h w asks = absurd h
@@ -80,7 +85,7 @@ module _ {T : Type 0} (accepts : Accepts) (said : Bool → Bool) (a : Asker) (st
 
   -- the reply is refused
   pub unfit : (e : UpdateRefusal) (ids : List (List ℕ)) (now next : Transcript T) (step : UpdateStep) (request : Request) (reply : Reply) → IsUnfit e accepts said step reply → On now step → request_at a step ≡ Some request
-      → IsKept Steps now (answered request reply) next → IsUpdateRefusal e ids accepts said a start Steps begun next
+      → IsKept Steps now (answered request reply) next → IsUpdateRefusal e ids accepts said limit a start Steps begun next
   unfit (refusal.Reply e) ids now next step request reply h w asked kept = record { step = step; before = now; under_way = w; last = exchange request reply; asked = asked; kept = kept; fault = h }
   unfit refusal.Memory ids now next step request reply h w asked kept = record {}
   unfit refusal.RoundLimit ids now next step request reply h w asked kept = absurd h
@@ -89,10 +94,10 @@ module _ {T : Type 0} (accepts : Accepts) (said : Bool → Bool) (a : Asker) (st
   unfit refusal.LinkFault ids now next step request reply h w asked kept = absurd h
 
   -- a turn that asks nothing, or is not answered, is refused
-  pub unasked_turn : (e : UpdateRefusal) (ids : List (List ℕ)) (now next : Transcript T) (step : UpdateStep) → IsUnasked e Steps now a step next → On now step → IsRefusedTurn e ids accepts said a start Steps begun next
+  pub unasked_turn : (e : UpdateRefusal) (ids : List (List ℕ)) (now next : Transcript T) (step : UpdateStep) → IsUnasked e Steps now a step next → On now step → IsRefusedTurn e ids accepts said limit a start Steps begun next
   unasked_turn e ids now next step (inl h) w = record {
     is_begun = begun_still now next step (ap (λ (t : Transcript T). t.exchanges) h.1) w;
-    cause = subst (λ t. IsUpdateRefusal e ids accepts said a start Steps begun t) (sym h.1) (silent e ids now step h.0 w);
+    cause = subst (λ t. IsUpdateRefusal e ids accepts said limit a start Steps begun t) (sym h.1) (silent e ids now step h.0 w);
   }
   unasked_turn e ids now next step (inr h) w = record {
     is_begun = begun_still now next step (nothing_kept e now next h.request h.unanswered) w;
@@ -101,26 +106,26 @@ module _ {T : Type 0} (accepts : Accepts) (said : Bool → Bool) (a : Asker) (st
 
   -- so is one whose reply is
   pub unfit_turn : (e : UpdateRefusal) (ids : List (List ℕ)) (now next : Transcript T) (old new : UpdateStep) (place : ℕ) (x : Exchange) (d : Exchange) → On now old → Replied a Steps now old next place
-      → x ≡ get_or next.exchanges place d → Advances accepts old x.reply new → ((a : Asker) (start : Start) (xs : List Exchange) → Stands accepts a start old xs → IsUnfit e accepts said old x.reply) → IsRefusedTurn e ids accepts said a start Steps begun next
-  unfit_turn e ids now next old new place x d w answers here advances fault =
+      → x ≡ get_or next.exchanges place d → Advances accepts old x.reply new → Counts old new → ((a : Asker) (start : Start) (xs : List Exchange) → Stands accepts a start old xs → IsUnfit e accepts said old x.reply) → IsRefusedTurn e ids accepts said limit a start Steps begun next
+  unfit_turn e ids now next old new place x d w answers here advances counts fault =
       let sent = answers accepts start w.0 w.1.stands in
       let is : x ≡ sent.said = here ∙ get_or_from_slice_get next.exchanges place sent.said d sent.there in
       let asked : request_at a old ≡ Some x.request = sent.asked ∙ ap (λ (y : Exchange). Some y.request) (sym is) in
       let kept : IsKept Steps now (answered x.request x.reply) next = subst (λ (y : Exchange). IsKept Steps now (answered y.request y.reply) next) (sym is) sent.kept in
       record {
-        is_begun = begun_by next new (goes_on now next old new x.request x.reply w asked kept advances);
+        is_begun = begun_by next new (goes_on now next old new x.request x.reply w asked kept advances counts);
         cause = unfit e ids now next old x.request x.reply (fault a start w.0 w.1.stands) w asked kept;
       }
 
   -- with a reply that fits an update goes on
   pub fit_turn : (now next : Transcript T) (old new : UpdateStep) (place : ℕ) (x : Exchange) (d : Exchange) → On now old → Replied a Steps now old next place
-      → x ≡ get_or next.exchanges place d → Advances accepts old x.reply new → On next new
-  fit_turn now next old new place x d w answers here advances =
+      → x ≡ get_or next.exchanges place d → Advances accepts old x.reply new → Counts old new → On next new
+  fit_turn now next old new place x d w answers here advances counts =
       let sent = answers accepts start w.0 w.1.stands in
       let is : x ≡ sent.said = here ∙ get_or_from_slice_get next.exchanges place sent.said d sent.there in
       let asked : request_at a old ≡ Some x.request = sent.asked ∙ ap (λ (y : Exchange). Some y.request) (sym is) in
       let kept : IsKept Steps now (answered x.request x.reply) next = subst (λ (y : Exchange). IsKept Steps now (answered y.request y.reply) next) (sym is) sent.kept in
-      goes_on now next old new x.request x.reply w asked kept advances
+      goes_on now next old new x.request x.reply w asked kept advances counts
 
   -- something was asked, and where the reply was taken, it asked for no decision
   pub asks_turn : (now next : Transcript T) (old : UpdateStep) (place : ℕ) → On now old → Replied a Steps now old next place
@@ -138,13 +143,13 @@ module _ {T : Type 0} (accepts : Accepts) (said : Bool → Bool) (a : Asker) (st
 abbrev pub answer : Bool → Result Bool UpdateRefusal
 answer more = Ok more
 
-module _ {T : Type 0} (accepts : Accepts) (start : Start) (Steps : T → Asked → T → Type 0) (begun : Transcript T) where
+module _ {T : Type 0} (accepts : Accepts) (start : Start) (Steps : T → Asked → T → Type 0) (begun : Transcript T) (limit : ℕ) where
   -- whoever asks, where it is the same
-  pub by_same : (a b : Asker) (now : Transcript T) (step : UpdateStep) → a ≡ b → IsUnderWay accepts b start Steps begun now step → IsUnderWay accepts a start Steps begun now step
-  by_same a b now step same w = subst (λ d. IsUnderWay accepts d start Steps begun now step) (sym same) w
+  pub by_same : (a b : Asker) (now : Transcript T) (step : UpdateStep) → a ≡ b → IsUnderWay accepts b start Steps begun now limit step → IsUnderWay accepts a start Steps begun now limit step
+  by_same a b now step same w = subst (λ d. IsUnderWay accepts d start Steps begun now limit step) (sym same) w
 
-  pub as_same : (a b : Asker) (now : Transcript T) (step : UpdateStep) → a ≡ b → IsUnderWay accepts a start Steps begun now step → IsUnderWay accepts b start Steps begun now step
-  as_same a b now step same w = subst (λ d. IsUnderWay accepts d start Steps begun now step) same w
+  pub as_same : (a b : Asker) (now : Transcript T) (step : UpdateStep) → a ≡ b → IsUnderWay accepts a start Steps begun now limit step → IsUnderWay accepts b start Steps begun now limit step
+  as_same a b now step same w = subst (λ d. IsUnderWay accepts d start Steps begun now limit step) same w
 
 -- the request is the one that the step asks
 pub both : (P : Request → Type 0) (o q : Option Request) → IfSome o P → o ≡ q → IfSome o (λ r. P r × (q ≡ Some r))

@@ -1,3 +1,5 @@
+pub mod Pages
+pub mod PagesLaws
 pub mod Recording
 pub mod RecordingLaws
 pub mod Refusals

@@ -1,5 +1,5 @@
 -- How far an update over a link has come, what it proves in the end, and why it may prove nothing.
-use Rattle.std.specs.Prelude.{◌≡◌, ℕ, Bool, List, ◌++◌, Some}
+use Rattle.std.specs.Prelude.{◌≡◌, ◌+◌, ℕ, Bool, List, ◌++◌, Some}
 use Rattle.warg_log.specs.Rules.{Accepts}
 use Rattle.warg_exchange.specs.declared.exchange.Exchange.{Exchange}
 use Rattle.warg_exchange.specs.declared.exchange.Request.{Request}
@@ -10,10 +10,11 @@ use Rattle.warg_api.specs.Link.{Asked, answered, unanswered}
 use Rattle.warg_page.specs.Logs.{Logs}
 use Rattle.warg_page.specs.Steps.{AreGood, IsGoodOperator, IsTwice}
 use Rattle.warg_update.specs.Proved.{Start, Asks, AreAsked, Proves}
-use Rattle.warg_update.specs.Standing.{Stands, IsAtLimit, request_at, start_of}
+use Rattle.warg_update.specs.Standing.{Stands, IsAtLimit, pages_left, request_at, start_of}
 use Rattle.warg_update.specs.FeedFaults.{IsFeedFault}
 use Rattle.warg_update.specs.declared.error.UpdateError.{UpdateError}
 use Rattle.warg_update.specs.declared.step.UpdateStep.{UpdateStep}
+use Rattle.warg_session.specs.Pages.{pages_asked}
 use Rattle.warg_session.specs.Recording.{Transcript, IsKept, AreKept}
 use Rattle.warg_session.specs.declared.update.UpdateStart.{UpdateStart}
 use Rattle.warg_session.specs.declared.error.UpdateRefusal.{UpdateRefusal}
@@ -37,14 +38,16 @@ pub record IsBegun {T : Type 0} (a : Asker) (start : Start) (begun now : Transcr
 
 module _ {T : Type 0} (accepts : Accepts) (a : Asker) (start : Start) (Steps : T → Asked → T → Type 0)
     (begun now : Transcript T) where
-  -- after these exchanges, all of which were kept since the update began, its step stands here
-  pub record HasCome (xs : List Exchange) (step : UpdateStep) : Type 0 where
+  -- After these exchanges, all of which were kept since the update began, its step stands here. So many pages it might ask
+  -- for when it began, and those that it asked for are fewer.
+  pub record HasCome (limit : ℕ) (xs : List Exchange) (step : UpdateStep) : Type 0 where
     pub kept : AreKept Steps begun xs now
     pub stands : Stands accepts a start step xs
+    pub counted : pages_left step + pages_asked a xs ≡ limit
 
-  -- an update is under way, and its step stands here
-  abbrev pub IsUnderWay : UpdateStep → Type 0
-  IsUnderWay step = (xs : List Exchange) × HasCome xs step
+  -- an update that might ask for so many pages is under way, and its step stands here
+  abbrev pub IsUnderWay : ℕ → UpdateStep → Type 0
+  IsUnderWay limit step = (xs : List Exchange) × HasCome limit xs step
 
   -- the exchanges that were kept since the update began prove these logs, under this checkpoint
   pub record IsUpdated (logs : Logs) (c : SignedCheckpoint) : Type 0 where
@@ -53,11 +56,11 @@ module _ {T : Type 0} (accepts : Accepts) (a : Asker) (start : Start) (Steps : T
     pub asked : AreAsked a start exchanges
     pub proves : Proves accepts a start exchanges logs c
 
-  -- no more pages may be asked for, and one is the next
-  pub record IsLimited : Type 0 where
+  -- as many pages were asked for as may be, and one is the next
+  pub record IsLimited (limit : ℕ) : Type 0 where
     pub step : UpdateStep
-    pub under_way : IsUnderWay step
-    pub limit : IsAtLimit step
+    pub under_way : IsUnderWay limit step
+    pub none_left : IsAtLimit step
 
 -- no reply came to the request that was the next
 pub record HasNoReply {T : Type 0} (a : Asker) (start : Start) (Steps : T → Asked → T → Type 0)
@@ -70,30 +73,36 @@ pub record HasNoReply {T : Type 0} (a : Asker) (start : Start) (Steps : T → As
   pub no_reply : IsKept Steps before (unanswered request) now
 
 -- the last reply has this fault, where the step stood before it, by what may be said where a decision is asked
-pub record IsReplyRefused {T : Type 0} (e : UpdateError) (accepts : Accepts) (said : Bool → Bool) (a : Asker)
+pub record IsReplyRefused {T : Type 0} (e : UpdateError) (accepts : Accepts) (said : Bool → Bool) (limit : ℕ) (a : Asker)
     (start : Start) (Steps : T → Asked → T → Type 0) (begun now : Transcript T) : Type 0 where
   pub step : UpdateStep
   pub before : Transcript T
-  pub under_way : IsUnderWay accepts a start Steps begun before step
+  pub under_way : IsUnderWay accepts a start Steps begun before limit step
   pub last : Exchange
   pub asked : request_at a step ≡ Some last.request
   pub kept : IsKept Steps before (answered last.request last.reply) now
   pub fault : IsFeedFault e accepts said step last.reply
 
--- why an update over a link of packages with logs of these ids proves nothing, by what may be said where a decision is
--- asked. Want of memory says nothing
-abbrev pub IsUpdateRefusal : {T : Type 0} → UpdateRefusal → List (List ℕ) → Accepts → (Bool → Bool) → Asker → Start
+-- why an update over a link, which may ask for so many pages, of packages with logs of these ids proves nothing, by what may
+-- be said where a decision is asked. Want of memory says nothing
+abbrev pub IsUpdateRefusal : {T : Type 0} → UpdateRefusal → List (List ℕ) → Accepts → (Bool → Bool) → ℕ → Asker → Start
     → (T → Asked → T → Type 0) → Transcript T → Transcript T → Type 0
-IsUpdateRefusal (refusal.SameLog id) ids accepts said a start Steps begun now = IsTwice ids id
-IsUpdateRefusal refusal.LinkFault ids accepts said a start Steps begun now = HasNoReply a start Steps begun now
-IsUpdateRefusal refusal.RoundLimit ids accepts said a start Steps begun now = IsLimited accepts a start Steps begun now
-IsUpdateRefusal refusal.BadHeader ids accepts said a start Steps begun now = CanAsk a → ⊥
-IsUpdateRefusal (refusal.Reply e) ids accepts said a start Steps begun now =
-    IsReplyRefused e accepts said a start Steps begun now
-IsUpdateRefusal refusal.Memory ids accepts said a start Steps begun now = Unit {0}
+IsUpdateRefusal (refusal.SameLog id) ids accepts said limit a start Steps begun now = IsTwice ids id
+IsUpdateRefusal refusal.LinkFault ids accepts said limit a start Steps begun now = HasNoReply a start Steps begun now
+IsUpdateRefusal refusal.RoundLimit ids accepts said limit a start Steps begun now =
+    IsLimited accepts a start Steps begun now limit
+IsUpdateRefusal refusal.BadHeader ids accepts said limit a start Steps begun now = CanAsk a → ⊥
+IsUpdateRefusal (refusal.Reply e) ids accepts said limit a start Steps begun now =
+    IsReplyRefused e accepts said limit a start Steps begun now
+IsUpdateRefusal refusal.Memory ids accepts said limit a start Steps begun now = Unit {0}
 
 -- a turn of an update is refused, for this reason, and the exchanges that were kept since the update began are its own
 pub record IsRefusedTurn {T : Type 0} (e : UpdateRefusal) (ids : List (List ℕ)) (accepts : Accepts) (said : Bool → Bool)
-    (a : Asker) (start : Start) (Steps : T → Asked → T → Type 0) (begun now : Transcript T) : Type 0 where
+    (limit : ℕ) (a : Asker) (start : Start) (Steps : T → Asked → T → Type 0) (begun now : Transcript T) : Type 0 where
   pub is_begun : IsBegun a start begun now
-  pub cause : IsUpdateRefusal e ids accepts said a start Steps begun now
+  pub cause : IsUpdateRefusal e ids accepts said limit a start Steps begun now
+
+-- of the pages that might be asked for when an update began, so many may be still
+abbrev pub LeavesPages : {T : Type 0} → Asker → Transcript T → Transcript T → ℕ → ℕ → Type 0
+LeavesPages a begun now limit left =
+    (xs : List Exchange) → now.exchanges ≡ begun.exchanges ++ xs → left + pages_asked a xs ≡ limit

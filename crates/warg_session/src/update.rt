@@ -13,12 +13,12 @@ ghost use Rattle.warg_api.specs.Asking.{asker};
 ghost use Rattle.warg_api.specs.Link.{answered};
 ghost use Rattle.warg_api.specs.declared.client.Client.{Client as Asking};
 ghost use Rattle.warg_update.specs.Proved.{Start, Asks};
-ghost use Rattle.warg_update.specs.Standing.{asker_of, request_at, turns_left, pages_left as pages_left_of, HasSoundLogs, Stands, Advances, Counts, IsProved, IsRefused};
+ghost use Rattle.warg_update.specs.Standing.{asker_of, request_at, turns_left, HasSoundLogs, Stands, Advances, Counts, IsProved, IsRefused};
 ghost use Rattle.warg_update.specs.FeedFaults.{AsksDecision};
 ghost use Rattle.warg_session.specs.declared.error.UpdateRefusal.TheVariants.{LinkFault as IsLinkFault};
 ghost use Rattle.warg_session.specs.Recording.{Transcript, IsKept, exchange, link_of, transcript};
 ghost use Rattle.warg_session.specs.Turns.{IsSilent, IsUnanswered, IsUnasked, IsUnfit, IsAnswered};
-ghost use Rattle.warg_session.specs.Updating.{IsBegun, IsUnderWay, IsRefusedTurn, IsUpdated, IsGoodStart, IsUpdateRefusal, start_view};
+ghost use Rattle.warg_session.specs.Updating.{IsBegun, IsUnderWay, IsRefusedTurn, IsUpdated, IsGoodStart, IsUpdateRefusal, LeavesPages, start_view};
 
 use crate::error::UpdateRefusal;
 use crate::recording::Recording;
@@ -164,33 +164,29 @@ fn turn<L: Link, V: Verifier, D: Decide>(
     ensures never_falls { L.faults (link_of link.old) ≤ L.faults (link_of link.new) }
     ensures link_fault { (result ≡ Err IsLinkFault)
         → Rose (L.faults (link_of link.old)) (L.faults (link_of link.new)) }
-    ensures come { OnOk result ((start : Start) (begun : Transcript L.Told)
+    ensures come { OnOk result ((limit : ℕ) (start : Start) (begun : Transcript L.Told)
         → IsUnderWay (V.good verifier.now) (asker_of client.now step.old) start L.Steps begun
-        (transcript L.told link.old) step.old
+        (transcript L.told link.old) limit step.old
         → IsUnderWay (V.good verifier.now) (asker_of client.now step.old) start L.Steps begun
-        (transcript L.told link.new) step.new) }
+        (transcript L.told link.new) limit step.new) }
     ensures turns { (result ≡ Ok true) → turns_left step.new < turns_left step.old }
-    ensures over { (result ≡ Ok false) → (start : Start) (begun : Transcript L.Told)
+    ensures over { (result ≡ Ok false) → (limit : ℕ) (start : Start) (begun : Transcript L.Told)
         → IsUnderWay (V.good verifier.now) (asker_of client.now step.old) start L.Steps begun
-        (transcript L.told link.old) step.old
+        (transcript L.told link.old) limit step.old
         → IsProved step.new ⊎ IsRefused step.new }
     ensures sound { HasSoundLogs step.old → HasSoundLogs step.new }
     ensures asker { (client : Asking) → asker_of client step.new ≡ asker_of client step.old }
-    ensures pages { OnOk result ((start : Start) (begun : Transcript L.Told)
+    ensures refused { IfErr result (λ e. (ids : List (List ℕ)) (limit : ℕ) (start : Start) (begun : Transcript L.Told)
         → IsUnderWay (V.good verifier.now) (asker_of client.now step.old) start L.Steps begun
-        (transcript L.told link.old) step.old
-        → pages_left_of step.new ≤ pages_left_of step.old) }
-    ensures refused { IfErr result (λ e. (ids : List (List ℕ)) (start : Start) (begun : Transcript L.Told)
-        → IsUnderWay (V.good verifier.now) (asker_of client.now step.old) start L.Steps begun
-        (transcript L.told link.old) step.old
+        (transcript L.told link.old) limit step.old
         → (before : D)
         → ((request : Sent) → request_at (asker_of client.now step.old) step.old ≡ Some request
         → decide.old ≡ before)
-        → IsRefusedTurn e ids (V.good verifier.now) (D.said before decide.new) (asker_of client.now step.old) start
-        L.Steps begun (transcript L.told link.new)) }
-    ensures unasked { OnOk result ((start : Start) (begun : Transcript L.Told)
+        → IsRefusedTurn e ids (V.good verifier.now) (D.said before decide.new) limit (asker_of client.now step.old)
+        start L.Steps begun (transcript L.told link.new)) }
+    ensures unasked { OnOk result ((limit : ℕ) (start : Start) (begun : Transcript L.Told)
         → IsUnderWay (V.good verifier.now) (asker_of client.now step.old) start L.Steps begun
-        (transcript L.told link.old) step.old
+        (transcript L.told link.old) limit step.old
         → ¬ IsRefused step.new → (¬ IsRefused step.old) × (decide.new ≡ decide.old)) }
 {
     match ask(alloc, client, link, step) {
@@ -224,24 +220,20 @@ fn go_on<L: Link, V: Verifier, D: Decide>(
     ensures link_fault { (result ≡ Err IsLinkFault)
         → Rose (L.faults (link_of link.old)) (L.faults (link_of link.new)) }
     ensures sound { HasSoundLogs step.old → HasSoundLogs step.new }
-    ensures over { OnOk result ((start : Start) (begun : Transcript L.Told)
+    ensures over { OnOk result ((limit : ℕ) (start : Start) (begun : Transcript L.Told)
         → IsUnderWay (V.good verifier.now) (asker_of client.now step.old) start L.Steps begun
-        (transcript L.told link.old) step.old
+        (transcript L.told link.old) limit step.old
         → IsUnderWay (V.good verifier.now) (asker_of client.now step.old) start L.Steps begun
-        (transcript L.told link.new) step.new × (IsProved step.new ⊎ IsRefused step.new)) }
-    ensures unasked { OnOk result ((start : Start) (begun : Transcript L.Told)
+        (transcript L.told link.new) limit step.new × (IsProved step.new ⊎ IsRefused step.new)) }
+    ensures unasked { OnOk result ((limit : ℕ) (start : Start) (begun : Transcript L.Told)
         → IsUnderWay (V.good verifier.now) (asker_of client.now step.old) start L.Steps begun
-        (transcript L.told link.old) step.old
+        (transcript L.told link.old) limit step.old
         → ¬ IsRefused step.new → decide.new ≡ decide.old) }
-    ensures pages { OnOk result ((start : Start) (begun : Transcript L.Told)
+    ensures refused { IfErr result (λ e. (ids : List (List ℕ)) (limit : ℕ) (start : Start) (begun : Transcript L.Told)
         → IsUnderWay (V.good verifier.now) (asker_of client.now step.old) start L.Steps begun
-        (transcript L.told link.old) step.old
-        → pages_left_of step.new ≤ pages_left_of step.old) }
-    ensures refused { IfErr result (λ e. (ids : List (List ℕ)) (start : Start) (begun : Transcript L.Told)
-        → IsUnderWay (V.good verifier.now) (asker_of client.now step.old) start L.Steps begun
-        (transcript L.told link.old) step.old
-        → IsRefusedTurn e ids (V.good verifier.now) (D.said decide.old decide.new) (asker_of client.now step.old) start
-        L.Steps begun (transcript L.told link.new)) }
+        (transcript L.told link.old) limit step.old
+        → IsRefusedTurn e ids (V.good verifier.now) (D.said decide.old decide.new) limit (asker_of client.now step.old)
+        start L.Steps begun (transcript L.told link.new)) }
 {
     loop {
         match turn(alloc, client, link, verifier, decide, step) {
@@ -282,14 +274,15 @@ pub fn run_update<L: Link, V: Verifier, D: Decide>(
         → IsGoodOperator (V.good verifier.now) updated.proved.operator
         × AreGood (V.good verifier.now) updated.proved.packages.items) }
     ensures pages { IfOk result (λ updated. IsGoodStart (V.good verifier.now) start
-        → updated.pages_left ≤ settings.round_limit) }
+        → LeavesPages (asker client.now start.registry) (transcript L.told link.old) (transcript L.told link.new)
+        settings.round_limit updated.pages_left) }
     ensures unasked { OnOk result (IsGoodStart (V.good verifier.now) start → decide.new ≡ decide.old) }
     ensures begun { IsGoodStart (V.good verifier.now) start
         → IsBegun (asker client.now start.registry) (start_view start) (transcript L.told link.old)
         (transcript L.told link.new) }
     ensures cause { IfErr result (λ e. IsGoodStart (V.good verifier.now) start
         → IsUpdateRefusal e (map id_of start.packages.items) (V.good verifier.now) (D.said decide.old decide.new)
-        (asker client.now start.registry) (start_view start) L.Steps (transcript L.told link.old)
+        settings.round_limit (asker client.now start.registry) (start_view start) L.Steps (transcript L.told link.old)
         (transcript L.told link.new)) }
 {
     let mut step = UpdateStep::new(

@@ -80,6 +80,13 @@ impl MemoryContent {
         self.schedule.fail_at(call, after)
     }
 
+    /// How many calls have failed.
+    pub fn faults(&self) -> u64
+        ensures { result ≡ (content_schedule self.now).faults }
+    {
+        self.schedule.faults()
+    }
+
     /// Holds these bytes for a digest. A refusal changes nothing.
     fn insert(&mut self, alloc: Global, digest: AnyHash, bytes: &[u8]) -> Result<(), Memory>
         ensures inserted { OnOk result (SameContents (contents_in self.new)

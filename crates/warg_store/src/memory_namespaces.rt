@@ -102,6 +102,13 @@ impl MemoryNamespaces {
         }
     }
 
+    /// How many calls have failed.
+    pub fn faults(&self) -> u64
+        ensures { result ≡ (names_schedule self.now).faults }
+    {
+        self.schedule.faults()
+    }
+
     /// Holds the registry of a namespace beside the names that can be read. A refusal changes nothing.
     fn insert(
         &mut self,

@@ -101,6 +101,13 @@ impl MemoryRegistry {
         self.schedule.fail_at(call, after)
     }
 
+    /// How many calls have failed.
+    pub fn faults(&self) -> u64
+        ensures { result ≡ (schedule_in self.now).faults }
+    {
+        self.schedule.faults()
+    }
+
     /// Takes entries away, or leaves what a call that is to fail leaves.
     fn take_away(&mut self, all_registries: bool, failing: Option<After>)
         ensures reset { IsAfterReset failing all_registries (held_in self.old) (held_in self.new) }

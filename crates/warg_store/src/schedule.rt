@@ -39,6 +39,13 @@ impl StoreSchedule {
         Ok(())
     }
 
+    /// How many calls have failed.
+    pub fn faults(&self) -> u64
+        ensures { result ≡ (schedule_of self.now).faults }
+    {
+        self.faults
+    }
+
     /// What the call that comes next leaves, where it is to fail.
     pub fn planned(&self) -> Option<After>
         ensures { result ≡ planned (schedule_of self.now) }

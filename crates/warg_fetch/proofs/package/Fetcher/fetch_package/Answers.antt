@@ -2,7 +2,7 @@ use Rattle.std.proofs.Common.{[]}
 use Rattle.std.proofs.lemmas.Result.{err_from_is_err_and}
 use Rattle.warg_api.specs.Asking.{asker}
 use Rattle.warg_fetch.specs.Fetched.{writes_in}
-use Rattle.warg_fetch.proofs.KeptLaws.{known_kept, own_kept, stored_front, unfetched_cause, unfetched_leaves, unkept_cause, unkept_leaves}
+use Rattle.warg_fetch.proofs.KeptLaws.{known_kept, own_kept, readable_kept, stored_front, unfetched_cause, unfetched_leaves, unkept_cause, unkept_leaves}
 use Rattle.warg_fetch.proofs.StoredLaws.{own_still}
 use Rattle.warg_fetch.proofs.package.Fetcher.fetch_package.Goals as goal
 
@@ -42,6 +42,9 @@ pub returns-clause-knows : goal.returns-clause-knows
 returns-clause-knows g c = λ known k xs.
     let got = c.in_ok-update.ensures in
     known_kept _ _ _ _ c.in_ok-update.update xs _ _ known k c.update_package.ensures.kept c.update_package.ensures.names_kept (got.good known k) (got.writes xs) c.in_ok-keep_update.ensures.stored
+
+pub returns-clause-readable : goal.returns-clause-readable
+returns-clause-readable g c = λ reads. readable_kept _ _ _ c.in_ok-update.update reads c.update_package.ensures.kept c.in_ok-keep_update.ensures.stored
 
 pub returns-clause-own : goal.returns-clause-own
 returns-clause-own g c = λ known k.

@@ -15,7 +15,7 @@ returns-in-Ok-clause-learnt g c =
       fetched = rw c.as_ref.ensures.value at got.fetched;
       kept = got.kept;
     })
-    c.in-Ok.ensures.bytes (omega arith) refl c.in-Ok.ensures.read
+    c.in-Ok.ensures.bytes refl refl c.in-Ok.ensures.read
 
 pub returns-in-Err-clause-refused : goal.returns-in-Err-clause-refused
 returns-in-Err-clause-refused g c =

@@ -55,4 +55,4 @@ returns-clause-learnt g c =
       fetched = got.fetched;
       knows = got.knows;
     })
-    (c.in_ok-releases.ensures got.sound.info) got.pages got.unasked c.in_ok-key.key c.in_ok-key.ensures c.in_ok-note_registry.ensures.noted.0
+    (c.in_ok-releases.ensures got.sound.info) got.pages got.unasked got.readable c.in_ok-key.key c.in_ok-key.ensures c.in_ok-note_registry.ensures.noted.0
