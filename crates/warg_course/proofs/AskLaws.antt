@@ -1,5 +1,5 @@
 -- That what an update asks next is determined by the exchanges before, and what it proves by all of them.
-use Rattle.std.proofs.Common.{◌≡◌, ◌<◌, ◌++◌, ◌∷◌, [], inl, inr, List, ℕ, Bool, true, false, Option, Some, Ok, refl, sym, ◌∙◌, ap, subst, length, arith}
+use Rattle.std.proofs.Common.{◌≡◌, ◌<◌, ◌++◌, ◌∷◌, [], inl, inr, List, ℕ, Bool, true, false, Option, Some, Ok, refl, sym, ◌∙◌, ap, subst, arith}
 use Rattle.std.proofs.lemmas.Bool.{false≢true}
 use Rattle.warg_log.specs.Rules.{Accepts}
 use Rattle.warg_exchange.specs.declared.exchange.Exchange.{Exchange}
@@ -64,20 +64,6 @@ pages-once once a n before after other (x ∷ xs) (y ∷ ys) us vs (inr p) (inr 
     let left : us ≡ vs = sym (ap (λ (l : List Exchange). l ++ us) p.1) ∙ tail-is x y (xs ++ us) (ys ++ vs) e ∙ ap (λ (l : List Exchange). l ++ vs) q.1 in
     ((turns-once once a n before after other x false false p.0 turns).0, left)
 
--- where exchanges agree, pages behind which more is to come are fewer than those that end
-pages-fewer : OneBringing → (a : Asker) (n : ℕ) (before after other : Logs) (xs ys us vs : List Exchange) → Pages a n before xs after true → Pages a n before ys other false → xs ++ us ≡ ys ++ vs → length xs < length ys
-pages-fewer once a n before after other xs [] us vs p q e = absurd (false≢true q.1)
-pages-fewer once a n before after other [] (y ∷ ys) us vs p q e = omega arith
-pages-fewer once a n before after other (x ∷ xs) (y ∷ ys) us vs (inl p) (inl q) e =
-    let turns : Turns a n before x q.0 true = subst (λ (z : Exchange). Turns a n before z q.0 true) (sym (head-is x y (xs ++ us) (ys ++ vs) e)) q.1 in
-    let same : p.0 ≡ q.0 = (turns-once once a n before p.0 q.0 x true true p.1 turns).0 in
-    let fewer = pages-fewer once a n q.0 after other xs ys us vs (subst (λ (l : Logs). Pages a n l xs after true) same p.2) q.2 (tail-is x y (xs ++ us) (ys ++ vs) e) in
-    omega (arith, fewer)
-pages-fewer once a n before after other (x ∷ xs) (y ∷ ys) us vs (inl p) (inr q) e =
-    let turns : Turns a n before x other false = subst (λ (z : Exchange). Turns a n before z other false) (sym (head-is x y (xs ++ us) (ys ++ vs) e)) q.0 in
-    absurd (not-both once a n before p.0 other x p.1 turns)
-pages-fewer once a n before after other (x ∷ xs) (y ∷ ys) us vs (inr p) q e = absurd (false≢true (sym p.2))
-
 -- behind pages that end no page comes
 pages-ended : OneBringing → (a : Asker) (n : ℕ) (before after other : Logs) (xs ys : List Exchange) (y : Exchange) (more : Bool) → Pages a n before xs after false → Pages a n before (xs ++ y ∷ ys) other more → ⊥
 pages-ended once a n before after other [] ys y more p q = false≢true p.1
@@ -108,14 +94,6 @@ opens-once once a start xs ys us vs c d logs other p q e =
     let pages : Pages a d.contents.log_length start.logs p.pages logs false = subst (λ (k : SignedCheckpoint). Pages a k.contents.log_length start.logs p.pages logs false) same p.asks_pages in
     let left = pages-once once a d.contents.log_length start.logs logs other p.pages q.pages us vs pages q.asks_pages (tail-is p.first q.first (p.pages ++ us) (q.pages ++ vs) whole) in
     (same, left.0, left.1)
-
-opens-fewer : OneBringing → (a : Asker) (start : Start) (xs ys us vs : List Exchange) (c d : SignedCheckpoint) (logs other : Logs) → (p : Opens a start xs c logs true) → (q : Opens a start ys d other false) → xs ++ us ≡ ys ++ vs
-    → length p.pages < length q.pages
-opens-fewer once a start xs ys us vs c d logs other p q e =
-    let whole : p.first ∷ (p.pages ++ us) ≡ q.first ∷ (q.pages ++ vs) = sym (ap (λ (l : List Exchange). l ++ us) p.in_turn) ∙ e ∙ ap (λ (l : List Exchange). l ++ vs) q.in_turn in
-    let same : c ≡ d = one-checkpoint a p.first q.first c d (head-is p.first q.first (p.pages ++ us) (q.pages ++ vs) whole) p.asks_checkpoint q.asks_checkpoint in
-    let pages : Pages a d.contents.log_length start.logs p.pages logs true = subst (λ (k : SignedCheckpoint). Pages a k.contents.log_length start.logs p.pages logs true) same p.asks_pages in
-    pages-fewer once a d.contents.log_length start.logs logs other p.pages q.pages us vs pages q.asks_pages (tail-is p.first q.first (p.pages ++ us) (q.pages ++ vs) whole)
 
 opens-ended : OneBringing → (a : Asker) (start : Start) (xs ys : List Exchange) (y : Exchange) (c d : SignedCheckpoint) (logs other : Logs) (more : Bool) → Opens a start xs c logs false → Opens a start (xs ++ y ∷ ys) d other more → ⊥
 opens-ended once a start xs ys y c d logs other more p q =
@@ -174,13 +152,6 @@ pub proves-one : OneBringing → (accepts : Accepts) (a : Asker) (start : Start)
 proves-one once accepts a start xs logs other c d p q =
     let one = opens-once once a start (p.first ∷ p.pages) (q.first ∷ q.pages) (p.inclusion ∷ p.rest) (q.inclusion ∷ q.rest) c d logs other (proves-opens accepts a start xs logs c p) (proves-opens accepts a start xs other d q) (sym p.in_turn ∙ q.in_turn) in
     (one.1, one.0)
-
--- pages behind which more is to come are fewer than those of exchanges that prove logs
-pub proves-fewer : OneBringing → (accepts : Accepts) (a : Asker) (start : Start) (xs ys us : List Exchange) (logs other : Logs) (c d : SignedCheckpoint) → (o : Opens a start xs d other true) → (p : Proves accepts a start ys logs c) → ys ≡ xs ++ us
-    → length o.pages < length p.pages
-unfolding proves-opens
-proves-fewer once accepts a start xs ys us logs other c d o p e =
-    opens-fewer once a start xs (p.first ∷ p.pages) us (p.inclusion ∷ p.rest) d c other logs o (proves-opens accepts a start ys logs c p) (sym e ∙ p.in_turn)
 
 -- where the stored checkpoint is shorter, its consistency is shown
 no-more : (a : Asker) (old : SignedCheckpoint) (new : Checkpoint) (rest : List Exchange) → Succeeds a (Some old) new rest → rest ≡ [] → old.contents.log_length < new.log_length → ⊥

@@ -1,18 +1,18 @@
--- That of two updates with replies that agree one is the front of the other.
-use Rattle.std.proofs.Common.{◌≡◌, ◌<◌, ◌⊎◌, ◌++◌, ◌∷◌, [], inl, inr, List, ℕ, zero, suc, Bool, true, false, Option, Some, None, refl, sym, ◌∙◌, ap, subst, take, length, map, append_assoc}
+-- That an update over replies which prove logs is the front of what proves them.
+use Rattle.std.proofs.Common.{◌≡◌, ◌<◌, ◌⊎◌, ◌++◌, ◌∷◌, [], inl, inr, List, ℕ, zero, suc, Bool, true, false, Option, Some, None, refl, sym, ◌∙◌, ap, subst, take, length, append_assoc}
 use Rattle.std.proofs.Math.Seq.{take-append_seam}
 use Rattle.std.proofs.lemmas.List.{append-nil}
 use Rattle.std.specs.Prelude.{slice_get}
 use Rattle.warg_log.specs.Rules.{Accepts}
 use Rattle.warg_exchange.specs.declared.exchange.Exchange.{Exchange}
 use Rattle.warg_exchange.specs.declared.exchange.Request.{Request}
-use Rattle.warg_exchange.specs.declared.exchange.Reply.{Reply}
 use Rattle.warg_exchange.specs.declared.checkpoint.SignedCheckpoint.{SignedCheckpoint}
 use Rattle.warg_exchange.specs.Requests.{Asker}
+use Rattle.warg_api.specs.Link.{Asked, Exchanges}
 use Rattle.warg_page.specs.Logs.{Logs}
 use Rattle.warg_update.specs.Proved.{AsksCheckpoint, Turns, Pages, Succeeds, Start, Opens, Shows, Proves, Asks, AreAsked, for_checkpoint, for_page, for_inclusion, for_consistency}
-use Rattle.warg_course.specs.Replies.{IsFront, AreRepliesOf}
-use Rattle.warg_course.proofs.ReplyLaws.{head-is, tail-is, exchange-same}
+use Rattle.warg_course.specs.Replies.{IsFront, GivesReplies}
+use Rattle.warg_course.proofs.GivenLaws.{same-given}
 use Rattle.warg_course.proofs.AskLaws.{OneBringing, asks-once, asks-over, proves-opens}
 
 -- that pages leave logs in one way, and that exchanges come in turn
@@ -100,27 +100,11 @@ proves-asked laws accepts a start xs logs c p =
     record { before = p.first ∷ p.pages; inclusion = p.inclusion; in_turn = refl; opens = opens; asks_inclusion = p.asks_inclusion; stored = stored; shorter = shorter } in
     subst (AreAsked a start) (append_assoc (p.first ∷ p.pages) (p.inclusion ∷ []) p.rest ∙ sym p.in_turn) (rest-asked laws accepts a start (p.first ∷ p.pages) p.inclusion p.rest logs c start.stored refl shows asked p.succeeds)
 
--- ---- replies that agree
+-- ---- replies that are given
 
 front-more : (x y : Exchange) (xs ys : List Exchange) → x ≡ y → IsFront xs ys ⊎ IsFront ys xs → IsFront (x ∷ xs) (y ∷ ys) ⊎ IsFront (y ∷ ys) (x ∷ xs)
 front-more x y xs ys same (inl f) = inl (f.0, ap (λ (l : List Exchange). y ∷ l) f.1 ∙ ap (λ (z : Exchange). z ∷ (xs ++ f.0)) (sym same))
 front-more x y xs ys same (inr f) = inr (f.0, ap (λ (l : List Exchange). x ∷ l) f.1 ∙ ap (λ (z : Exchange). z ∷ (ys ++ f.0)) same)
-
--- behind the same exchanges
-fronts-behind : OneBringing → (a : Asker) (start : Start) (done xs ys : List Exchange) (us vs : List Reply) → AreAsked a start (done ++ xs) → AreAsked a start (done ++ ys) → map (λ x. x.reply) xs ++ us ≡ map (λ x. x.reply) ys ++ vs
-    → IsFront xs ys ⊎ IsFront ys xs
-fronts-behind once a start done [] ys us vs p q e = inl (ys, refl)
-fronts-behind once a start done (x ∷ xs) [] us vs p q e = inr (x ∷ xs, refl)
-fronts-behind once a start done (x ∷ xs) (y ∷ ys) us vs p q e =
-    let came : x.reply ≡ y.reply = head-is x.reply y.reply (map (λ x. x.reply) xs ++ us) (map (λ x. x.reply) ys ++ vs) e in
-    let asked : x.request ≡ y.request = asks-once once a start done x.request y.request (asked-at a start done xs x p) (asked-at a start done ys y q) in
-    let same : x ≡ y = exchange-same x y asked came in
-    let left : AreAsked a start ((done ++ x ∷ []) ++ xs) = subst (AreAsked a start) (sym (append_assoc done (x ∷ []) xs)) p in
-    let right : AreAsked a start ((done ++ x ∷ []) ++ ys) = subst (AreAsked a start) (sym (append_assoc done (x ∷ []) ys)) (subst (λ (z : Exchange). AreAsked a start (done ++ z ∷ ys)) (sym same) q) in
-    front-more x y xs ys same (fronts-behind once a start (done ++ x ∷ []) xs ys us vs left right (tail-is x.reply y.reply (map (λ x. x.reply) xs ++ us) (map (λ x. x.reply) ys ++ vs) e))
-
-pub fronts-agree : OneBringing → (a : Asker) (start : Start) (xs ys : List Exchange) (replies : List Reply) → AreAsked a start xs → AreAsked a start ys → AreRepliesOf xs replies → AreRepliesOf ys replies → IsFront xs ys ⊎ IsFront ys xs
-fronts-agree once a start xs ys replies p q r s = fronts-behind once a start [] xs ys r.unused s.unused p q (sym r.are ∙ s.are)
 
 -- nothing is behind exchanges that prove logs
 pub proves-last : OneBringing → (accepts : Accepts) (a : Asker) (start : Start) (xs ys : List Exchange) (logs : Logs) (c : SignedCheckpoint) → AreAsked a start xs → Proves accepts a start ys logs c → IsFront ys xs → xs ≡ ys
@@ -128,10 +112,40 @@ proves-last once accepts a start xs ys logs c asked p ([], e) = e ∙ append-nil
 proves-last once accepts a start xs ys logs c asked p (x ∷ more, e) =
     absurd (asks-over once accepts a start ys logs c x.request p (asked-at a start ys more x (subst (AreAsked a start) e asked)))
 
-pub proves-front : Laws → (accepts : Accepts) (a : Asker) (start : Start) (xs ys : List Exchange) (replies : List Reply) (logs : Logs) (c : SignedCheckpoint) → AreAsked a start xs → Proves accepts a start ys logs c → AreRepliesOf xs replies → AreRepliesOf ys replies
-    → IsFront xs ys
-proves-front laws accepts a start xs ys replies logs c asked p r s = by_front (fronts-agree laws.once a start xs ys replies asked (proves-asked laws accepts a start ys logs c p) r s)
-  where
-    by_front : IsFront xs ys ⊎ IsFront ys xs → IsFront xs ys
-    by_front (inl f) = f
-    by_front (inr f) = ([], sym (append-nil xs ∙ proves-last laws.once accepts a start xs ys logs c asked p f))
+module _ {T : Type 0} (Steps : T → Asked → T → Type 0) where
+  -- behind the same exchanges
+  fronts-behind : OneBringing → (a : Asker) (start : Start) (done xs ys : List Exchange) (old new : T) → AreAsked a start (done ++ xs) → AreAsked a start (done ++ ys) → GivesReplies Steps old ys → Exchanges Steps old xs new
+      → IsFront xs ys ⊎ IsFront ys xs
+  unfolding Exchanges
+  fronts-behind once a start done [] ys old new p q given passed = inl (ys, refl)
+  fronts-behind once a start done (x ∷ xs) [] old new p q given passed = inr (x ∷ xs, refl)
+  fronts-behind once a start done (x ∷ xs) (y ∷ ys) old new p q given passed =
+      let asked : x.request ≡ y.request = asks-once once a start done x.request y.request (asked-at a start done xs x p) (asked-at a start done ys y q) in
+      let same = same-given Steps x y ys old passed.0 given asked passed.1 in
+      let left : AreAsked a start ((done ++ x ∷ []) ++ xs) = subst (AreAsked a start) (sym (append_assoc done (x ∷ []) xs)) p in
+      let right : AreAsked a start ((done ++ x ∷ []) ++ ys) = subst (AreAsked a start) (sym (append_assoc done (x ∷ []) ys)) (subst (λ (z : Exchange). AreAsked a start (done ++ z ∷ ys)) (sym same.0) q) in
+      front-more x y xs ys same.0 (fronts-behind once a start (done ++ x ∷ []) xs ys passed.0 new left right same.1 passed.2)
+
+  pub proves-front : Laws → (accepts : Accepts) (a : Asker) (start : Start) (xs ys : List Exchange) (logs : Logs) (c : SignedCheckpoint) (old new : T) → AreAsked a start xs → Proves accepts a start ys logs c → GivesReplies Steps old ys
+      → Exchanges Steps old xs new → IsFront xs ys
+  proves-front laws accepts a start xs ys logs c old new asked p given passed =
+      by_front (fronts-behind laws.once a start [] xs ys old new asked (proves-asked laws accepts a start ys logs c p) given passed)
+    where
+      by_front : IsFront xs ys ⊎ IsFront ys xs → IsFront xs ys
+      by_front (inl f) = f
+      by_front (inr f) = ([], sym (append-nil xs ∙ proves-last laws.once accepts a start xs ys logs c asked p f))
+
+-- these exchanges are the front of others, of which the next asks this
+pub record HasNext (xs ys : List Exchange) (r : Request) : Type 0 where
+  pub next : Exchange
+  pub rest : List Exchange
+  pub parts : ys ≡ xs ++ next ∷ rest
+  pub asks : r ≡ next.request
+
+-- what is asked behind a front of exchanges that prove logs is what the next of them asks
+pub has-next : Laws → (accepts : Accepts) (a : Asker) (start : Start) (xs ys : List Exchange) (r : Request) (logs : Logs) (c : SignedCheckpoint) → Asks a start xs r → Proves accepts a start ys logs c → IsFront xs ys → HasNext xs ys r
+has-next laws accepts a start xs ys r logs c asks p ([], e) =
+    absurd (asks-over laws.once accepts a start xs logs c r (subst (λ (l : List Exchange). Proves accepts a start l logs c) (e ∙ append-nil xs) p) asks)
+has-next laws accepts a start xs ys r logs c asks p (x ∷ after, e) =
+    let asked : AreAsked a start (xs ++ x ∷ after) = subst (AreAsked a start) e (proves-asked laws accepts a start ys logs c p) in
+    record { next = x; rest = after; parts = e; asks = asks-once laws.once a start xs r x.request asks (asked-at a start xs after x asked) }

@@ -1,4 +1,6 @@
 pub mod ReplyLaws
+pub mod GivenLaws
+pub mod RecordedLaws
 pub mod AskLaws
 pub mod FrontLaws
 pub mod TakenLaws

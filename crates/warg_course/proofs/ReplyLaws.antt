@@ -1,12 +1,11 @@
--- What a reply says, and the replies of exchanges.
-use Rattle.std.proofs.Common.{◌≡◌, ◌++◌, ◌∷◌, [], List, Result, Ok, sym, ◌∙◌, ap, map}
+-- What a reply says, and what exchanges are.
+use Rattle.std.proofs.Common.{◌≡◌, ◌∷◌, [], List, Result, Ok, sym, ◌∙◌, ap}
 use Rattle.serde_json.specs.Data.{Data}
 use Rattle.warg_exchange.specs.declared.exchange.Exchange.{Exchange}
 use Rattle.warg_exchange.specs.declared.exchange.Request.{Request}
 use Rattle.warg_exchange.specs.declared.exchange.Reply.{Reply}
 use Rattle.warg_exchange.specs.Body.{Meaning}
 use Rattle.warg_exchange.specs.Replies.{says}
-use Rattle.warg_api.specs.Link.{Exchanges, Recorded, IsRecordedStep}
 
 pub head-is : {A : Type 0} (x y : A) (xs ys : List A) → x ∷ xs ≡ y ∷ ys → x ≡ y
 head-is x y xs ys e = cc e
@@ -31,9 +30,3 @@ exchange-same x y asked came =
   where
     exchange : Request → Reply → Exchange
     exchange request reply = record { request = request; reply = reply }
-
--- exchanges over recorded replies have the first of them
-pub replies-had : (xs : List Exchange) (old new : Recorded) → Exchanges IsRecordedStep old xs new → old.left ≡ map (λ x. x.reply) xs ++ new.left
-unfolding Exchanges
-replies-had [] old new same = ap (λ (r : Recorded). r.left) (sym same)
-replies-had (x ∷ xs) old new h = h.1.1 ∙ ap (λ (l : List Reply). x.reply ∷ l) (replies-had xs h.0 new h.2)

@@ -1,4 +1,5 @@
-//! The course of an update: that replies determine it, and that over replies that prove logs it is not refused.
+//! The course of an update: that exchanges determine what is asked, and that over a link that gives replies which prove
+//! logs no reply is refused.
 #![tactic(auto)]
 
 pub mod laws;
