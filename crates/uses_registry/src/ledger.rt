@@ -1,16 +1,20 @@
 //! A caller of `warg_ledger`.
 
 ghost use Rattle.std.specs.Prelude.{◌≡◌, ℕ, List, Some, IfErr};
+ghost use Rattle.warg_exchange.specs.declared.checkpoint.SignedCheckpoint.{SignedCheckpoint as Signed};
 ghost use Rattle.warg_exchange.specs.declared.exchange.Exchange.{Exchange};
 ghost use Rattle.warg_exchange.specs.declared.exchange.Request.{Request as Sent};
 ghost use Rattle.warg_exchange.specs.Requests.{Asker as Who};
 ghost use Rattle.warg_exchange.specs.Views.{page_view};
+ghost use Rattle.warg_hash.specs.Hash.{operator_log_id};
 ghost use Rattle.warg_ledger.specs.Honest.{AreHonest, IsHonestNext};
-ghost use Rattle.warg_ledger.specs.Registry.{Registry, IsRegistry, IsPageOf};
+ghost use Rattle.warg_ledger.specs.Registry.{Registry, IsRegistry, IsPageOf, log_below};
+ghost use Rattle.warg_log.specs.Rules.{Accepts};
+ghost use Rattle.warg_page.specs.Logs.{Logs};
 ghost use Rattle.warg_page.specs.Steps.{HaveIds, AreGood, IsGoodOperator};
 ghost use Rattle.warg_page.specs.Views.{logs_view};
 ghost use Rattle.warg_page.specs.declared.page.PageError.TheVariants.{Memory as WantsMemory};
-ghost use Rattle.warg_update.specs.Proved.{Start};
+ghost use Rattle.warg_update.specs.Proved.{Start, Asks, AreAsked, Proves};
 ghost use Rattle.warg_update.specs.Standing.{request_at, Stands};
 ghost use Rattle.warg_update.specs.declared.error.UpdateError.TheVariants.{Memory as UpdateWantsMemory};
 
@@ -20,7 +24,7 @@ use warg_exchange::{FetchLogsResponse, Reply};
 use warg_hash::LogId;
 use warg_hint::Decide;
 use warg_info::{OperatorInfo, PackageInfo};
-use warg_ledger::laws::{honest_pages_are_taken, honest_replies_are_taken};
+use warg_ledger::laws::{honest_pages_are_taken, honest_replies_are_taken, honest_updates_prove};
 use warg_log::Verifier;
 use warg_page::{PageError, take_page};
 use warg_update::{UpdateError, UpdateStep};
@@ -59,4 +63,15 @@ pub fn feed_honest_reply<V: Verifier, D: Decide>(
 {
     honest_replies_are_taken();
     step.feed(alloc, verifier, decide, reply)
+}
+
+/// A whole update with an honest registry proves the whole log of its operator.
+pub fn operators_are_proved()
+    ensures { (accepts : Accepts) (w : Registry) (a : Who) (start : Start) (xs : List Exchange)
+        → IsRegistry accepts w → AreAsked a start xs → AreHonest accepts w a start xs
+        → ((r : Sent) → Asks a start xs r → ⊥)
+        → (logs : Logs) × (c : Signed) × Proves accepts a start xs logs c
+        × (logs.operator ≡ log_below w c.contents.log_length operator_log_id) }
+{
+    honest_updates_prove();
 }

@@ -1,15 +1,11 @@
 -- That what an honest registry replies is never refused.
-use Rattle.std.proofs.Common.{◌≡◌, ◌++◌, ◌∷◌, [], inl, inr, List, ℕ, suc, Bool, true, false, Option, Some, None, Ok, refl, sym, ◌∙◌, ap, subst, append_assoc, append-nil, arith}
-use Rattle.std.specs.Prelude.{Contains, Result}
-use Rattle.std.specs.List.{AllByRecursion}
+use Rattle.std.proofs.Common.{◌≡◌, ◌∷◌, [], inl, inr, List, ℕ, Bool, true, false, Option, Some, None, Ok, refl, sym, ◌∙◌, ap, subst, arith}
 use Rattle.std.proofs.lemmas.Bool.{cases_lt, false≢true}
-use Rattle.serde_json.specs.Data.{Data}
 use Rattle.warg_hash.specs.Hash.{operator_log_id, package_log_id}
 use Rattle.warg_hint.specs.declared.settings.HintSettings.{HintSettings}
 use Rattle.warg_log.specs.Rules.{Accepts}
 use Rattle.warg_proof.specs.LogTree.{root}
 use Rattle.warg_proof.specs.MapTree.{map_root}
-use Rattle.warg_exchange.specs.Body.{Meaning}
 use Rattle.warg_exchange.specs.declared.exchange.Exchange.{Exchange}
 use Rattle.warg_exchange.specs.declared.exchange.Reply.{Reply}
 use Rattle.warg_exchange.specs.declared.checkpoint.Checkpoint.{Checkpoint}
@@ -33,14 +29,14 @@ use Rattle.warg_update.specs.declared.signature.SignatureError.TheVariants as si
 use Rattle.warg_update.specs.Errors.{page_wants_memory, presence_wants_memory, signature_wants_memory}
 use Rattle.warg_update.specs.FeedFaults.{IsCheckpointFault, LeavesEmpty, IsTurnFault, IsHeadsFault, IsContinuationFault}
 use Rattle.warg_update.specs.NotFound.{IsNoPageFault}
-use Rattle.warg_update.specs.Proved.{AsksCheckpoint, IsSigned, Turns, Pages, Start, Opens}
+use Rattle.warg_update.specs.Proved.{IsSigned, Start}
 use Rattle.warg_update.specs.Refusals.{IsFaultBehind, of_checkpoint, of_page, of_inclusion, of_consistency}
 use Rattle.warg_update.specs.Signature.{IsSignatureFault}
 use Rattle.warg_update.specs.Succession.{MayFollow}
 use Rattle.warg_ledger.specs.Registry.{Registry, IsRegistry, IsCheckpointOf, IsPageOf, Begins, log_below, entry_texts, heads}
-use Rattle.warg_ledger.specs.Replies.{AreWhole}
 use Rattle.warg_ledger.specs.Honest.{IsStoredOf, IsHonestCheckpoint, HaveRecords, IsHonestNext, AreHonest}
-use Rattle.warg_ledger.proofs.LeftLaws.{operator-left, package-left, none-left-empty}
+use Rattle.warg_ledger.proofs.LeftLaws.{package-left, none-left-empty}
+use Rattle.warg_ledger.proofs.OpenLaws.{TurnLaws, one-value, honest-checkpoint, honest-front, whole-log, last-whole, whole-logs}
 use Rattle.warg_ledger.proofs.PageLaws.{grown-at, page-taken}
 use Rattle.warg_ledger.proofs.ShowLaws.{ProverLaws, heads-shown, growth-shown}
 use Rattle.warg_ledger.proofs.TakenLaws.{Laws}
@@ -48,8 +44,7 @@ use Rattle.warg_ledger.proofs.TakenLaws.{Laws}
 -- ---- the laws that are used
 
 pub record UpdateLaws : Type 0 where
-  pub first : (a : Asker) (start : Start) (x : Exchange) (c : SignedCheckpoint) → AsksCheckpoint a x c → Opens a start (x ∷ []) c start.logs true
-  pub more : (a : Asker) (start : Start) (xs : List Exchange) (c : SignedCheckpoint) (mid after : Logs) (x : Exchange) (more : Bool) → Opens a start xs c mid true → Turns a c.contents.log_length mid x after more → Opens a start (xs ++ x ∷ []) c after more
+  pub turns : TurnLaws
   pub checkpoint : (reply : Reply) (c : SignedCheckpoint) (e : UpdateError) → says checkpoint_in reply ≡ Ok c → IsCheckpointFault e reply → e ≡ update.Memory
   pub page : (settings : HintSettings) (said : Bool → Bool) (packages : List (List ℕ × List Kept)) (reply : Reply) (page : Page) (e : UpdateError) → says page_in reply ≡ Ok page → IsNoPageFault e settings said packages reply → e ≡ update.Memory
   pub signature : (accepts : Accepts) (operator : List Kept) (c : SignedCheckpoint) (e : SignatureError) → IsSigned accepts operator c → IsSignatureFault e accepts operator c → e ≡ signature.Memory
@@ -58,21 +53,9 @@ pub record UpdateLaws : Type 0 where
   pub consistency : (old new : Checkpoint) (reply : Reply) (shown : ConsistencyResponse) (e : UpdateError) → says proof_in reply ≡ Ok shown → Continues old.log_length new.log_length old.log_root new.log_root shown.proof
       → IsContinuationFault e old new reply → e ≡ update.Memory
 
-one-value : {Y : Type 0} (f : Data → Meaning Y) (reply : Reply) (x y : Y) → says f reply ≡ Ok x → says f reply ≡ Ok y → x ≡ y
-one-value f reply x y is also = let same : ◌≡◌ {A = Result _ _} (Ok x) (Ok y) = sym is ∙ also in cc
-
 -- ---- the checkpoint
 
-honest-checkpoint : (accepts : Accepts) (w : Registry) (a : Asker) (start : Start) (xs : List Exchange) (c : SignedCheckpoint) (logs : Logs) (more : Bool) → AreHonest accepts w a start xs → Opens a start xs c logs more
-    → IsHonestCheckpoint accepts w start.stored c
-honest-checkpoint accepts w a start xs c logs more honest opens =
-    let g = (honest [] opens.pages opens.first opens.in_turn).checkpoint refl in
-    subst (IsHonestCheckpoint accepts w start.stored) (one-value checkpoint_in opens.first.reply g.checkpoint c g.came opens.asks_checkpoint.came) g.honest
-
-honest-front : (accepts : Accepts) (w : Registry) (a : Asker) (start : Start) (xs ys : List Exchange) → AreHonest accepts w a start (xs ++ ys) → AreHonest accepts w a start xs
-honest-front accepts w a start xs ys honest before after x is = honest before (after ++ ys) x (ap (λ (l : List Exchange). l ++ ys) is ∙ append_assoc before (x ∷ after) ys)
-
-may-follow : (w : Registry) (stored : Option SignedCheckpoint) (c : Checkpoint) → IsStoredOf w stored c.log_length → IsCheckpointOf w c → MayFollow stored c
+pub may-follow : (w : Registry) (stored : Option SignedCheckpoint) (c : Checkpoint) → IsStoredOf w stored c.log_length → IsCheckpointOf w c → MayFollow stored c
 may-follow w None c is_stored is = tt
 may-follow w (Some old) c is_stored is = elim (cases_lt old.contents.log_length c.log_length) [
   | inl less ↦ inr less
@@ -85,44 +68,6 @@ may-follow w (Some old) c is_stored is = elim (cases_lt old.contents.log_length 
         same_map_root = is_stored.0.map_root ∙ ap (λ (n : ℕ). map_root (heads w n)) same ∙ sym is.map_root;
       })
 ]
-
--- ---- pages
-
-whole-log : (whole log : List Kept) → Begins whole log false → log ≡ whole
-whole-log whole log b = sym (b.parts ∙ ap (λ (l : List Kept). log ++ l) (b.all_of_it refl) ∙ append-nil log)
-
-further : {A : Type 0} (x y : A) (xs : List A) → Contains xs y → Contains (x ∷ xs) y
-further x y xs there = let lt = there.1 in (suc there.0, omega (arith, lt), there.2)
-
-all-contained : (P : List ℕ × List Kept → Type 0) (ps : List (List ℕ × List Kept)) → ((p : List ℕ × List Kept) → Contains ps p → P p) → AllByRecursion P ps
-all-contained P [] each = tt
-all-contained P (p ∷ ps) each = (each p (0, omega arith, refl), all-contained P ps (λ q there. each q (further p q ps there)))
-
-last-whole : Laws → (accepts : Accepts) (w : Registry) (n : ℕ) (before after : Logs) (page : Page) → IsRegistry accepts w → IsPageOf w n before page → Brings before page after → page.more ≡ false → AreWhole w n after
-last-whole laws accepts w n before after page registry is brings last = record {
-  operator = whole-log (log_below w n operator_log_id) after.operator (subst (Begins (log_below w n operator_log_id) after.operator) last (operator-left laws accepts w n before page after registry is brings));
-  packages = all-contained (λ (p : List ℕ × List Kept). p.1 ≡ log_below w n (package_log_id p.0)) after.packages (λ p there.
-      whole-log (log_below w n (package_log_id p.0)) p.1 (subst (Begins (log_below w n (package_log_id p.0)) p.1) last (package-left laws accepts w n before page after p.0 p.1 registry is brings there)));
-}
-
-whole-pages : Laws → UpdateLaws → (accepts : Accepts) (w : Registry) (a : Asker) (start : Start) (done rest : List Exchange) (c : SignedCheckpoint) (mid logs : Logs) → IsRegistry accepts w → AreHonest accepts w a start (done ++ rest)
-    → Opens a start done c mid true → Pages a c.contents.log_length mid rest logs false → AreWhole w c.contents.log_length logs
-whole-pages laws updates accepts w a start done [] c mid logs registry honest opens pages = absurd (false≢true pages.1)
-whole-pages laws updates accepts w a start done (x ∷ rest) c mid logs registry honest opens (inl step) =
-    let joined : (done ++ x ∷ []) ++ rest ≡ done ++ x ∷ rest = append_assoc done (x ∷ []) rest in
-    whole-pages laws updates accepts w a start (done ++ x ∷ []) rest c step.0 logs registry (subst (λ (l : List Exchange). AreHonest accepts w a start l) (sym joined) honest)
-    (updates.more a start done c mid step.0 x true opens step.1) step.2
-whole-pages laws updates accepts w a start done (x ∷ rest) c mid logs registry honest opens (inr last) =
-    let n = c.contents.log_length in
-    let g = (honest done rest x refl).page c mid opens in
-    let same : g.page ≡ last.0.page = one-value page_in x.reply g.page last.0.page g.came last.0.came in
-    last-whole laws accepts w n mid logs last.0.page registry (subst (IsPageOf w n mid) same g.is) last.0.brings last.0.said
-
-whole-logs : Laws → UpdateLaws → (accepts : Accepts) (w : Registry) (a : Asker) (start : Start) (xs : List Exchange) (c : SignedCheckpoint) (logs : Logs) → IsRegistry accepts w → AreHonest accepts w a start xs → Opens a start xs c logs false
-    → AreWhole w c.contents.log_length logs
-whole-logs laws updates accepts w a start xs c logs registry honest opens =
-    whole-pages laws updates accepts w a start (opens.first ∷ []) opens.pages c start.logs logs registry (subst (λ (l : List Exchange). AreHonest accepts w a start l) opens.in_turn honest)
-    (updates.first a start opens.first c opens.asks_checkpoint) opens.asks_pages
 
 -- ---- faults of a page
 
@@ -176,7 +121,7 @@ reply-taken laws updates prover e accepts w settings said a start xs reply regis
 reply-taken laws updates prover e accepts w settings said a start xs reply registry honest next (of_inclusion c logs opens bad) =
     let g = next.inclusion c logs opens in
     let known = honest-checkpoint accepts w a start xs c logs false honest opens in
-    let whole = whole-logs laws updates accepts w a start xs c logs registry honest opens in
+    let whole = whole-logs laws updates.turns accepts w a start xs c logs registry honest opens in
     updates.inclusion c.contents logs start.stored reply g.bundles e g.came (heads-shown prover accepts w c.contents logs g.bundles registry known.is whole g.show) (may-follow w start.stored c.contents known.follows known.is) bad
 reply-taken laws updates prover e accepts w settings said a start xs reply registry honest next (of_consistency old c logs shows bad) =
     let g = next.consistency old c logs shows in

@@ -4,4 +4,7 @@ pub mod PageLaws
 pub mod LeftLaws
 pub mod HeadLaws
 pub mod ShowLaws
+pub mod OpenLaws
 pub mod HonestLaws
+pub mod BroughtLaws
+pub mod ProvedLaws

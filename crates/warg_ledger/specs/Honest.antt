@@ -12,9 +12,9 @@ use Rattle.warg_exchange.specs.Requests.{Asker}
 use Rattle.warg_exchange.specs.Views.{Page}
 use Rattle.warg_info.specs.Kept.{Kept}
 use Rattle.warg_page.specs.Logs.{Logs}
-use Rattle.warg_update.specs.Proved.{IsSigned, Start, Opens, Shows}
+use Rattle.warg_update.specs.Proved.{IsSigned, Start, Proves, Opens, Shows}
 use Rattle.warg_ledger.specs.Registry.{Registry, log_below, IsCheckpointOf, IsPageOf}
-use Rattle.warg_ledger.specs.Replies.{ShowHeads, ShowsGrowth}
+use Rattle.warg_ledger.specs.Replies.{AreWhole, ShowHeads, ShowsGrowth}
 
 -- ---- a checkpoint
 
@@ -80,3 +80,13 @@ abbrev pub AreHonest : Accepts → Registry → Asker → Start → List Exchang
 AreHonest accepts w a start xs =
     (before after : List Exchange) (x : Exchange) → xs ≡ before ++ x ∷ after
     → IsHonestNext accepts w a start before x.reply
+
+-- ---- what they prove
+
+-- these exchanges prove the registry's whole logs below the length of a checkpoint of it
+pub record ProveWhole (accepts : Accepts) (w : Registry) (a : Asker) (start : Start) (xs : List Exchange) : Type 0 where
+  pub logs : Logs
+  pub checkpoint : SignedCheckpoint
+  pub proves : Proves accepts a start xs logs checkpoint
+  pub whole : AreWhole w checkpoint.contents.log_length logs
+  pub is : IsCheckpointOf w checkpoint.contents

@@ -1,4 +1,4 @@
-//! That honest replies are taken. Each law is the contract of a function that does nothing.
+//! That honest replies are taken, and what they prove. Each law is the contract of a function that does nothing.
 
 ghost use Rattle.std.specs.Prelude.{◌≡◌, ◌≤◌, ◌++◌, ℕ, Bool, false, List, Some, Contains};
 ghost use Rattle.warg_hash.specs.Hash.{operator_log_id, package_log_id};
@@ -23,13 +23,13 @@ ghost use Rattle.warg_exchange.specs.declared.proof.InclusionResponse.{Inclusion
 ghost use Rattle.warg_page.specs.Logs.{indices_of, leafs_of};
 ghost use Rattle.warg_verify.specs.Shown.{Includes, Continues};
 ghost use Rattle.warg_ledger.specs.Registry.{Registry, IsLogId, IsRegistry, IsCheckpointOf, log_below, BringsBehind, IsPageOf, Begins};
-ghost use Rattle.warg_update.specs.Proved.{Start};
+ghost use Rattle.warg_update.specs.Proved.{Start, Asks, AreAsked};
 ghost use Rattle.warg_update.specs.Standing.{request_at, Stands};
 ghost use Rattle.warg_update.specs.FeedFaults.{IsFeedFault};
 ghost use Rattle.warg_update.specs.declared.step.UpdateStep.{UpdateStep as Step};
 ghost use Rattle.warg_update.specs.declared.error.UpdateError.{UpdateError as Refusal};
 ghost use Rattle.warg_update.specs.declared.error.UpdateError.TheVariants.{Memory as UpdateWantsMemory};
-ghost use Rattle.warg_ledger.specs.Honest.{IsHonestNext, AreHonest};
+ghost use Rattle.warg_ledger.specs.Honest.{IsHonestNext, AreHonest, ProveWhole};
 ghost use Rattle.warg_ledger.specs.Replies.{AreWhole, ShowHeads, ShowsGrowth};
 
 use warg_info::laws::growth_is_taken;
@@ -111,4 +111,21 @@ pub fn honest_replies_are_taken()
     leaves_are_bytes();
     exchanges_come_in_turn();
     refusals_are_of_what_came();
+}
+
+/// The exchanges of a whole update with an honest registry prove: where each request is the next after those before it,
+/// each reply gives what was asked, and nothing is asked behind them, they prove the registry's whole logs below the
+/// length of the checkpoint that came.
+pub fn honest_updates_prove()
+    ensures { (accepts : Accepts) (w : Registry) (a : Asker) (start : Start) (xs : List Exchange)
+        → IsRegistry accepts w → AreAsked a start xs → AreHonest accepts w a start xs
+        → ((r : Sent) → Asks a start xs r → ⊥) → ProveWhole accepts w a start xs }
+{
+    growth_is_taken();
+    fronts_are_lawful();
+    inclusion_bundles_prove();
+    map_bundles_prove();
+    consistency_bundles_prove();
+    leaves_are_bytes();
+    exchanges_come_in_turn();
 }

@@ -1,4 +1,5 @@
-//! An honest registry as one growing list of records, what its pages bring, and the laws that these are taken.
+//! An honest registry as one growing list of records, what its pages bring, and the laws that these are taken and
+//! prove its logs.
 #![tactic(auto)]
 
 pub mod laws;
