@@ -1,5 +1,5 @@
 -- What a search of a learner has kept, learnt and found.
-use Rattle.std.proofs.Common.{◌≡◌, ℕ, Bool, List, [], ◌∷◌, ◌++◌, refl, sym, ap, subst, ◌∙◌, append_assoc}
+use Rattle.std.proofs.Common.{◌≡◌, ◌⊎◌, inl, inr, ℕ, Bool, List, [], ◌∷◌, ◌++◌, refl, sym, ap, subst, ◌∙◌, append_assoc}
 use Rattle.std.specs.List.{AllByRecursion, flat_map}
 use Rattle.sha2.specs.Sha256.{sha256}
 use Rattle.compose_config.specs.Plan.{Settings}
@@ -27,6 +27,15 @@ use Rattle.warg_learn.specs.Learnt.{IsLearnt}
 use Rattle.warg_learn.specs.Unlearnt.{IsUnlearnt}
 use Rattle.warg_compose.specs.Read.{IsComponent}
 use Rattle.comp_shape.specs.Refusal.{IsRefused}
+use Rattle.comp_shape.specs.declared.error.ShapeError.{ShapeError}
+use Rattle.warg_compose.specs.Linked.{IsComposeFault, IsLinkable}
+use Rattle.warg_compose.specs.declared.error.ComposeError.{ComposeError}
+use Rattle.warg_complete.specs.ExchangeLaws.{exchanges_both}
+use Rattle.warg_complete.specs.Sessions.{ProvesSession}
+use Rattle.warg_complete.specs.Undisturbed.{IsUndisturbed, IsUnreplied}
+use Rattle.warg_error.specs.Plans.{compose_refusal, search_refusal}
+use Rattle.warg_error.specs.declared.error.ClientError.TheVariants as told
+use Rattle.warg_client.specs.Complete.{IsValidCall}
 use Rattle.warg_client.specs.Assembled.{wanted, IsPlanned, IsPlanOfText, IsSearchRefused}
 use Rattle.warg_error.specs.Text.{IsPlanText}
 use Rattle.warg_error.specs.declared.error.ClientError.{ClientError}
@@ -34,14 +43,9 @@ use Rattle.warg_error.specs.declared.error.ClientError.{ClientError}
 -- ---- exchanges, and then others
 
 module _ {T : Type 0} (Steps : T → Asked → T → Type 0) where
-  exchanges_both : (old mid new : T) (xs ys : List Exchange) → Exchanges Steps old xs mid → Exchanges Steps mid ys new → Exchanges Steps old (xs ++ ys) new
-  unfolding Exchanges
-  exchanges_both old mid new [] ys first later = subst (λ t. Exchanges Steps t ys new) first later
-  exchanges_both old mid new (x ∷ xs) ys first later = (first.0, first.1, exchanges_both first.0 mid new xs ys first.2 later)
-
   both_kept : (old mid new : Transcript T) (xs ys : List Exchange) → AreKept Steps old xs mid → AreKept Steps mid ys new → AreKept Steps old (xs ++ ys) new
   both_kept old mid new xs ys first later = record {
-    passed = exchanges_both old.link mid.link new.link xs ys first.passed later.passed;
+    passed = exchanges_both Steps old.link mid.link new.link xs ys first.passed later.passed;
     exchanges = later.exchanges ∙ ap (λ l. l ++ ys) first.exchanges ∙ append_assoc old.exchanges xs ys;
     whole = later.whole ∙ first.whole;
   }
@@ -141,3 +145,33 @@ module _ {T D : Type 0} (Steps : T → Asked → T → Type 0) where
 
   pub search_own : (said : D → D → Bool → Bool) (s : Settings) (old new : Seen T D) (e : ClientError) (known : Known) → IsKnown old known → IsSearchRefused Steps old new said e s → IsOwnStore old.accepts new.registries
   search_own said s old new e known knows refused = refused_own Steps IsComponent (wanted s) said (λ bytes error. IsRefused error bytes) old new refused.refusal known knows refused.cause
+
+-- ---- calls in whose way nothing stands
+
+module _ {T D : Type 0} (Steps : T → Asked → T → Type 0) (old new : Seen T D) (text : List ℕ) (s : Settings) where
+  -- what a search that ends without a plan is refused for
+  abbrev pub Undisturbed : Type 0
+  Undisturbed = (accepts : Accepts) (asker : Registry → Asker) (w : Wanted) (known : Known) (parts : List Part) (es : List Entry) (said : D → D → Bool → Bool) (e : SearchError (LearnError ShapeError)) (old new : Seen T D)
+      → ProvesSession Steps accepts asker w known nothing_known parts es old → IsUndisturbed parts old new → IsSearchRefusal w (IsLearnt Steps IsComponent) (IsUnlearnt Steps said (λ bytes error. IsRefused error bytes)) old new e
+      → (search_refusal e ≡ told.Memory) ⊎ ((search_refusal e ≡ told.LinkFault) × IsUnreplied parts old new Steps)
+
+  pub search_short : Undisturbed → (said : D → D → Bool → Bool) (e : ClientError) → IsSearchRefused Steps old new said e s → (v : IsValidCall Steps old new text) → s ≡ v.settings → (e ≡ told.Memory) ⊎ ((e ≡ told.LinkFault) × IsUnreplied v.parts old new Steps)
+  search_short law said e refused v same =
+      by (law old.accepts old.asker (wanted s) v.known v.parts v.entries said refused.refusal old new
+      (subst (λ (t : Settings). ProvesSession Steps old.accepts old.asker (wanted t) v.known nothing_known v.parts v.entries old) (sym same) v.proves) v.undisturbed refused.cause)
+    where
+      by : (search_refusal refused.refusal ≡ told.Memory) ⊎ ((search_refusal refused.refusal ≡ told.LinkFault) × IsUnreplied v.parts old new Steps) → (e ≡ told.Memory) ⊎ ((e ≡ told.LinkFault) × IsUnreplied v.parts old new Steps)
+      by (inl memory) = inl (refused.told ∙ memory)
+      by (inr unreplied) = inr (refused.told ∙ unreplied.0, unreplied.1)
+
+  -- that a search finds the session's plan, and that a plan which can be linked is linked
+  abbrev pub Found : Type 0
+  Found = (accepts : Accepts) (asker : Registry → Asker) (w : Wanted) (known : Known) (parts : List Part) (es other : List Entry) (old new : Seen T D) → ProvesSession Steps accepts asker w known nothing_known parts es old
+      → (found : Finds w (IsLearnt Steps IsComponent) old new other) → (other ≡ es) × (found.parts ≡ parts)
+
+  pub compose_short : Found → ((es : List Entry) (e : ComposeError) → IsLinkable es → IsComposeFault e es → compose_refusal e ≡ told.Memory) → (es : List Entry) (e : ComposeError) → Finds (wanted s) (IsLearnt Steps IsComponent) old new es
+      → IsComposeFault e es → (v : IsValidCall Steps old new text) → s ≡ v.settings → compose_refusal e ≡ told.Memory
+  compose_short law linked es e finds fault v same =
+      let here = subst (λ (t : Settings). Finds (wanted t) (IsLearnt Steps IsComponent) old new es) same finds in
+      let is : es ≡ v.entries = (law old.accepts old.asker (wanted v.settings) v.known v.parts v.entries es old new v.proves here).0 in
+      linked v.entries e v.linkable (subst (IsComposeFault e) is fault)

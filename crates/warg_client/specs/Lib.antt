@@ -1,3 +1,4 @@
 pub mod Errors
 pub mod Shown
 pub mod Assembled
+pub mod Complete

@@ -1,6 +1,6 @@
 //! Components, assembled of the plans of texts.
 
-ghost use Rattle.std.specs.Prelude.{◌≡◌, Some, None, IfOk, IfErr, OnErr};
+ghost use Rattle.std.specs.Prelude.{◌≡◌, ◌⊎◌, Some, None, IfOk, IfErr, OnErr};
 ghost use Rattle.compose_config.specs.View.{settings_of as plan_settings};
 ghost use Rattle.warg_plan.specs.View.{plan_view};
 ghost use Rattle.warg_plan.specs.declared.plan.Plan.{Plan as Found};
@@ -11,7 +11,10 @@ ghost use Rattle.warg_learn.specs.Learnt.{IsLearnt};
 ghost use Rattle.warg_learn.specs.Seen.{IsKnown, Telling};
 ghost use Rattle.warg_compose.specs.Linked.{IsPlanLinked};
 ghost use Rattle.warg_compose.specs.Read.{IsComponent};
+ghost use Rattle.warg_complete.specs.Undisturbed.{IsUnreplied};
+ghost use Rattle.warg_error.specs.declared.error.ClientError.TheVariants.{LinkFault as HasFailed, Memory as WantsMemory};
 ghost use Rattle.warg_client.specs.Assembled.{IsAssembleFault, IsPlanOfText, IsSearchRefused, beginning, wanted};
+ghost use Rattle.warg_client.specs.Complete.{IsValidCall};
 ghost use Rattle.warg_client.specs.Shown.{plan_of, registry_of, seen_by, settings_of, tells, verifier_of};
 
 use crate::client::Client;
@@ -19,6 +22,7 @@ use compose_config::Config;
 use indexmap::IndexMap;
 use std::alloc::Global;
 use warg_api::Link;
+use warg_complete::laws::{linkable_plans_are_linked, proving_sessions_are_found};
 use warg_compose::compose_plan;
 use warg_error::{ClientError, plan_text};
 use warg_hint::Decide;
@@ -87,12 +91,28 @@ impl<
             N.told N.faults) self.old))
             (seen_by (tells V.good L.told L.faults R.told R.faults C.told C.faults N.told N.faults) self.new)
             D.said e text.now) }
+        // Where nothing stands in the way, a component is assembled, memory runs out, or the link has given no reply,
+        // which is told.
+        ensures complete { IfErr result (λ e.
+            (valid : IsValidCall L.Steps
+            (beginning (settings_of self.old) (seen_by (tells V.good L.told L.faults R.told R.faults C.told C.faults
+            N.told N.faults) self.old))
+            (seen_by (tells V.good L.told L.faults R.told R.faults C.told C.faults N.told N.faults) self.new) text.now)
+            → (e ≡ WantsMemory)
+            ⊎ ((e ≡ HasFailed)
+            × IsUnreplied valid.parts
+            (beginning (settings_of self.old) (seen_by (tells V.good L.told L.faults R.told R.faults C.told C.faults
+            N.told N.faults) self.old))
+            (seen_by (tells V.good L.told L.faults R.told R.faults C.told C.faults N.told N.faults) self.new)
+            L.Steps)) }
         ensures own { (known : Known)
             → IsKnown (beginning (settings_of self.old) (seen_by (tells V.good L.told L.faults R.told R.faults C.told
             C.faults N.told N.faults) self.old)) known
             → IsOwnStore (V.good (verifier_of self.old)) (R.told (registry_of self.new)) }
         ensures same_settings { settings_of self.new ≡ settings_of self.old }
     {
+        proving_sessions_are_found::<L, D>();
+        linkable_plans_are_linked();
         self.begin(alloc);
         let config = plan_text(alloc, text)?;
         let plan = self.find_plan(alloc, &config)?;

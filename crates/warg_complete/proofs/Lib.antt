@@ -1,5 +1,6 @@
-mod RepliesLaws
-mod PartLaws
-mod LearntLaws
-mod FaultLaws
-mod SearchLaws
+pub mod PartLaws
+pub mod LearntLaws
+pub mod FaultLaws
+pub mod LinkLaws
+pub mod UndisturbedLaws
+pub mod SearchLaws

@@ -1,2 +1,4 @@
 pub mod Sessions
 pub mod Refusals
+pub mod Undisturbed
+pub mod ExchangeLaws

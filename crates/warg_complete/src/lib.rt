@@ -1,4 +1,5 @@
-//! The search of a plan over replies that prove a session: it goes the way of the session, and finds its plan.
+//! The search of a plan over a link that gives the replies of a session: it goes the way of the session, and finds its
+//! plan.
 #![tactic(auto)]
 
 pub mod laws;

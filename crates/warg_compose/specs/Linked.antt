@@ -26,6 +26,15 @@ pub record IsPlanLinked (es : List Entry) (bytes : List ℕ) : Type 0 where
   pub is_linked : IsLinked entry.content (link_exports tree) bytes
   pub text : bytes ≡ component_text (singles (link_items entry.content (link_exports tree)))
 
+-- a plan that can be linked: its one entry's content is a component that imports nothing and exports nothing that mentions
+-- a resource, and what is linked can be written
+pub record IsLinkable (es : List Entry) : Type 0 where
+  pub entry : Entry
+  pub tree : ShapeTree
+  pub single : IsSingle es entry tree
+  pub not_open : IsOpen tree → ⊥
+  pub fits : LinkFits entry.content (link_exports tree)
+
 -- a plan that is not linked yet: it has not one entry; or its entry's content imports something, or exports what mentions
 -- a resource
 abbrev pub IsNotBuilt : List Entry → Type 0

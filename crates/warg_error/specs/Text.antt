@@ -2,6 +2,8 @@
 use Rattle.std.specs.Prelude.{◌≡◌, ℕ, List, Some}
 use Rattle.yaml_read.specs.Answers.{ReadFails}
 use Rattle.yaml_read.specs.Whole.{Holds, whole_at}
+use Rattle.yaml_read.specs.declared.error.DeError.{DeError}
+use Rattle.yaml_read.specs.declared.error.DeError.TheVariants as read
 use Rattle.compose_config.specs.Plan.{Settings, settings_at, settings_node}
 use Rattle.warg_plan.specs.Form as form
 use Rattle.warg_error.specs.declared.error.PlanFault.{PlanFault}
@@ -28,6 +30,11 @@ pub record HasMisfit (text : List ℕ) (misfit : form.Misfit) : Type 0 where
   pub settings : Settings
   pub holds : Holds settings_node text settings
   pub sets : form.misfit_of settings ≡ Some misfit
+
+-- that a text is no configuration, as a client tells it
+abbrev pub read_refusal : DeError → ClientError
+read_refusal read.Memory = error.Memory
+read_refusal e = error.BadPlan (fault.Text e)
 
 -- why no plan is made of a text
 abbrev pub IsPlanFault : PlanFault → List ℕ → Type 0

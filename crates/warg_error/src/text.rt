@@ -1,9 +1,11 @@
 //! Texts of which plans are made.
 
-ghost use Rattle.std.specs.Prelude.{IfErr, IfOk};
+ghost use Rattle.std.specs.Prelude.{◌≡◌, IfErr, IfOk};
+ghost use Rattle.compose_config.specs.Plan.{Settings};
 ghost use Rattle.compose_config.specs.View.{settings_of};
 ghost use Rattle.warg_plan.specs.FormView.{misfit_view};
-ghost use Rattle.warg_error.specs.Text.{IsPlanText, IsTextFault, IsMisfit};
+ghost use Rattle.warg_error.specs.Text.{IsPlanText, IsTextFault, IsMisfit, read_refusal};
+ghost use Rattle.warg_error.specs.declared.error.ClientError.TheVariants.{Memory as WantsMemory};
 
 use crate::error::{ClientError, PlanFault};
 use compose_config::Config;
@@ -28,6 +30,16 @@ fn fault_of(alloc: Global, error: &TextError<'_>) -> Result<PlanFault, Memory>
     })
 }
 
+/// That a text is no configuration.
+fn unread(error: DeError) -> ClientError
+    ensures { result ≡ read_refusal error }
+{
+    if let DeError::Memory = &error {
+        return ClientError::Memory;
+    }
+    ClientError::BadPlan(PlanFault::Text(error))
+}
+
 /// The configuration that a text is, of which a plan is made.
 ///
 /// The text is refused where it is no configuration, and where it names files, imports components or gives an argument as
@@ -35,11 +47,13 @@ fn fault_of(alloc: Global, error: &TextError<'_>) -> Result<PlanFault, Memory>
 pub fn plan_text(alloc: Global, text: &str) -> Result<Config, ClientError>
     ensures read { IfOk result (λ config. IsPlanText text.now (settings_of config)) }
     ensures fault { IfErr result (λ e. IsTextFault e text.now) }
+    // Of a text there is one such plan, and it is refused for want of memory alone.
+    ensures one { (s : Settings) → IsPlanText text.now s → IfOk result (λ config. settings_of config ≡ s) }
+    ensures short { (s : Settings) → IsPlanText text.now s → IfErr result (λ e. e ≡ WantsMemory) }
 {
     let config = match Config::from_text(alloc, text) {
         Ok(config) => config,
-        Err(DeError::Memory) => return Err(ClientError::Memory),
-        Err(error) => return Err(ClientError::BadPlan(PlanFault::Text(error))),
+        Err(error) => return Err(unread(error)),
     };
     if let Err(error) = check_text(&config) {
         return Err(ClientError::BadPlan(fault_of(alloc, &error)?));

@@ -8,7 +8,7 @@ use Rattle.warg_learn.specs.Learnt.{IsLearnt}
 use Rattle.warg_compose.specs.Read.{IsComponent}
 use Rattle.warg_client.specs.Assembled.{IsSearchRefused, wanted}
 use Rattle.warg_client.specs.Shown.{seen_by, tells}
-use Rattle.warg_client.proofs.AssembleLaws.{found_own, is_plan_of_text, search_own}
+use Rattle.warg_client.proofs.AssembleLaws.{compose_short, found_own, is_plan_of_text, search_own, search_short}
 use Rattle.warg_client.proofs.client.Client.assemble.Goals as goal
 
 -- the text is refused
@@ -22,6 +22,11 @@ pub returns-in_err-config-clause-own : goal.returns-in_err-config-clause-own
 returns-in_err-config-clause-own g c = λ known knows.
     let tell = tells g.V.Verifier.good g.L.Link.told g.L.Link.faults g.R.RegistryStorage.told g.R.RegistryStorage.faults g.C.ContentStorage.told g.C.ContentStorage.faults g.N.NamespaceMapStorage.told g.N.NamespaceMapStorage.faults in
     subst (λ told. IsOwnStore (g.V.Verifier.good c.args.self.now.learner.verifier) told) (sym (ap (λ s. s.registries) (c.begin.ensures.begins tell))) knows.stores.own
+
+pub returns-in_err-config-clause-complete : goal.returns-in_err-config-clause-complete
+returns-in_err-config-clause-complete g c =
+    let q = err_from_is_err_and c.from_residual.result c.from_residual.ensures.1 in
+    rw (q.1, q.2) (λ valid. inl (c.in_err-config.ensures.short valid.settings valid.reads))
 
 -- the plan is not found
 pub returns-in_err-plan-clause-cause : goal.returns-in_err-plan-clause-cause
@@ -39,6 +44,15 @@ returns-in_err-plan-clause-own g c = λ known knows.
     let new = seen_by tell c.find_plan.new.self in
     search_own g.L.Link.Steps g.D.Decide.said s _ new c.in_err-plan.field-0.0 known knows
     (subst (λ old. IsSearchRefused g.L.Link.Steps old new g.D.Decide.said c.in_err-plan.field-0.0 s) (c.begin.ensures.begins tell) c.in_err-plan.ensures.refused)
+
+pub returns-in_err-plan-clause-complete : goal.returns-in_err-plan-clause-complete
+returns-in_err-plan-clause-complete g c =
+    let tell = tells g.V.Verifier.good g.L.Link.told g.L.Link.faults g.R.RegistryStorage.told g.R.RegistryStorage.faults g.C.ContentStorage.told g.C.ContentStorage.faults g.N.NamespaceMapStorage.told g.N.NamespaceMapStorage.faults in
+    let s = plan_settings c.in_ok-config.config in
+    let new = seen_by tell c.find_plan.new.self in
+    let q = err_from_is_err_and c.from_residual-in_err-plan.result c.from_residual-in_err-plan.ensures.1 in
+    rw (q.1, q.2) (λ valid. search_short g.L.Link.Steps _ new c.args.text.now s c.proving_sessions_are_found.ensures.undisturbed g.D.Decide.said c.in_err-plan.field-0.0
+    (subst (λ old. IsSearchRefused g.L.Link.Steps old new g.D.Decide.said c.in_err-plan.field-0.0 s) (c.begin.ensures.begins tell) c.in_err-plan.ensures.refused) valid (c.in_ok-config.ensures.one valid.settings valid.reads))
 
 -- the plan is not linked
 pub returns-in_err-bytes-clause-cause : goal.returns-in_err-bytes-clause-cause
@@ -67,6 +81,16 @@ returns-in_err-bytes-clause-own g c = λ known knows.
     let new = seen_by tell c.find_plan.new.self in
     let es = plan_view c.in_ok-plan.plan in
     found_own g.L.Link.Steps s _ new es known knows (subst (λ old. Finds (wanted s) (IsLearnt g.L.Link.Steps IsComponent) old new es) (c.begin.ensures.begins tell) c.in_ok-plan.ensures.finds)
+
+pub returns-in_err-bytes-clause-complete : goal.returns-in_err-bytes-clause-complete
+returns-in_err-bytes-clause-complete g c =
+    let tell = tells g.V.Verifier.good g.L.Link.told g.L.Link.faults g.R.RegistryStorage.told g.R.RegistryStorage.faults g.C.ContentStorage.told g.C.ContentStorage.faults g.N.NamespaceMapStorage.told g.N.NamespaceMapStorage.faults in
+    let s = plan_settings c.in_ok-config.config in
+    let new = seen_by tell c.find_plan.new.self in
+    let es = plan_view c.in_ok-plan.plan in
+    let q = err_from_is_err_and c.from_residual-in_err-bytes.result c.from_residual-in_err-bytes.ensures.1 in
+    rw (q.1, q.2) (λ valid. inl (compose_short g.L.Link.Steps _ new c.args.text.now s c.proving_sessions_are_found.ensures.found c.linkable_plans_are_linked.ensures es c.in_err-bytes.field-0.0
+    (subst (λ old. Finds (wanted s) (IsLearnt g.L.Link.Steps IsComponent) old new es) (c.begin.ensures.begins tell) c.in_ok-plan.ensures.finds) c.in_err-bytes.ensures.fault valid (c.in_ok-config.ensures.one valid.settings valid.reads)))
 
 -- the plan is found and linked
 pub returns-clause-planned : goal.returns-clause-planned
