@@ -17,7 +17,7 @@ use warg_program::{Stop, outcome};
 const WORDS: &[&str] = &["assemble", "plan", "replies", "checked", "out"];
 
 /// The text of a plan of one package.
-const TEXT: &str = "instantiations:\n  root:\n    dependency: demo:app\n";
+pub const TEXT: &str = "instantiations:\n  root:\n    dependency: demo:app\n";
 
 /// What is given, and how it ends.
 struct Row {
@@ -144,7 +144,7 @@ const ROWS: &[Row] = &[
 ];
 
 /// A file of replies with these bodies.
-fn replies(alloc: Global, bodies: &[&str]) -> Result<String, Fail> {
+pub fn replies(alloc: Global, bodies: &[&str]) -> Result<String, Fail> {
     let mut text = String::from_str(alloc, "[")?;
     for body in bodies {
         if text.len() > 1 {

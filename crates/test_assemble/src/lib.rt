@@ -4,4 +4,6 @@
 #[cfg(test)]
 mod assemble;
 #[cfg(test)]
+mod client;
+#[cfg(test)]
 mod world;

@@ -1,6 +1,6 @@
 -- The words of commands.
 use Rattle.std.proofs.Common.{◌≡◌, ◌≤◌, ◌<◌, ℕ, List, [], ◌∷◌, length, get_or, refl, sym, ap, ◌∙◌, arith}
-use Rattle.warg_program.specs.Command.{Asked, Link, Assemble, IsCommand}
+use Rattle.warg_program.specs.Command.{Asked, Link, Assemble, Sources, IsCommand, words_of}
 
 -- a list of three
 pub three_are : {X : Type 0} (xs : List X) (a b c : X) → 3 ≤ length xs → length xs < 4 → xs ≡ get_or xs 0 a ∷ get_or xs 1 b ∷ get_or xs 2 c ∷ []
@@ -33,3 +33,17 @@ one_root words root out other last h k = ap (λ (l : List (List ℕ)). get_or l 
 pub is_link : {P : Type 0} (words : List (List ℕ)) (root out : List ℕ) (c : Asked) → IsCommand words (Link root out) → IsCommand words c → ((other last : List ℕ) → c ≡ Link other last → root ≡ other → P) → P
 is_link words root out (Link other last) h k then = then other last refl (one_root words root out other last h k)
 is_link words root out (Assemble sources last) h k then = three_or_five _ _ _ _ _ _ _ _ (sym h ∙ k)
+
+-- words that are an assembly are no other command
+same_sources : (words : List (List ℕ)) (sources other : Sources) (out last : List ℕ) → IsCommand words (Assemble sources out) → IsCommand words (Assemble other last) → sources ≡ other
+same_sources words sources other out last h k =
+    let same : words_of (Assemble sources out) ≡ words_of (Assemble other last) = sym h ∙ k in
+    ap (λ (l : List (List ℕ)). make (get_or l 1 []) sources.replies sources.checked) same ∙ ap (λ (l : List (List ℕ)). make other.plan (get_or l 2 []) sources.checked) same
+    ∙ ap (λ (l : List (List ℕ)). make other.plan other.replies (get_or l 3 [])) same
+  where
+    make : List ℕ → List ℕ → List ℕ → Sources
+    make plan replies checked = record { plan = plan; replies = replies; checked = checked }
+
+pub is_assemble : {P : Type 0} (words : List (List ℕ)) (sources : Sources) (out : List ℕ) (c : Asked) → IsCommand words (Assemble sources out) → IsCommand words c → ((other : Sources) (last : List ℕ) → c ≡ Assemble other last → sources ≡ other → P) → P
+is_assemble words sources out (Link root last) h k then = three_or_five _ _ _ _ _ _ _ _ (sym k ∙ h)
+is_assemble words sources out (Assemble other last) h k then = then other last refl (same_sources words sources other out last h k)

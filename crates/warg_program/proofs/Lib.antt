@@ -1,3 +1,4 @@
+mod AbleLaws
 mod CommandLaws
 mod SourceLaws
 mod StopLaws

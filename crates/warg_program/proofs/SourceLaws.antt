@@ -1,10 +1,11 @@
 -- Why a file is not read, since an earlier moment; and the stop of an error.
-use Rattle.std.proofs.Common.{◌≡◌, ◌≤◌, inl, inr, subst, ℕ, List, Some, None, IfSome}
+use Rattle.std.proofs.Common.{◌≡◌, ◌≤◌, inl, inr, ap, subst, ℕ, Bool, true, false, List, Some, None, IfSome}
+use Rattle.std.proofs.lemmas.Bool.{false≢true}
 use Rattle.warg_base.specs.Files.{file_at}
 use Rattle.warg_error.specs.declared.error.ClientError.{ClientError}
 use Rattle.warg_error.specs.declared.error.ClientError.TheVariants as error
 use Rattle.warg_exchange.specs.declared.exchange.Reply.{Reply}
-use Rattle.warg_replay.specs.Replay.{IsReplayFault, accepts_listed}
+use Rattle.warg_replay.specs.Replay.{IsReplayFault, IsReplayable, accepts_listed}
 use Rattle.warg_program.specs.World.{SeenFiles, HasFile}
 use Rattle.warg_program.specs.Assembly.{Listed, HasChecked, HasOther, HasReplies, IsReplayCause, IsSourceCause, refusal_of}
 use Rattle.warg_program.specs.declared.stop.Form.{Form}
@@ -34,8 +35,14 @@ module _ (old mid after : SeenFiles) (kept : mid.held ≡ old.held) (rises : old
   source_since stop.Memory path form h = tt
   source_since _ path form h = absurd h
 
+-- ---- the stop of an error
+
+abbrev is_memory : ClientError → Bool
+is_memory error.Memory = true
+is_memory _ = false
+
 -- why nothing is replayed, by the stop of its error
-pub replay_cause : (e : ClientError) (text : List ℕ) (replies : List Reply) (listed : List Listed) → IsReplayFault (accepts_listed listed) replies e text → IsReplayCause (refusal_of e) text replies listed
-replay_cause error.Memory text replies listed h = tt
-replay_cause e text replies listed (inl is) = cc
-replay_cause e text replies listed (inr h) = h
+pub replay_cause : (e : ClientError) (text : List ℕ) (replies : List Reply) (listed : List Listed) → IsReplayFault (accepts_listed listed) replies e text → (IsReplayable (accepts_listed listed) replies text → e ≡ error.Memory) → IsReplayCause (refusal_of e) text replies listed
+replay_cause error.Memory text replies listed h short = tt
+replay_cause e text replies listed (inl is) short = cc
+replay_cause e text replies listed (inr h) short = record { cause = h; not_replayable = λ can. false≢true (ap is_memory (short can)) }

@@ -39,12 +39,12 @@ pub holds_stopped : (s : Stop) (words : List (List ℕ)) (before stopped after :
 holds_stopped s words before stopped after same (inl r) = inl (same ∙ r.files)
 holds_stopped s words before stopped after same (inr c) = inr (c.command, c.is_command, stops_holds s c.command before stopped after same c.stops)
 
-no_some : {X : Type 0} (o : Option X) (x : X) → o ≡ None → o ≡ Some x → ⊥
+pub no_some : {X : Type 0} (o : Option X) (x : X) → o ≡ None → o ≡ Some x → ⊥
 no_some o x missing there =
     let nothing : IfSome o (λ _. ⊥) = rw missing tt in
     subst (λ s. IfSome s (λ _. ⊥)) there nothing
 
-there_is : (before : SeenFiles) (held : FileMap) (root bytes others : List ℕ) → before.held ≡ Some held → file_at held root ≡ Some bytes → HasFile before root others → others ≡ bytes
+pub there_is : (before : SeenFiles) (held : FileMap) (root bytes others : List ℕ) → before.held ≡ Some held → file_at held root ≡ Some bytes → HasFile before root others → others ≡ bytes
 there_is before held root bytes others e is h =
     let there = subst (λ t. IfSome t (λ files. file_at files root ≡ Some others)) e h in
     same_Some others bytes (sym there ∙ is)
@@ -61,7 +61,7 @@ print_short (stop.Fault access.Printed) before after none h = absurd (none h)
 print_short stop.Memory before after none h = tt
 print_short _ before after none h = absurd h
 
-undelivered_short : (s : Stop) (out bytes lines : List ℕ) (before after : World) → (Rose before.files.faults after.files.faults → ⊥) → (Rose before.output.faults after.output.faults → ⊥) → IsUndelivered s out bytes lines before after → IsShortOfMemory s
+pub undelivered_short : (s : Stop) (out bytes lines : List ℕ) (before after : World) → (Rose before.files.faults after.files.faults → ⊥) → (Rose before.output.faults after.output.faults → ⊥) → IsUndelivered s out bytes lines before after → IsShortOfMemory s
 undelivered_short s out bytes lines before after files output (inl o) = write_short s out before.files after.files files o.cause
 undelivered_short s out bytes lines before after files output (inr l) = print_short s before.output after.output output l.cause
 

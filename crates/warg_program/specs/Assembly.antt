@@ -8,7 +8,7 @@ use Rattle.warg_exchange.specs.Body.{BodyFault}
 use Rattle.warg_exchange.specs.declared.exchange.Reply.{Reply}
 use Rattle.warg_plan.specs.Walk.{Entry}
 use Rattle.warg_recorded.specs.Files.{replies_in, signatures_in}
-use Rattle.warg_replay.specs.Replay.{IsRefused, IsReplayed, accepts_listed}
+use Rattle.warg_replay.specs.Replay.{IsRefused, IsReplayable, IsReplayed, accepts_listed}
 use Rattle.warg_program.specs.World.{SeenFiles, HasFile, HasNoFile}
 use Rattle.warg_program.specs.Command.{Sources}
 use Rattle.warg_program.specs.Lines.{assembly_lines}
@@ -89,9 +89,15 @@ abbrev pub refusal_of : ClientError → Stop
 refusal_of error.Memory = stop.Memory
 refusal_of e = stop.Refused e
 
--- why a text is not assembled over replies and signatures
+-- a client refuses the text, and the text can't be replayed over these replies
+pub record IsUnreplayed (e : ClientError) (text : List ℕ) (replies : List Reply) (listed : List Listed) : Type 0 where
+  pub cause : IsRefused (accepts_listed listed) replies e text
+  pub not_replayable : ¬ IsReplayable (accepts_listed listed) replies text
+
+-- why a text is not assembled over replies and signatures: want of memory is told as such, and says nothing
 abbrev pub IsReplayCause : Stop → (text : List ℕ) → List Reply → List Listed → Type 0
-IsReplayCause (stop.Refused e) text replies listed = IsRefused (accepts_listed listed) replies e text
+IsReplayCause (stop.Refused error.Memory) text replies listed = ⊥
+IsReplayCause (stop.Refused e) text replies listed = IsUnreplayed e text replies listed
 IsReplayCause stop.Memory text replies listed = Unit {0}
 IsReplayCause _ text replies listed = ⊥
 

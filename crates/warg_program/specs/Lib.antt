@@ -7,3 +7,4 @@ pub mod Link
 pub mod Assembly
 pub mod Delivery
 pub mod Run
+pub mod Able

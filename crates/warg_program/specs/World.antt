@@ -1,5 +1,6 @@
 -- What a run sees of the outside, and what it changes there.
 use Rattle.std.specs.Prelude.{◌≡◌, ℕ, List, ◌++◌, Option, Some, None, IfSome}
+use Rattle.warg_values.specs.Faults.{Rose}
 use Rattle.warg_base.specs.Files.{FileMap, LeavesPartlyWritten, file_at, with_file}
 use Rattle.warg_base.specs.Out.{LeavesPartlyAdded}
 
@@ -28,6 +29,16 @@ seen_output printed faults = record { printed = printed; faults = faults }
 
 abbrev pub world : SeenFiles → SeenOutput → World
 world files output = record { files = files; output = output }
+
+-- files and an output that tell this and have failed so often
+abbrev pub seen_world : Option FileMap → ℕ → Option (List ℕ) → ℕ → World
+seen_world held file_faults printed output_faults =
+    world (seen_files held file_faults) (seen_output printed output_faults)
+
+-- no call of the files or of the output failed between two moments
+pub record IsUnfailing (before after : World) : Type 0 where
+  pub files : ¬ Rose before.files.faults after.files.faults
+  pub output : ¬ Rose before.output.faults after.output.faults
 
 -- a path has a file of these bytes
 abbrev pub HasFile : SeenFiles → List ℕ → List ℕ → Type 0

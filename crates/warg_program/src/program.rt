@@ -1,14 +1,9 @@
 //! A run of the program.
 
-ghost use Rattle.std.specs.Prelude.{◌≡◌, ◌≤◌, ◌⊎◌, ℕ, List, Some, map, IfOk, IfErr, OnOk, string_bytes};
-ghost use Rattle.warg_values.specs.Faults.{Rose};
-ghost use Rattle.warg_base.specs.Files.{FileMap, file_at};
-ghost use Rattle.comp_entity.specs.Entity.{ShapeTree};
-ghost use Rattle.comp_shape.specs.Shape.{HasShape};
-ghost use Rattle.wasm_compose.specs.Link.{LinkFits, link_exports};
-ghost use Rattle.wasm_compose.specs.Open.{IsOpen};
-ghost use Rattle.warg_program.specs.World.{seen_files, seen_output, world};
-ghost use Rattle.warg_program.specs.Command.{Link, IsCommand, asked};
+ghost use Rattle.std.specs.Prelude.{◌≡◌, ◌≤◌, ◌⊎◌, map, IfOk, IfErr, OnOk, string_bytes};
+ghost use Rattle.warg_program.specs.World.{IsUnfailing, seen_files, seen_world};
+ghost use Rattle.warg_program.specs.Able.{IsAble};
+ghost use Rattle.warg_program.specs.Command.{asked};
 ghost use Rattle.warg_program.specs.Run.{IsDone, IsShortOfMemory, IsStop, IsStopped, IsUnmade, Makes, MayHold};
 ghost use Rattle.warg_program.specs.Stop.{status_of};
 ghost use Rattle.warg_program.specs.declared.stop.Stop.{Stop as AnyStop};
@@ -47,20 +42,12 @@ fn perform<'a, F: Files, O: Out>(
 ) -> Result<(), Stop<'a>>
     ensures files_never_fall { F.faults files.old ≤ F.faults files.new }
     ensures out_never_falls { O.faults out.old ≤ O.faults out.new }
-    ensures done { let before = world
-        (seen_files (F.told files.old) (F.faults files.old))
-        (seen_output (O.told out.old) (O.faults out.old)) in
-        let after = world
-        (seen_files (F.told files.new) (F.faults files.new))
-        (seen_output (O.told out.new) (O.faults out.new)) in
-        OnOk result (IsDone (map string_bytes words.now) before after) }
-    ensures stopped { let before = world
-        (seen_files (F.told files.old) (F.faults files.old))
-        (seen_output (O.told out.old) (O.faults out.old)) in
-        let after = world
-        (seen_files (F.told files.new) (F.faults files.new))
-        (seen_output (O.told out.new) (O.faults out.new)) in
-        IfErr result (λ stop. IsStopped stop (map string_bytes words.now) before after) }
+    ensures done { OnOk result (IsDone (map string_bytes words.now)
+        (seen_world (F.told files.old) (F.faults files.old) (O.told out.old) (O.faults out.old))
+        (seen_world (F.told files.new) (F.faults files.new) (O.told out.new) (O.faults out.new))) }
+    ensures stopped { IfErr result (λ stop. IsStopped stop (map string_bytes words.now)
+        (seen_world (F.told files.old) (F.faults files.old) (O.told out.old) (O.faults out.old))
+        (seen_world (F.told files.new) (F.faults files.new) (O.told out.new) (O.faults out.new))) }
 {
     let Some(command) = command_of(words) else {
         return Err(Stop::Usage);
@@ -80,32 +67,21 @@ pub fn outcome<'a, F: Files, O: Out>(
 ) -> Result<(), Stop<'a>>
     ensures files_never_fall { F.faults files.old ≤ F.faults files.new }
     ensures out_never_falls { O.faults out.old ≤ O.faults out.new }
-    ensures done { let before = world
-        (seen_files (F.told files.old) (F.faults files.old))
-        (seen_output (O.told out.old) (O.faults out.old)) in
-        let after = world
-        (seen_files (F.told files.new) (F.faults files.new))
-        (seen_output (O.told out.new) (O.faults out.new)) in
-        OnOk result (IsDone (map string_bytes words.now) before after) }
-    ensures stopped { let before = world
-        (seen_files (F.told files.old) (F.faults files.old))
-        (seen_output (O.told out.old) (O.faults out.old)) in
-        let after = world
-        (seen_files (F.told files.new) (F.faults files.new))
-        (seen_output (O.told out.new) (O.faults out.new)) in
-        IfErr result (λ stop. IsStop stop (map string_bytes words.now) before after) }
-    ensures holds { let before = world
-        (seen_files (F.told files.old) (F.faults files.old))
-        (seen_output (O.told out.old) (O.faults out.old)) in
-        let after = world
-        (seen_files (F.told files.new) (F.faults files.new))
-        (seen_output (O.told out.new) (O.faults out.new)) in
-        MayHold (map string_bytes words.now) before after }
-    ensures complete { (root path : List ℕ) → (held : FileMap) → (bytes : List ℕ) → (tree : ShapeTree)
-        → IsCommand (map string_bytes words.now) (Link root path)
-        → F.told files.old ≡ Some held → file_at held root ≡ Some bytes
-        → HasShape bytes tree → (IsOpen tree → ⊥) → LinkFits bytes (link_exports tree)
-        → (Rose (F.faults files.old) (F.faults files.new) → ⊥) → (Rose (O.faults out.old) (O.faults out.new) → ⊥)
+    ensures done { OnOk result (IsDone (map string_bytes words.now)
+        (seen_world (F.told files.old) (F.faults files.old) (O.told out.old) (O.faults out.old))
+        (seen_world (F.told files.new) (F.faults files.new) (O.told out.new) (O.faults out.new))) }
+    ensures stopped { IfErr result (λ stop. IsStop stop (map string_bytes words.now)
+        (seen_world (F.told files.old) (F.faults files.old) (O.told out.old) (O.faults out.old))
+        (seen_world (F.told files.new) (F.faults files.new) (O.told out.new) (O.faults out.new))) }
+    ensures holds { MayHold (map string_bytes words.now)
+        (seen_world (F.told files.old) (F.faults files.old) (O.told out.old) (O.faults out.old))
+        (seen_world (F.told files.new) (F.faults files.new) (O.told out.new) (O.faults out.new)) }
+    // Where the files let the command do what it is for, and no call of theirs or of the output failed, it does that, or
+    // memory runs out.
+    ensures complete { IsAble (map string_bytes words.now) (seen_files (F.told files.old) (F.faults files.old))
+        → IsUnfailing
+        (seen_world (F.told files.old) (F.faults files.old) (O.told out.old) (O.faults out.old))
+        (seen_world (F.told files.new) (F.faults files.new) (O.told out.new) (O.faults out.new))
         → IfErr result IsShortOfMemory }
 {
     match perform(alloc, words, files, out) {
@@ -145,32 +121,22 @@ pub fn outcome<'a, F: Files, O: Out>(
 pub fn run<F: Files, O: Out>(alloc: Global, words: &[String], files: &mut F, out: &mut O) -> u8
     ensures files_never_fall { F.faults files.old ≤ F.faults files.new }
     ensures out_never_falls { O.faults out.old ≤ O.faults out.new }
-    ensures done { let before = world
-        (seen_files (F.told files.old) (F.faults files.old))
-        (seen_output (O.told out.old) (O.faults out.old)) in
-        let after = world
-        (seen_files (F.told files.new) (F.faults files.new))
-        (seen_output (O.told out.new) (O.faults out.new)) in
-        result ≡ 0 → IsDone (map string_bytes words.now) before after }
-    ensures stopped { let before = world
-        (seen_files (F.told files.old) (F.faults files.old))
-        (seen_output (O.told out.old) (O.faults out.old)) in
-        let after = world
-        (seen_files (F.told files.new) (F.faults files.new))
-        (seen_output (O.told out.new) (O.faults out.new)) in
-        (result ≡ 0 → ⊥) → (stop : AnyStop) × (result ≡ status_of stop) × IsStop stop (map string_bytes words.now) before after }
-    ensures holds { let before = world
-        (seen_files (F.told files.old) (F.faults files.old))
-        (seen_output (O.told out.old) (O.faults out.old)) in
-        let after = world
-        (seen_files (F.told files.new) (F.faults files.new))
-        (seen_output (O.told out.new) (O.faults out.new)) in
-        MayHold (map string_bytes words.now) before after }
-    ensures complete { (root path : List ℕ) → (held : FileMap) → (bytes : List ℕ) → (tree : ShapeTree)
-        → IsCommand (map string_bytes words.now) (Link root path)
-        → F.told files.old ≡ Some held → file_at held root ≡ Some bytes
-        → HasShape bytes tree → (IsOpen tree → ⊥) → LinkFits bytes (link_exports tree)
-        → (Rose (F.faults files.old) (F.faults files.new) → ⊥) → (Rose (O.faults out.old) (O.faults out.new) → ⊥)
+    ensures done { result ≡ 0 → IsDone (map string_bytes words.now)
+        (seen_world (F.told files.old) (F.faults files.old) (O.told out.old) (O.faults out.old))
+        (seen_world (F.told files.new) (F.faults files.new) (O.told out.new) (O.faults out.new)) }
+    ensures stopped { (result ≡ 0 → ⊥) → (stop : AnyStop) × (result ≡ status_of stop)
+        × IsStop stop (map string_bytes words.now)
+        (seen_world (F.told files.old) (F.faults files.old) (O.told out.old) (O.faults out.old))
+        (seen_world (F.told files.new) (F.faults files.new) (O.told out.new) (O.faults out.new)) }
+    ensures holds { MayHold (map string_bytes words.now)
+        (seen_world (F.told files.old) (F.faults files.old) (O.told out.old) (O.faults out.old))
+        (seen_world (F.told files.new) (F.faults files.new) (O.told out.new) (O.faults out.new)) }
+    // Where the files let the command do what it is for, and no call of theirs or of the output failed, it does that, or
+    // memory runs out.
+    ensures complete { IsAble (map string_bytes words.now) (seen_files (F.told files.old) (F.faults files.old))
+        → IsUnfailing
+        (seen_world (F.told files.old) (F.faults files.old) (O.told out.old) (O.faults out.old))
+        (seen_world (F.told files.new) (F.faults files.new) (O.told out.new) (O.faults out.new))
         → (result ≡ 0) ⊎ (result ≡ 7) }
 {
     match outcome(alloc, words, files, out) {

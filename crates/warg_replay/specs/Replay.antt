@@ -1,5 +1,5 @@
 -- A plan, assembled over recorded replies by a client that has kept nothing.
-use Rattle.std.specs.Prelude.{◌≡◌, ◌⊎◌, ℕ, Bool, List, [], Some, None, Ok, codes}
+use Rattle.std.specs.Prelude.{◌≡◌, ◌≤◌, ◌⊎◌, ℕ, Bool, List, [], Some, None, Ok, codes}
 use Rattle.std.specs.List.{AllByRecursion, flat_map, list_any}
 use Rattle.sha2.specs.Sha256.{sha256}
 use Rattle.url.specs.Parts.{Parts}
@@ -11,6 +11,7 @@ use Rattle.warg_hint.specs.declared.decide.AlwaysDecide.{AlwaysDecide}
 use Rattle.warg_exchange.specs.declared.exchange.Reply.{Reply}
 use Rattle.warg_exchange.specs.Requests.{Asker}
 use Rattle.warg_api.specs.Asking.{asker}
+use Rattle.warg_request.specs.Asking.{CanAsk}
 use Rattle.warg_api.specs.Link.{Recorded, IsRecordedStep}
 use Rattle.warg_course.specs.Replies.{AreRepliesOf}
 use Rattle.compose_config.specs.Plan.{Settings}
@@ -23,11 +24,12 @@ use Rattle.warg_store.specs.declared.memory_content.MemoryContent.{MemoryContent
 use Rattle.warg_store.specs.declared.memory_namespaces.MemoryNamespaces.{MemoryNamespaces}
 use Rattle.warg_store.specs.declared.memory_registry.MemoryRegistry.{MemoryRegistry}
 use Rattle.warg_assemble.specs.Known.{Known}
-use Rattle.warg_assemble.specs.Parts.{Part, exchanges_in}
-use Rattle.warg_assemble.specs.Session.{AreOnce, IsSession, IsPlanOf}
-use Rattle.warg_learn.specs.Seen.{Seen, IsKnown}
-use Rattle.warg_compose.specs.Linked.{IsPlanLinked}
+use Rattle.warg_assemble.specs.Parts.{Part, exchanges_in, learnt_by}
+use Rattle.warg_assemble.specs.Session.{walked, AreOnce, IsSession, IsPlanOf}
+use Rattle.warg_learn.specs.Seen.{Faults, Seen, IsKnown, ReadsStores}
+use Rattle.warg_compose.specs.Linked.{IsLinkable, IsPlanLinked}
 use Rattle.warg_compose.specs.Read.{IsComponent}
+use Rattle.warg_complete.specs.Undisturbed.{pages_in_all, registry_in}
 use Rattle.warg_error.specs.Text.{IsPlanText}
 use Rattle.warg_error.specs.declared.error.ClientError.{ClientError}
 use Rattle.warg_error.specs.declared.error.ClientError.TheVariants as error
@@ -72,6 +74,22 @@ pub record IsReplayed (accepts : Accepts) (replies : List Reply) (text : List �
   pub digests : AllByRecursion (λ e. sha256 e.content ≡ e.digest) entries
   pub linked : IsPlanLinked entries bytes
 
+-- A text is that of a plan that can be linked, which a session finds from nothing that was known, and the first replies
+-- are those of the session. The names of its registries are values of headers, and it asks for at most 10,000 pages.
+pub record IsReplayable (accepts : Accepts) (replies : List Reply) (text : List ℕ) : Type 0 where
+  pub settings : Settings
+  pub reads : IsPlanText text settings
+  pub asks : Registry → Asker
+  pub home : AsksHome asks
+  pub parts : List Part
+  pub entries : List Entry
+  pub session : IsSession accepts asks IsComponent (wanted settings) nothing nothing_known parts
+  pub finds : walked (wanted settings) (learnt_by nothing_known parts) ≡ Ok entries
+  pub replied : AreRepliesOf (flat_map exchanges_in parts) replies
+  pub can_ask : AllByRecursion (λ p. CanAsk (asks (registry_in p))) parts
+  pub pages : pages_in_all asks parts ≤ 10000
+  pub linkable : IsLinkable entries
+
 -- ---- the client
 
 -- a client that asks recorded replies, goes by listed signatures, and keeps what it learns in memory
@@ -84,7 +102,13 @@ shown client = seen_by (tells accepts_listed (λ l. l) (λ l. l.faults) (λ m. S
     (λ m. Some (contents_in m)) (λ m. (content_schedule m).faults) (λ m. Some (names_in m)) (λ m. (names_schedule m).faults))
     client
 
--- a client at the beginning: nothing was asked, nothing is known, and these replies are to come
+-- no call of a store has failed
+pub record HaveNotFailed (f : Faults) : Type 0 where
+  pub registries : f.registries ≡ 0
+  pub contents : f.contents ≡ 0
+  pub names : f.names ≡ 0
+
+-- a client at the beginning: nothing was asked, nothing is known, these replies are to come, and no call has failed
 pub record IsAnew (accepts : Accepts) (replies : List Reply) (s : Seen Recorded AlwaysDecide) : Type 0 where
   pub accepts_so : s.accepts ≡ accepts
   pub home : AsksHome s.asker
@@ -92,6 +116,8 @@ pub record IsAnew (accepts : Accepts) (replies : List Reply) (s : Seen Recorded 
   pub link : s.transcript.link ≡ record { left = replies; asked = []; faults = 0 }
   pub knows : IsKnown s nothing
   pub pages : s.pages_left ≡ 10000
+  pub steady : HaveNotFailed s.faults
+  pub can_be_read : ReadsStores s
 
 -- where a decision is asked, the answer is always the same
 abbrev pub says : AlwaysDecide → AlwaysDecide → Bool → Bool

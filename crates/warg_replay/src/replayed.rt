@@ -1,15 +1,16 @@
 //! A plan, assembled over recorded replies.
 
-ghost use Rattle.std.specs.Prelude.{◌≡◌, IfOk, IfErr};
+ghost use Rattle.std.specs.Prelude.{◌≡◌, ◌⊎◌, ◌↔◌, true, IfOk, IfErr};
 ghost use Rattle.warg_plan.specs.View.{plan_view};
 ghost use Rattle.warg_client.specs.Assembled.{beginning};
 ghost use Rattle.warg_client.specs.Shown.{settings_of};
 ghost use Rattle.warg_error.specs.declared.error.ClientError.TheVariants.{Memory as WantsMemory};
-ghost use Rattle.warg_replay.specs.Replay.{IsAnew, IsReplayFault, IsReplayed, accepts_listed, shown};
+ghost use Rattle.warg_replay.specs.Replay.{HaveNotFailed, IsAnew, IsReplayFault, IsReplayable, IsReplayed, accepts_listed, shown};
 
 use std::alloc::Global;
 use warg_api::RecordedLink;
 use warg_client::{Client, ClientError, Settings};
+use warg_course::laws::recorded_replies_are_given;
 use warg_exchange::Reply;
 use warg_hint::AlwaysDecide;
 use warg_log::ListedVerifier;
@@ -71,6 +72,28 @@ fn client_over(
     }
 }
 
+/// Whether no call of a client's stores has failed.
+fn no_store_failed(client: &RecordedClient) -> bool
+    ensures { (result ≡ true) ↔ HaveNotFailed (shown client.now).faults }
+{
+    client.registry().faults() == 0
+        && client.content().faults() == 0
+        && client.namespace_map().faults() == 0
+}
+
+/// The error that a client answered. A store in memory fails only where that is planned, and here nothing is; should
+/// one fail all the same, the error is want of memory.
+fn told_error(client: &RecordedClient, error: ClientError) -> ClientError
+    ensures told { HaveNotFailed (shown client.now).faults → result ≡ error }
+    ensures either { (result ≡ WantsMemory) ⊎ ((result ≡ error) × HaveNotFailed (shown client.now).faults) }
+{
+    if no_store_failed(client) {
+        error
+    } else {
+        ClientError::Memory
+    }
+}
+
 /// Assembles the component that the plan of a text makes, by a client that has kept nothing and asks recorded replies, in
 /// order, whatever it asks.
 ///
@@ -86,9 +109,16 @@ pub fn replay(
     ensures replayed { IfOk result (λ made.
         IsReplayed (accepts_listed checked) replies.items text.now (plan_view made.plan) made.bytes.items) }
     ensures cause { IfErr result (λ e. IsReplayFault (accepts_listed checked) replies.items e text.now) }
+    // Over the replies of a session whose plan can be linked, a component is assembled, or memory runs out.
+    ensures complete { IfErr result (λ e. IsReplayable (accepts_listed checked) replies.items text.now
+        → e ≡ WantsMemory) }
 {
+    recorded_replies_are_given();
     let mut client = client_over(alloc, replies, checked)?;
-    let bytes = client.assemble(alloc, text)?;
+    let bytes = match client.assemble(alloc, text) {
+        Ok(bytes) => bytes,
+        Err(error) => return Err(told_error(&client, error)),
+    };
     match client.into_plan() {
         Some(plan) => Ok(Replayed { plan, bytes }),
         // A component is that of a plan.

@@ -1,6 +1,7 @@
 use Rattle.std.proofs.Common.{◌≡◌, ◌≤◌, ◌∙◌, arith, string_bytes, subst}
 use Rattle.std.proofs.lemmas.Result.{err_from_is_err_and}
-use Rattle.warg_replay.specs.Replay.{IsReplayFault, accepts_listed}
+use Rattle.warg_error.specs.declared.error.ClientError.TheVariants as error
+use Rattle.warg_replay.specs.Replay.{IsReplayFault, IsReplayable, accepts_listed}
 use Rattle.warg_program.specs.World.{seen_files}
 use Rattle.warg_program.specs.Assembly.{AtReplies, AtChecked, AtReplay}
 use Rattle.warg_program.specs.declared.stop.Form.TheVariants as form
@@ -47,4 +48,5 @@ returns-in-Err-clause-stopped g c =
       replied = replies_since old mid late c.in_ok-text.ensures.kept c.in_ok-text.ensures.never_falls c.args.sources.replies.now replies c.in_ok-replies.ensures.found;
       checked = checked_since old late (seen_files (g.F.Files.told c.checked.new.files) (g.F.Files.faults c.checked.new.files)) kept rises c.args.sources.checked.now listed c.in_ok-checked.ensures.found;
     })
-    (replay_cause c.in-Err.error text replies listed (subst (λ t. IsReplayFault (accepts_listed listed) replies c.in-Err.error t) same c.in-Err.ensures.cause)))
+    (replay_cause c.in-Err.error text replies listed (subst (λ t. IsReplayFault (accepts_listed listed) replies c.in-Err.error t) same c.in-Err.ensures.cause)
+    (subst (λ t. IsReplayable (accepts_listed listed) replies t → c.in-Err.error ≡ error.Memory) same c.in-Err.ensures.complete)))

@@ -3,8 +3,7 @@ use Rattle.warg_program.proofs.StopLaws.{never_zero, status_short}
 use Rattle.warg_program.proofs.program.run.Goals as goal
 
 pub returns-in-Err-clause-complete : goal.returns-in-Err-clause-complete
-returns-in-Err-clause-complete g c = λ root path held bytes tree asked told there has_shape not_open fits files out.
-    inr (c.status.ensures ∙ status_short c.in-Err.stop (c.in-Err.ensures.complete root path held bytes tree asked told there has_shape not_open fits files out))
+returns-in-Err-clause-complete g c = λ able calm. inr (c.status.ensures ∙ status_short c.in-Err.stop (c.in-Err.ensures.complete able calm))
 
 pub returns-in-Err-clause-done : goal.returns-in-Err-clause-done
 returns-in-Err-clause-done g c = λ zero. never_zero c.in-Err.stop (sym c.status.ensures ∙ zero)

@@ -3,11 +3,11 @@ use Rattle.warg_api.specs.Asking.{asker}
 use Rattle.warg_store.specs.Contents.{SameContents}
 use Rattle.warg_store.specs.Held.{SameHeld}
 use Rattle.warg_store.specs.Held as held
-use Rattle.warg_store.specs.Memory.{held_in}
-use Rattle.warg_store.specs.MemoryContents.{contents_in}
-use Rattle.warg_store.specs.MemoryNames.{names_in}
+use Rattle.warg_store.specs.Memory.{held_in, schedule_in}
+use Rattle.warg_store.specs.MemoryContents.{contents_in, content_schedule}
+use Rattle.warg_store.specs.MemoryNames.{names_in, names_schedule}
 use Rattle.warg_replay.specs.Replay.{accepts_listed}
-use Rattle.warg_replay.proofs.AnewLaws.{knows_nothing}
+use Rattle.warg_replay.proofs.AnewLaws.{knows_nothing, reads_nothing}
 use Rattle.warg_replay.proofs.replayed.client_over.Goals as goal
 
 pub returns-in-Ok-clause-anew : goal.returns-in-Ok-clause-anew
@@ -22,4 +22,10 @@ returns-in-Ok-clause-anew c =
       knows = knows_nothing _ (held_in client.learner.registries) (contents_in client.learner.contents) refl (subst (λ m. SameHeld (held_in m) held.nothing) (sym begun.registry) c.new-2.ensures.empty) refl
           (subst (λ m. SameContents (contents_in m) (λ _. None)) (sym begun.content) c.new-3.ensures.empty) (ap Some (ap names_in begun.names ∙ c.new-4.ensures.empty)) refl;
       pages = ap (λ s. s.round_limit) begun.settings;
+      steady = record {
+        registries = ap (λ m. (schedule_in m).faults) begun.registry ∙ ap (λ s. s.faults) c.new-2.ensures.schedule;
+        contents = ap (λ m. (content_schedule m).faults) begun.content ∙ ap (λ s. s.faults) c.new-3.ensures.schedule;
+        names = ap (λ m. (names_schedule m).faults) begun.names ∙ ap (λ s. s.faults) c.new-4.ensures.schedule;
+      };
+      can_be_read = reads_nothing _ (held_in client.learner.registries) refl (subst (λ m. SameHeld (held_in m) held.nothing) (sym begun.registry) c.new-2.ensures.empty) (ap Some (ap names_in begun.names ∙ c.new-4.ensures.empty));
     }

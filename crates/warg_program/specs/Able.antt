@@ -1,0 +1,56 @@
+-- Words that name a command which files let do what it is for.
+use Rattle.std.specs.Prelude.{◌≡◌, ◌⊎◌, ℕ, List, Some, Ok, IsUtf8}
+use Rattle.std.specs.List.Sorted.{IsPermutation}
+use Rattle.comp_entity.specs.Entity.{ShapeTree}
+use Rattle.comp_shape.specs.Shape.{HasShape}
+use Rattle.wasm_compose.specs.Link.{LinkFits, link_exports}
+use Rattle.wasm_compose.specs.Open.{IsOpen}
+use Rattle.warg_base.specs.Files.{FileMap, file_at}
+use Rattle.warg_exchange.specs.declared.exchange.Reply.{Reply}
+use Rattle.warg_recorded.specs.Files.{replies_in, signatures_in}
+use Rattle.warg_replay.specs.Replay.{IsReplayable, accepts_listed}
+use Rattle.warg_program.specs.Assembly.{Listed}
+use Rattle.warg_program.specs.Command.{Assemble, Link, Sources, IsCommand}
+use Rattle.warg_program.specs.World.{SeenFiles}
+
+-- files tell what they hold, and a path has these bytes
+pub record Has (files : SeenFiles) (path bytes : List ℕ) : Type 0 where
+  pub held : FileMap
+  pub told : files.held ≡ Some held
+  pub there : file_at held path ≡ Some bytes
+
+-- ROOT is a component that is not open, and its link can be written
+pub record CanLink (words : List (List ℕ)) (files : SeenFiles) : Type 0 where
+  pub root : List ℕ
+  pub out : List ℕ
+  pub command : IsCommand words (Link root out)
+  pub bytes : List ℕ
+  pub has : Has files root bytes
+  pub tree : ShapeTree
+  pub has_shape : HasShape bytes tree
+  pub not_open : IsOpen tree → ⊥
+  pub fits : LinkFits bytes (link_exports tree)
+
+-- PLAN is a text, REPLIES are replies and CHECKED signatures, by which, in whatever order they are taken, the text can be
+-- replayed
+pub record CanAssemble (words : List (List ℕ)) (files : SeenFiles) : Type 0 where
+  pub sources : Sources
+  pub out : List ℕ
+  pub command : IsCommand words (Assemble sources out)
+  pub text : List ℕ
+  pub has_plan : Has files sources.plan text
+  pub is_text : IsUtf8 text
+  pub reply_bytes : List ℕ
+  pub has_replies : Has files sources.replies reply_bytes
+  pub replies : List Reply
+  pub are_replies : replies_in reply_bytes ≡ Ok replies
+  pub checked_bytes : List ℕ
+  pub has_checked : Has files sources.checked checked_bytes
+  pub inside : List Listed
+  pub are_signatures : signatures_in checked_bytes ≡ Ok inside
+  pub replayable : (listed : List Listed) → IsPermutation inside listed
+      → IsReplayable (accepts_listed listed) replies text
+
+-- the words are a command that can do what it is for
+abbrev pub IsAble : List (List ℕ) → SeenFiles → Type 0
+IsAble words files = CanLink words files ⊎ CanAssemble words files
