@@ -2,12 +2,14 @@
 
 use std::alloc::Global;
 use std::test::Fail;
+use test_check::holds;
+use warg_exchange::Reply;
 use warg_log::{ListedVerifier, Verifier};
 use warg_record::{PublicKey, Signature};
 use warg_recorded::{FormError, read_checked, read_replies};
 
 /// Files that hold replies, with how many.
-const REPLIES: [(&str, usize); 3] = [
+const REPLIES: &[(&str, usize)] = &[
     (" [ ] ", 0),
     (r#"[{"status":0,"headers":[],"body":""}]"#, 1),
     (
@@ -17,7 +19,7 @@ const REPLIES: [(&str, usize); 3] = [
 ];
 
 /// Files of another form.
-const OTHERS: [&str; 10] = [
+const OTHERS: &[&str] = &[
     "",
     "{}",
     "[",
@@ -39,31 +41,48 @@ fn count(alloc: Global, file: &str) -> Result<Option<usize>, Fail> {
     }
 }
 
+/// Fails at the first file that holds another number of replies.
+fn are_counted(alloc: Global, rows: &[(&str, usize)]) -> Result<(), Fail> {
+    for (file, expected) in rows {
+        holds(count(alloc, file)? == Some(*expected), file)?;
+    }
+    Ok(())
+}
+
 #[test]
 fn files_of_replies_are_read(rt: HostRuntime) -> Result<(), Fail> {
-    for (file, expected) in REPLIES.as_slice() {
-        assert!(rt; count(rt.alloc(), file)? == Some(*expected));
+    are_counted(rt.alloc(), REPLIES)
+}
+
+/// Fails at the first file that is read.
+fn are_refused(alloc: Global, files: &[&str]) -> Result<(), Fail> {
+    for file in files {
+        holds(count(alloc, file)?.is_none(), file)?;
     }
     Ok(())
 }
 
 #[test]
 fn files_of_another_form_are_refused(rt: HostRuntime) -> Result<(), Fail> {
-    for file in OTHERS.as_slice() {
-        assert!(rt; count(rt.alloc(), file)?.is_none());
-    }
-    Ok(())
+    are_refused(rt.alloc(), OTHERS)
+}
+
+/// Whether a reply has the status, the header and the body of the file.
+fn is_kept(reply: &Reply) -> bool {
+    let has_header = match reply.headers.as_slice().first() {
+        Some((name, value)) => {
+            name.as_str() == "content-type" && value.as_bytes() == b"a/b".as_slice()
+        }
+        None => false,
+    };
+    has_header && reply.status == 200 && reply.body.as_slice() == b"abc".as_slice()
 }
 
 #[test]
 fn headers_are_kept_in_lower_case_and_bodies_decoded(rt: HostRuntime) -> Result<(), Fail> {
     let file = r#"[{"body":"YWJj","headers":[["Content-Type","a/b"]],"status":200}]"#;
     let replies = read_replies(rt.alloc(), file.as_bytes())?;
-    let reply = replies.as_slice().first().ok_or("one reply")?;
-    let (name, value) = reply.headers.as_slice().first().ok_or("one header")?;
-    assert!(rt; reply.status == 200 && reply.body.as_slice() == b"abc".as_slice());
-    assert!(rt; name.as_str() == "content-type" && value.as_bytes() == b"a/b".as_slice());
-    Ok(())
+    holds(replies.as_slice().first().is_some_and(is_kept), file)
 }
 
 /// What a file with one signature, of a text of this digest, is read as.
@@ -88,13 +107,33 @@ fn accepts(alloc: Global, digest: &str) -> Result<Option<bool>, Fail> {
     }
 }
 
+/// Digests, and whether a signature of `abc` that a file lists by them is accepted; nothing where the file has another
+/// form.
+const DIGESTS: &[(&str, Option<bool>)] = &[
+    (
+        "ba7816bf8f01cfea414140de5dae2223b00361a396177a9cb410ff61f20015ad",
+        Some(true),
+    ),
+    (
+        "BA7816BF8F01CFEA414140DE5DAE2223B00361A396177A9CB410FF61F20015AD",
+        Some(true),
+    ),
+    (
+        "0000000000000000000000000000000000000000000000000000000000000000",
+        Some(false),
+    ),
+    ("ab", None),
+];
+
+/// Fails at the first digest by which a signature is accepted otherwise.
+fn are_accepted(alloc: Global, rows: &[(&str, Option<bool>)]) -> Result<(), Fail> {
+    for (digest, is) in rows {
+        holds(accepts(alloc, digest)? == *is, digest)?;
+    }
+    Ok(())
+}
+
 #[test]
 fn a_listed_signature_is_accepted_by_the_digest_of_its_text(rt: HostRuntime) -> Result<(), Fail> {
-    let alloc = rt.alloc();
-    let lower = "ba7816bf8f01cfea414140de5dae2223b00361a396177a9cb410ff61f20015ad";
-    let upper = "BA7816BF8F01CFEA414140DE5DAE2223B00361A396177A9CB410FF61F20015AD";
-    let other = "0000000000000000000000000000000000000000000000000000000000000000";
-    assert!(rt; accepts(alloc, lower)? == Some(true) && accepts(alloc, upper)? == Some(true));
-    assert!(rt; accepts(alloc, other)? == Some(false) && accepts(alloc, "ab")?.is_none());
-    Ok(())
+    are_accepted(rt.alloc(), DIGESTS)
 }

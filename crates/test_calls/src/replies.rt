@@ -1,6 +1,7 @@
 //! A client over recorded replies.
 
 use std::alloc::{AllocError, Global};
+use std::fmt::Display;
 use std::test::Fail;
 use warg_api::{Client, ClientError, RecordedLink};
 use warg_recorded::read_replies;
@@ -32,10 +33,16 @@ pub fn words(text: Result<String, AllocError>) -> Result<String, ClientError> {
     text.map_err(|_| ClientError::Memory)
 }
 
+/// An error in words. It takes an error of any type, since one of a known type is dropped by a proof for each kind of
+/// it.
+fn error_text<E: Display + Drop>(alloc: Global, error: E) -> Result<String, Fail> {
+    Ok(format!(in alloc; "{error}")?)
+}
+
 /// What a call answers, with an error as it is told.
 pub fn told(alloc: Global, answer: Result<String, ClientError>) -> Result<String, Fail> {
     match answer {
         Ok(words) => Ok(words),
-        Err(error) => Ok(format!(in alloc; "{error}")?),
+        Err(error) => error_text(alloc, error),
     }
 }

@@ -4,7 +4,9 @@ use crate::replies::HASH;
 use bytes::Bytes;
 use futures::Stream;
 use futures::task::{Context, Doorbell, Poll, Solo};
+use std::alloc::Global;
 use std::test::Fail;
+use test_check::is_text;
 use warg_api::{LinkError, StreamError, ValidatedStream};
 use warg_hash::AnyHash;
 
@@ -34,7 +36,7 @@ impl Stream for Pieces {
 }
 
 /// Bodies of the content `abc`, and what comes from a stream of them in four polls.
-const BODIES: [(&[&str], &str); 2] = [
+const BODIES: &[(&[&str], &str)] = &[
     (&["ab", "c"], "piece of 2, piece of 1, end, end, "),
     (&["ab"], "piece of 2, wrong digest, end, end, "),
 ];
@@ -51,20 +53,44 @@ fn polled(stream: &mut ValidatedStream<Pieces>, cx: &mut Context<'_>) -> &'stati
     }
 }
 
-#[test]
-fn a_content_of_another_digest_adds_one_error(rt: HostRuntime) -> Result<(), Fail> {
-    for (pieces, expected) in BODIES.as_slice() {
-        let source = Pieces { pieces, came: 0 };
-        let mut stream = ValidatedStream::new(source, AnyHash::from_text(rt.alloc(), HASH)?);
-        let mut found = String::new(rt.alloc());
-        let solo = Solo::new(&rt, Doorbell::spinning())?;
-        for _ in 0..4 {
-            let mut cx = solo.begin();
-            let words = polled(&mut stream, &mut cx);
-            cx.cancel();
-            found.push_str(words)?;
-        }
-        assert_eq!(rt; found.as_str(), *expected);
+/// Adds what four polls of a stream give.
+fn push_polls(
+    found: &mut String,
+    stream: &mut ValidatedStream<Pieces>,
+    solo: &Solo,
+) -> Result<(), Fail> {
+    for _ in 0..4 {
+        let mut cx = solo.begin();
+        let words = polled(stream, &mut cx);
+        cx.cancel();
+        found.push_str(words)?;
     }
     Ok(())
+}
+
+/// What comes from a stream of these pieces in four polls.
+fn polls(alloc: Global, pieces: &'static [&'static str], solo: &Solo) -> Result<String, Fail> {
+    let digest = AnyHash::from_text(alloc, HASH)?;
+    let mut found = String::new(alloc);
+    let mut stream = ValidatedStream::new(Pieces { pieces, came: 0 }, digest);
+    push_polls(&mut found, &mut stream, solo)?;
+    Ok(found)
+}
+
+/// Fails at the first body from which something else comes.
+fn are_polled(
+    alloc: Global,
+    rows: &[(&'static [&'static str], &str)],
+    solo: &Solo,
+) -> Result<(), Fail> {
+    for (pieces, expected) in rows {
+        is_text(&polls(alloc, pieces, solo)?, expected)?;
+    }
+    Ok(())
+}
+
+#[test]
+fn a_content_of_another_digest_adds_one_error(rt: HostRuntime) -> Result<(), Fail> {
+    let solo = Solo::new(&rt, Doorbell::spinning())?;
+    are_polled(rt.alloc(), BODIES, &solo)
 }

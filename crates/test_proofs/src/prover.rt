@@ -1,9 +1,10 @@
 //! Bundles that are made of the reference tree of Certificate Transparency and of small maps, judged by `warg_proof`
 //! against their roots.
 
-use crate::proof::{CONSISTENCY, ENTRIES, INCLUSION, bundle, map_bundle, root};
+use crate::proof::{CONSISTENCY, ENTRIES, INCLUSION, bundle, entry, map_bundle, root};
 use std::alloc::Global;
 use std::test::Fail;
+use test_check::holds;
 use warg_hash::{AnyHash, LogId, PackageName, RecordId};
 use warg_proof::{LogBundle, LogLeaf, MapBundle, MapLeaf};
 use warg_prover::{LogHashes, MapHashes, ProverFault};
@@ -17,84 +18,117 @@ fn reference(alloc: Global) -> Result<LogHashes, Fail> {
     Ok(log)
 }
 
+/// The bundle of an inclusion.
+fn inclusion(alloc: Global, log: &LogHashes, count: u64, index: u64) -> Result<LogBundle, Fail> {
+    let bytes = log.inclusion_bundle(alloc, count as usize, &[index])?;
+    Ok(LogBundle::decode(alloc, &bytes)?)
+}
+
 /// Whether the bundle of an inclusion proves the entry to a client that knows the root.
 fn is_included(alloc: Global, log: &LogHashes, count: u64, index: u64) -> Result<bool, Fail> {
-    let bytes = log.inclusion_bundle(alloc, count as usize, &[index])?;
-    let proofs = LogBundle::decode(alloc, &bytes)?;
-    let entry = ENTRIES.get(index as usize).ok_or("an index below 8")?;
-    Ok(
-        proofs
-            .inclusion(0, count, index, entry, &root(alloc, count)?)
-            .is_ok(),
-    )
+    let (entry, whole) = (entry(index as usize)?, root(alloc, count)?);
+    let proofs = inclusion(alloc, log, count, index)?;
+    Ok(proofs.inclusion(0, count, index, entry, &whole).is_ok())
+}
+
+/// The bundle of a consistency.
+fn consistency(alloc: Global, log: &LogHashes, old: u64, new: u64) -> Result<LogBundle, Fail> {
+    let bytes = log.consistency_bundle(alloc, old as usize, new as usize)?;
+    Ok(LogBundle::decode(alloc, &bytes)?)
 }
 
 /// Whether the bundle of a consistency proves it to a client that knows both roots.
 fn is_continued(alloc: Global, log: &LogHashes, old: u64, new: u64) -> Result<bool, Fail> {
-    let bytes = log.consistency_bundle(alloc, old as usize, new as usize)?;
-    let proofs = LogBundle::decode(alloc, &bytes)?;
     let (old_root, new_root) = (root(alloc, old)?, root(alloc, new)?);
+    let proofs = consistency(alloc, log, old, new)?;
     Ok(proofs.consistency(old, new, &old_root, &new_root).is_ok())
+}
+
+/// Fails at the first proof of a log of this many entries that does not prove what it is of.
+fn are_made(alloc: Global, log: &LogHashes, count: u64) -> Result<(), Fail> {
+    for below in 0..count {
+        if !is_included(alloc, log, count, below)? {
+            return Err(Fail::new(format_args!("{below} of {count}")));
+        }
+        if !is_continued(alloc, log, below + 1, count)? {
+            return Err(Fail::new(format_args!("{below} to {count}")));
+        }
+    }
+    Ok(())
 }
 
 #[test]
 fn each_proof_of_the_reference_tree_is_made(rt: HostRuntime) -> Result<(), Fail> {
     let log = reference(rt.alloc())?;
     for count in 1..=8u64 {
-        for below in 0..count {
-            assert!(rt;
-                is_included(rt.alloc(), &log, count, below)?,
-                "{below} of {count}"
-            );
-            assert!(rt;
-                is_continued(rt.alloc(), &log, below + 1, count)?,
-                "{below} to {count}"
-            );
-        }
+        are_made(rt.alloc(), &log, count)?;
     }
     Ok(())
 }
 
-/// Whether bundles have just the nodes of the standard's examples.
-fn are_the_standards(alloc: Global, log: &LogHashes) -> Result<(bool, bool), Fail> {
+/// Fails where the bundle of an inclusion has other nodes than those of the standard's example.
+fn is_the_standards_inclusion(alloc: Global, log: &LogHashes) -> Result<(), Fail> {
     let included = log.inclusion_bundle(alloc, 7, &[0])?;
-    let continued = log.consistency_bundle(alloc, 3, 7)?;
-    Ok((
-        included.as_slice() == bundle(alloc, &INCLUSION, &[], &[(7, 0)])?.as_slice(),
-        continued.as_slice() == bundle(alloc, &CONSISTENCY, &[(3, 7)], &[])?.as_slice(),
-    ))
+    let wanted = bundle(alloc, INCLUSION, &[], &[(7, 0)])?;
+    holds(
+        included.as_slice() == wanted.as_slice(),
+        "an inclusion has its nodes",
+    )
 }
 
-/// The answers to an index and to lengths that the log has not.
-fn refusals(alloc: Global, log: &LogHashes) -> [Option<ProverFault>; 4] {
-    [
-        log.inclusion_bundle(alloc, 7, &[0, 7]).err(),
-        log.inclusion_bundle(alloc, 9, &[0]).err(),
-        log.consistency_bundle(alloc, 0, 7).err(),
-        log.consistency_bundle(alloc, 8, 7).err(),
-    ]
+/// Fails where the bundle of a consistency has other nodes than those of the standard's example.
+fn is_the_standards_consistency(alloc: Global, log: &LogHashes) -> Result<(), Fail> {
+    let continued = log.consistency_bundle(alloc, 3, 7)?;
+    let wanted = bundle(alloc, CONSISTENCY, &[(3, 7)], &[])?;
+    holds(
+        continued.as_slice() == wanted.as_slice(),
+        "a consistency has its nodes",
+    )
+}
+
+/// Why no bundle of an inclusion is made, where none is.
+fn inclusion_fault(
+    alloc: Global,
+    log: &LogHashes,
+    count: usize,
+    indices: &[u64],
+) -> Option<ProverFault> {
+    log.inclusion_bundle(alloc, count, indices).err()
+}
+
+/// Why no bundle of a consistency is made, where none is.
+fn consistency_fault(alloc: Global, log: &LogHashes, old: usize) -> Option<ProverFault> {
+    log.consistency_bundle(alloc, old, 7).err()
+}
+
+/// Whether an index and lengths that the log has not are refused.
+fn are_refused(alloc: Global, log: &LogHashes) -> bool {
+    inclusion_fault(alloc, log, 7, &[0, 7]) == Some(ProverFault::NoSuchProof)
+        && inclusion_fault(alloc, log, 9, &[0]) == Some(ProverFault::LogTooShort)
+        && consistency_fault(alloc, log, 0) == Some(ProverFault::NoSuchProof)
+        && consistency_fault(alloc, log, 8) == Some(ProverFault::NoSuchProof)
+}
+
+/// Fails where a log tells another root of its first five entries, or one of nine.
+fn has_roots(alloc: Global, log: &LogHashes) -> Result<(), Fail> {
+    let five = root(alloc, 5)?;
+    holds(
+        log.root(9).is_none() && log.root(5) == Some(five),
+        "a log has its roots",
+    )
 }
 
 #[test]
 fn bundles_have_just_the_nodes_that_they_need(rt: HostRuntime) -> Result<(), Fail> {
     let log = reference(rt.alloc())?;
-    assert_eq!(rt; are_the_standards(rt.alloc(), &log)?, (true, true));
-    assert_eq!(rt;
-        refusals(rt.alloc(), &log),
-        [
-            Some(ProverFault::NoSuchProof),
-            Some(ProverFault::LogTooShort),
-            Some(ProverFault::NoSuchProof),
-            Some(ProverFault::NoSuchProof),
-        ]
-    );
-    assert!(rt; log.root(9).is_none());
-    assert!(rt; log.root(5) == Some(root(rt.alloc(), 5)?));
-    Ok(())
+    is_the_standards_inclusion(rt.alloc(), &log)?;
+    is_the_standards_consistency(rt.alloc(), &log)?;
+    holds(are_refused(rt.alloc(), &log), "other bundles are refused")?;
+    has_roots(rt.alloc(), &log)
 }
 
 /// The roots of maps, by how many logs they have: those of the first of `MAP_LOGS`, computed by Python's `hashlib`.
-const MAP_ROOTS: [&str; 6] = [
+const MAP_ROOTS: &[&str] = &[
     "sha256:6155289130893872355eac98042d22aefa2c2e708bea169402760e3b55f9a2dc",
     "sha256:b4d9f5759b4b675b6e038eb8e21650b41a238f2d2700d0f4c7d2bc0b7b1ad5c1",
     "sha256:b66660bf0d862ce107d572e3b6b315dc08d44d33b323d967d6ee51be044d685d",
@@ -104,7 +138,7 @@ const MAP_ROOTS: [&str; 6] = [
 ];
 
 /// The packages whose logs stand in the maps behind the operator's, and the last records of all.
-const MAP_LOGS: [(&str, &[u8]); 5] = [
+const MAP_LOGS: &[(&str, &[u8])] = &[
     ("", b"record 0"),
     ("demo:app", b"record 1"),
     ("demo:base", b"record 2"),
@@ -112,73 +146,135 @@ const MAP_LOGS: [(&str, &[u8]); 5] = [
     ("demo:data", b"record 4"),
 ];
 
+/// The id of the log of a package, or of the operator's log where the name is empty.
+fn log_id(alloc: Global, name: &str) -> Result<LogId, Fail> {
+    if name.is_empty() {
+        return Ok(LogId::operator_log());
+    }
+    Ok(LogId::package_log(&PackageName::new(alloc, name)?))
+}
+
 /// The leaves of the map of the first logs.
 fn map_leaves(alloc: Global, count: usize) -> Result<Vec<LogLeaf>, Fail> {
     let mut leaves = Vec::new(alloc);
-    for (name, record) in MAP_LOGS.as_slice().get(..count).ok_or("five logs")? {
-        let log_id = if name.is_empty() {
-            LogId::operator_log()
-        } else {
-            LogId::package_log(&PackageName::new(alloc, name)?)
-        };
+    for (name, record) in MAP_LOGS.get(..count).ok_or("five logs")? {
         leaves.push(LogLeaf {
-            log_id,
+            log_id: log_id(alloc, name)?,
             record_id: RecordId::of(record),
         })?;
     }
     Ok(leaves)
 }
 
-/// Whether the map of the first logs has its root, and a bundle of all of them proves each record.
-fn is_proved(alloc: Global, count: usize) -> Result<bool, Fail> {
-    let leaves = map_leaves(alloc, count)?;
-    let map = MapHashes::new(alloc, leaves.as_slice())?;
-    let root = AnyHash::from_text(alloc, MAP_ROOTS.as_slice().get(count).ok_or("five logs")?)?;
+/// The ids of the logs of leaves.
+fn logs_of(alloc: Global, leaves: &[LogLeaf]) -> Result<Vec<LogId>, Fail> {
     let mut logs = Vec::new(alloc);
-    for leaf in leaves.as_slice() {
+    for leaf in leaves {
         logs.push(leaf.log_id)?;
     }
-    let bundle = MapBundle::decode(
-        alloc,
-        map.inclusion_bundle(alloc, logs.as_slice())?.as_slice(),
-    )?;
-    let mut proved = map.root() == root;
+    Ok(logs)
+}
+
+/// A bundle of all logs of a map.
+fn bundle_of(alloc: Global, map: &MapHashes, leaves: &[LogLeaf]) -> Result<MapBundle, Fail> {
+    let logs = logs_of(alloc, leaves)?;
+    let bytes = map.inclusion_bundle(alloc, logs.as_slice())?;
+    Ok(MapBundle::decode(alloc, &bytes)?)
+}
+
+/// Fails where a bundle does not prove the record of a leaf at a number.
+fn proves(
+    alloc: Global,
+    bundle: &MapBundle,
+    at: usize,
+    leaf: &LogLeaf,
+    root: &AnyHash,
+) -> Result<(), Fail> {
+    let value = MapLeaf {
+        record_id: leaf.record_id,
+    };
+    let bytes = value.bytes(alloc)?;
+    bundle.inclusion(at, &leaf.log_id, &bytes, root)?;
+    Ok(())
+}
+
+/// Fails where a bundle does not prove the record of a leaf.
+fn proves_all(
+    alloc: Global,
+    bundle: &MapBundle,
+    leaves: &[LogLeaf],
+    root: &AnyHash,
+) -> Result<(), Fail> {
     for (at, leaf) in leaves.iter().enumerate() {
-        let value = MapLeaf {
-            record_id: leaf.record_id,
-        };
-        proved = proved
-            && bundle
-                .inclusion(at, &leaf.log_id, &value.bytes(alloc)?, &root)
-                .is_ok();
+        proves(alloc, bundle, at, leaf, root)?;
     }
-    Ok(proved)
+    Ok(())
+}
+
+/// Fails where a bundle of all logs of a map does not prove each record.
+fn is_proved(
+    alloc: Global,
+    map: &MapHashes,
+    leaves: &[LogLeaf],
+    root: &AnyHash,
+) -> Result<(), Fail> {
+    let bundle = bundle_of(alloc, map, leaves)?;
+    proves_all(alloc, &bundle, leaves, root)
+}
+
+/// Fails where the map of these logs has another root, or a bundle of all of them does not prove each record.
+fn has_root(alloc: Global, leaves: &[LogLeaf], root: &AnyHash) -> Result<(), Fail> {
+    let map = MapHashes::new(alloc, leaves)?;
+    holds(map.root() == *root, "a map has its root")?;
+    is_proved(alloc, &map, leaves, root)
+}
+
+/// Fails at the first number of logs whose map has another root, or of which a bundle of all of them does not prove
+/// each record.
+fn are_proved(alloc: Global, roots: &[&str]) -> Result<(), Fail> {
+    for (count, root) in roots.iter().enumerate() {
+        let root = AnyHash::from_text(alloc, root)?;
+        let leaves = map_leaves(alloc, count)?;
+        has_root(alloc, leaves.as_slice(), &root)?;
+    }
+    Ok(())
 }
 
 #[test]
 fn each_record_of_a_map_is_proved(rt: HostRuntime) -> Result<(), Fail> {
-    for count in 0..=5usize {
-        assert!(rt; is_proved(rt.alloc(), count)?, "{count} logs");
-    }
-    Ok(())
+    are_proved(rt.alloc(), MAP_ROOTS)
 }
 
-/// Whether the bundle of the map of two logs has the bytes that were made outside.
-fn is_the_bundle_of_two(alloc: Global, map: &MapHashes) -> Result<bool, Fail> {
-    let app = LogId::package_log(&PackageName::new(alloc, "demo:app")?);
-    let bytes = map.inclusion_bundle(alloc, &[LogId::operator_log(), app])?;
-    Ok(bytes.as_slice() == map_bundle(alloc)?.encode(alloc)?.as_slice())
+/// The map of the first two logs.
+fn map_of_two(alloc: Global) -> Result<MapHashes, Fail> {
+    let leaves = map_leaves(alloc, 2)?;
+    Ok(MapHashes::new(alloc, leaves.as_slice())?)
+}
+
+/// Fails where the bundle of the map of two logs has other bytes than those that were made outside.
+fn is_the_bundle_of_two(alloc: Global, map: &MapHashes) -> Result<(), Fail> {
+    let logs = [LogId::operator_log(), log_id(alloc, "demo:app")?];
+    let bytes = map.inclusion_bundle(alloc, &logs)?;
+    let wanted = map_bundle(alloc)?.encode(alloc)?;
+    holds(
+        bytes.as_slice() == wanted.as_slice(),
+        "a map bundle has its siblings",
+    )
+}
+
+/// Why no bundle of a log is made, where none is.
+fn map_fault(alloc: Global, map: &MapHashes, log: LogId) -> Option<ProverFault> {
+    map.inclusion_bundle(alloc, &[log]).err()
 }
 
 #[test]
 fn a_map_bundle_has_just_the_siblings_that_are_not_empty(rt: HostRuntime) -> Result<(), Fail> {
-    let alloc = rt.alloc();
-    let map = MapHashes::new(alloc, map_leaves(alloc, 2)?.as_slice())?;
-    assert!(rt; is_the_bundle_of_two(alloc, &map)?);
-    let absent = LogId::package_log(&PackageName::new(alloc, "demo:base")?);
-    assert_eq!(rt;
-        map.inclusion_bundle(alloc, &[absent]).err(),
-        Some(ProverFault::NoSuchProof)
-    );
-    Ok(())
+    let absent = log_id(rt.alloc(), "demo:base")?;
+    let map = map_of_two(rt.alloc())?;
+    is_the_bundle_of_two(rt.alloc(), &map)?;
+    let fault = map_fault(rt.alloc(), &map, absent);
+    holds(
+        fault == Some(ProverFault::NoSuchProof),
+        "an absent log has no proof",
+    )
 }

@@ -4,11 +4,12 @@
 use semver::{Version, VersionReq};
 use std::alloc::Global;
 use std::test::Fail;
+use test_check::{holds, is_text};
 use warg_log::operator::{LogState as OperatorState, OperatorEntry};
 use warg_log::package::LogState;
 use warg_log::{
     AnyHash, Envelope, ListedSigner, ListedVerifier, NamespaceState, PackageRecord, PublicKey,
-    Record, SignError, Signature, Signer, ValidationError, Verifier,
+    Record, Release, SignError, Signature, Signer, ValidationError, Verifier,
 };
 use warg_values::Text;
 
@@ -143,110 +144,6 @@ fn read(alloc: Global, contents: &[u8], signer: &str) -> Result<Envelope<Package
     Ok(Envelope::read(alloc, contents, signer, "k:BA==")?)
 }
 
-/// The state of a log of one record.
-fn state_of(alloc: Global, contents: &[u8]) -> Result<LogState, Fail> {
-    let first = read(alloc, contents, KEY_ID)?;
-    let mut state = LogState::new(alloc);
-    state.validate(alloc, &EverySignature, &first)?;
-    Ok(state)
-}
-
-/// The verifier that knows the one good signature of the first record.
-fn listed(alloc: Global) -> Result<ListedVerifier, Fail> {
-    let triple = (
-        PublicKey::new(alloc, "k:AA==")?,
-        AnyHash::from_text(alloc, SIGNED_DIGEST)?,
-        Signature::new(alloc, "k:BA==")?,
-    );
-    Ok(ListedVerifier::new(vec![in alloc; triple]?))
-}
-
-/// The text of the head's id after the first record, whose one good signature is listed.
-fn first_head(alloc: Global) -> Result<Text, Fail> {
-    let (verifier, first) = (listed(alloc)?, read(alloc, FIRST, KEY_ID)?);
-    let mut state = LogState::new(alloc);
-    state.validate(alloc, &verifier, &first)?;
-    let head = state.head().ok_or("a head")?;
-    Ok(head.digest.text(alloc)?)
-}
-
-#[test]
-fn a_listed_signature_is_good(rt: HostRuntime) -> Result<(), Fail> {
-    assert_eq!(rt; first_head(rt.alloc())?.as_str(), FIRST_ID);
-    Ok(())
-}
-
-/// A version, where it is given.
-fn version(alloc: Global, text: Option<&str>) -> Result<Option<Version>, Fail> {
-    match text {
-        Some(text) => Ok(Some(Version::parse(alloc, text)?)),
-        None => Ok(None),
-    }
-}
-
-/// The release of a log of one record that meets a requirement, and has this version and the digest of this version's
-/// text, where they are given; empty where there is none.
-fn found(
-    alloc: Global,
-    contents: &[u8],
-    requirement: &str,
-    exact: Option<&str>,
-    content: Option<&str>,
-) -> Result<String, Fail> {
-    let requirement = VersionReq::parse(alloc, requirement)?;
-    let exact = version(alloc, exact)?;
-    let digest = content.map(|text| AnyHash::sha256_of(text.as_bytes()));
-    let state = state_of(alloc, contents)?;
-    match state.find_release(&requirement, exact.as_ref(), digest.as_ref()) {
-        Some(found) => Ok(format!(in alloc; "{}", found.version)?),
-        None => Ok(String::new(alloc)),
-    }
-}
-
-/// The latest release of a log of one record that meets a requirement; empty where there is none.
-fn latest(alloc: Global, contents: &[u8], requirement: &str) -> Result<String, Fail> {
-    let requirement = VersionReq::parse(alloc, requirement)?;
-    let state = state_of(alloc, contents)?;
-    match state.find_latest_release(&requirement) {
-        Some(found) => Ok(format!(in alloc; "{}", found.version)?),
-        None => Ok(String::new(alloc)),
-    }
-}
-
-#[test]
-fn the_greatest_open_release_is_chosen(rt: HostRuntime) -> Result<(), Fail> {
-    for (contents, requirement, version) in [
-        (FIRST, "*", "1.0.0"),
-        (NUMBERS, ">=1.0.0", "1.10.0"),
-        (CANDIDATES, "*", ""),
-        (CANDIDATES, ">=1.0.0-rc.1", "1.0.0-rc.2+2"),
-    ] {
-        assert_eq!(rt;
-            latest(rt.alloc(), contents, requirement)?.as_str(),
-            version
-        );
-    }
-    Ok(())
-}
-
-#[test]
-fn a_release_is_found_by_its_version_and_its_digest(rt: HostRuntime) -> Result<(), Fail> {
-    for (exact, content, version) in [
-        (None, None, "1.1.0"),
-        (Some("1.0.0"), None, "1.0.0"),
-        (Some("1.0.0+1"), None, "1.0.0+1"),
-        (None, Some("1.0.0"), "1.0.0"),
-        (Some("1.0.0"), Some("1.0.0+1"), ""),
-        (Some("1.2.0"), None, ""),
-    ] {
-        assert_eq!(rt;
-            found(rt.alloc(), BUILDS, "*", exact, content)?.as_str(),
-            version
-        );
-    }
-    Ok(())
-}
-
 /// The name of an error.
 fn name_of(error: &ValidationError) -> &'static str {
     match error {
@@ -275,6 +172,26 @@ fn name_in(answer: &Result<(), ValidationError>) -> &'static str {
     }
 }
 
+/// What a state answers to a record. It stands alone, since a call brings its whole contract with it.
+fn validated<V: Verifier>(
+    alloc: Global,
+    verifier: &V,
+    state: &mut LogState,
+    next: &Envelope<PackageRecord>,
+) -> Result<(), ValidationError> {
+    state.validate(alloc, verifier, next)
+}
+
+/// The name of what a state answers to a record. It holds the answer alone, which is dropped here.
+fn name_of_answer<V: Verifier>(
+    alloc: Global,
+    verifier: &V,
+    state: &mut LogState,
+    next: &Envelope<PackageRecord>,
+) -> &'static str {
+    name_in(&validated(alloc, verifier, state, next))
+}
+
 /// What a state answers to a record: the name of the error, or `accepted`.
 fn judged<V: Verifier>(
     alloc: Global,
@@ -284,7 +201,140 @@ fn judged<V: Verifier>(
     signer: &str,
 ) -> Result<&'static str, Fail> {
     let next = read(alloc, contents, signer)?;
-    Ok(name_in(&state.validate(alloc, verifier, &next)))
+    Ok(name_of_answer(alloc, verifier, state, &next))
+}
+
+/// Enters the first record of a log, whatever its signature.
+fn enter(alloc: Global, state: &mut LogState, contents: &[u8]) -> Result<(), Fail> {
+    let name = judged(alloc, &EverySignature, state, contents, KEY_ID)?;
+    is_text(name, "accepted")
+}
+
+/// The state of a log of one record.
+fn state_of(alloc: Global, contents: &[u8]) -> Result<LogState, Fail> {
+    let mut state = LogState::new(alloc);
+    enter(alloc, &mut state, contents)?;
+    Ok(state)
+}
+
+/// The verifier that knows the one good signature of the first record.
+fn listed(alloc: Global) -> Result<ListedVerifier, Fail> {
+    let digest = AnyHash::from_text(alloc, SIGNED_DIGEST)?;
+    let key = PublicKey::new(alloc, "k:AA==")?;
+    let triple = (key, digest, Signature::new(alloc, "k:BA==")?);
+    Ok(ListedVerifier::new(vec![in alloc; triple]?))
+}
+
+/// Fails where the head's id has another text.
+fn has_head(alloc: Global, state: &LogState, id: &str) -> Result<(), Fail> {
+    let head = state.head().ok_or("a head")?;
+    is_text(head.digest.text(alloc)?.as_str(), id)
+}
+
+/// Fails where the first record is not accepted by a verifier, or the head's id then has another text.
+fn is_first(alloc: Global, verifier: &ListedVerifier, id: &str) -> Result<(), Fail> {
+    let mut state = LogState::new(alloc);
+    is_text(
+        judged(alloc, verifier, &mut state, FIRST, KEY_ID)?,
+        "accepted",
+    )?;
+    has_head(alloc, &state, id)
+}
+
+#[test]
+fn a_listed_signature_is_good(rt: HostRuntime) -> Result<(), Fail> {
+    let verifier = listed(rt.alloc())?;
+    is_first(rt.alloc(), &verifier, FIRST_ID)
+}
+
+/// A version, where it is given.
+fn version(alloc: Global, text: Option<&str>) -> Result<Option<Version>, Fail> {
+    match text {
+        Some(text) => Ok(Some(Version::parse(alloc, text)?)),
+        None => Ok(None),
+    }
+}
+
+/// Fails where a release has another version than this; it is empty where there is to be none.
+fn is_version(alloc: Global, found: Option<&Release>, want: &str) -> Result<(), Fail> {
+    match found {
+        Some(found) => is_text(&format!(in alloc; "{}", found.version)?, want),
+        None => is_text("", want),
+    }
+}
+
+/// Fails where the latest release that meets a requirement has another version.
+fn has_latest(alloc: Global, state: &LogState, requirement: &str, want: &str) -> Result<(), Fail> {
+    let requirement = VersionReq::parse(alloc, requirement)?;
+    is_version(alloc, state.find_latest_release(&requirement), want)
+}
+
+/// Contents of logs of one record, requirements, and the versions of the latest releases that meet them; empty where
+/// there is none.
+const LATEST: &[(&[u8], &str, &str)] = &[
+    (FIRST, "*", "1.0.0"),
+    (NUMBERS, ">=1.0.0", "1.10.0"),
+    (CANDIDATES, "*", ""),
+    (CANDIDATES, ">=1.0.0-rc.1", "1.0.0-rc.2+2"),
+];
+
+/// Fails at the first log whose latest release that meets a requirement has another version.
+fn have_latest(alloc: Global, rows: &[(&[u8], &str, &str)]) -> Result<(), Fail> {
+    for (contents, requirement, want) in rows {
+        let state = state_of(alloc, contents)?;
+        has_latest(alloc, &state, requirement, want)?;
+    }
+    Ok(())
+}
+
+#[test]
+fn the_greatest_open_release_is_chosen(rt: HostRuntime) -> Result<(), Fail> {
+    have_latest(rt.alloc(), LATEST)
+}
+
+/// The version and the text whose digest is asked for, where they are given, and the version that is found; empty where
+/// there is none.
+const FOUND: &[(Option<&str>, Option<&str>, &str)] = &[
+    (None, None, "1.1.0"),
+    (Some("1.0.0"), None, "1.0.0"),
+    (Some("1.0.0+1"), None, "1.0.0+1"),
+    (None, Some("1.0.0"), "1.0.0"),
+    (Some("1.0.0"), Some("1.0.0+1"), ""),
+    (Some("1.2.0"), None, ""),
+];
+
+/// Fails where the release that meets a requirement, and has this version and the digest of this version's text, where
+/// they are given, has another version.
+fn is_found(
+    alloc: Global,
+    state: &LogState,
+    requirement: &VersionReq,
+    row: &(Option<&str>, Option<&str>, &str),
+) -> Result<(), Fail> {
+    let (exact, content, want) = row;
+    let exact = version(alloc, *exact)?;
+    let digest = content.map(|text| AnyHash::sha256_of(text.as_bytes()));
+    let found = state.find_release(requirement, exact.as_ref(), digest.as_ref());
+    is_version(alloc, found, want)
+}
+
+/// Fails at the first row in which another release is found.
+fn are_found(
+    alloc: Global,
+    state: &LogState,
+    rows: &[(Option<&str>, Option<&str>, &str)],
+) -> Result<(), Fail> {
+    let requirement = VersionReq::parse(alloc, "*")?;
+    for row in rows {
+        is_found(alloc, state, &requirement, row)?;
+    }
+    Ok(())
+}
+
+#[test]
+fn a_release_is_found_by_its_version_and_its_digest(rt: HostRuntime) -> Result<(), Fail> {
+    let state = state_of(rt.alloc(), BUILDS)?;
+    are_found(rt.alloc(), &state, FOUND)
 }
 
 /// What is answered of a record after the first one.
@@ -293,39 +343,55 @@ fn second_answer(alloc: Global, contents: &[u8], signer: &str) -> Result<&'stati
     judged(alloc, &EverySignature, &mut state, contents, signer)
 }
 
-#[test]
-fn the_rules_of_a_record_against_the_head_are_checked(rt: HostRuntime) -> Result<(), Fail> {
-    for (contents, signer, name) in [
-        (NEXT, KEY_ID, "accepted"),
-        (OTHER_FORM, KEY_ID, "ProtocolVersion"),
-        (NOT_BEHIND, KEY_ID, "PreviousRecord"),
-        (EARLIER, KEY_ID, "TimeLower"),
-        (NEXT, OTHER_ID, "UnknownKey"),
-    ] {
-        assert_eq!(rt; second_answer(rt.alloc(), contents, signer)?, name);
+/// Records after the first one, their signers, and what is answered.
+const SECONDS: &[(&[u8], &str, &str)] = &[
+    (NEXT, KEY_ID, "accepted"),
+    (OTHER_FORM, KEY_ID, "ProtocolVersion"),
+    (NOT_BEHIND, KEY_ID, "PreviousRecord"),
+    (EARLIER, KEY_ID, "TimeLower"),
+    (NEXT, OTHER_ID, "UnknownKey"),
+];
+
+/// Records after the first one by its signer, and what is answered of their entries.
+const ENTRIES: &[(&[u8], &str)] = &[
+    (GRANT, "accepted"),
+    (INIT_AGAIN, "InitAgain"),
+    (RELEASE_AGAIN, "ReleaseAgain"),
+    (YANK_UNRELEASED, "YankUnreleased"),
+    (YANK_AGAIN, "YankYanked"),
+    (REVOKE_AND_RELEASE, "Unpermitted"),
+];
+
+/// Fails at the first record of which something else is answered after the first one.
+fn are_answered(alloc: Global, rows: &[(&[u8], &str, &str)]) -> Result<(), Fail> {
+    for (contents, signer, want) in rows {
+        is_text(second_answer(alloc, contents, signer)?, want)?;
     }
     Ok(())
+}
+
+/// Fails at the first record of which something else is answered after the first one, where its signer is the same.
+fn are_judged(alloc: Global, rows: &[(&[u8], &str)]) -> Result<(), Fail> {
+    for (contents, want) in rows {
+        is_text(second_answer(alloc, contents, KEY_ID)?, want)?;
+    }
+    Ok(())
+}
+
+#[test]
+fn the_rules_of_a_record_against_the_head_are_checked(rt: HostRuntime) -> Result<(), Fail> {
+    are_answered(rt.alloc(), SECONDS)
 }
 
 #[test]
 fn the_rules_of_entries_are_checked(rt: HostRuntime) -> Result<(), Fail> {
-    for (contents, name) in [
-        (GRANT, "accepted"),
-        (INIT_AGAIN, "InitAgain"),
-        (RELEASE_AGAIN, "ReleaseAgain"),
-        (YANK_UNRELEASED, "YankUnreleased"),
-        (YANK_AGAIN, "YankYanked"),
-        (REVOKE_AND_RELEASE, "Unpermitted"),
-    ] {
-        assert_eq!(rt; second_answer(rt.alloc(), contents, KEY_ID)?, name);
-    }
-    Ok(())
+    are_judged(rt.alloc(), ENTRIES)
 }
 
 /// What is answered of a record whose signature nobody lists.
 fn answer_without_signature(alloc: Global) -> Result<&'static str, Fail> {
-    let verifier = ListedVerifier::new(Vec::new(alloc));
     let mut state = state_of(alloc, FIRST)?;
+    let verifier = ListedVerifier::new(Vec::new(alloc));
     judged(alloc, &verifier, &mut state, NEXT, KEY_ID)
 }
 
@@ -338,113 +404,176 @@ fn first_answer(alloc: Global, contents: &[u8]) -> Result<&'static str, Fail> {
 #[test]
 fn signatures_and_first_records_are_checked(rt: HostRuntime) -> Result<(), Fail> {
     let alloc = rt.alloc();
-    assert_eq!(rt; answer_without_signature(alloc)?, "BadSignature");
-    assert_eq!(rt; first_answer(alloc, WITHOUT_INIT)?, "FirstEntryNotInit");
-    assert_eq!(rt; first_answer(alloc, OTHER_HASH)?, "HashAlgorithm");
-    Ok(())
+    is_text(answer_without_signature(alloc)?, "BadSignature")?;
+    is_text(first_answer(alloc, WITHOUT_INIT)?, "FirstEntryNotInit")?;
+    is_text(first_answer(alloc, OTHER_HASH)?, "HashAlgorithm")
 }
 
-/// The text of the error of a record that is earlier than the head; empty where it is accepted.
-fn text_of_an_earlier_time(alloc: Global) -> Result<String, Fail> {
-    let next = read(alloc, EARLIER, KEY_ID)?;
-    let mut state = state_of(alloc, FIRST)?;
-    match state.validate(alloc, &EverySignature, &next) {
-        Ok(()) => Ok(String::new(alloc)),
-        Err(error) => Ok(format!(in alloc; "{error}")?),
+/// Fails where the error of an answer has another text; it is empty where a record is accepted.
+fn has_error(alloc: Global, answer: &Result<(), ValidationError>, want: &str) -> Result<(), Fail> {
+    match answer {
+        Ok(()) => is_text("", want),
+        Err(error) => is_text(&format!(in alloc; "{error}")?, want),
     }
+}
+
+/// Fails where the error of a record has another text. It holds the answer alone, which is dropped here.
+fn is_told(
+    alloc: Global,
+    state: &mut LogState,
+    next: &Envelope<PackageRecord>,
+    want: &str,
+) -> Result<(), Fail> {
+    has_error(alloc, &validated(alloc, &EverySignature, state, next), want)
+}
+
+/// Fails where the error of a record after the first one has another text.
+fn is_second_told(alloc: Global, contents: &[u8], want: &str) -> Result<(), Fail> {
+    let mut state = state_of(alloc, FIRST)?;
+    let next = read(alloc, contents, KEY_ID)?;
+    is_told(alloc, &mut state, &next, want)
 }
 
 #[test]
 fn an_error_tells_times_as_people_read_them(rt: HostRuntime) -> Result<(), Fail> {
-    assert_eq!(rt;
-        text_of_an_earlier_time(rt.alloc())?.as_str(),
+    is_second_told(
+        rt.alloc(),
+        EARLIER,
         "the record's time 1970-01-01T00:00:00Z is before the head's, 1970-01-01T00:00:01Z: \
-        publish it with a later time"
-    );
-    Ok(())
+        publish it with a later time",
+    )
 }
 
-/// How many releases a replayed log of the first record has, and what is answered of that record as the next one.
-fn replayed(alloc: Global) -> Result<(usize, &'static str), Fail> {
-    let envs = vec![in alloc; read(alloc, FIRST, KEY_ID)?]?;
-    let mut state = LogState::replay(alloc, envs.as_slice())?.ok_or("a lawful log")?;
-    let releases = state.releases().len();
-    Ok((
-        releases,
-        judged(alloc, &EverySignature, &mut state, FIRST, KEY_ID)?,
-    ))
+/// The first record alone, as a log.
+fn first_records(alloc: Global) -> Result<Vec<Envelope<PackageRecord>>, Fail> {
+    let mut envs = Vec::new(alloc);
+    envs.push(read(alloc, FIRST, KEY_ID)?)?;
+    Ok(envs)
+}
+
+/// The state of the replayed log of the first record.
+fn replay(alloc: Global) -> Result<LogState, Fail> {
+    let envs = first_records(alloc)?;
+    let state = LogState::replay(alloc, envs.as_slice())?;
+    Ok(state.ok_or("a lawful log")?)
+}
+
+/// Fails where a replayed log of the first record has not two releases, or that record follows itself.
+fn is_replayed(alloc: Global) -> Result<(), Fail> {
+    let mut state = replay(alloc)?;
+    holds(state.releases().len() == 2, "two releases are replayed")?;
+    let name = judged(alloc, &EverySignature, &mut state, FIRST, KEY_ID)?;
+    is_text(name, "PreviousRecord")
 }
 
 #[test]
 fn a_first_record_is_not_its_own_second(rt: HostRuntime) -> Result<(), Fail> {
-    assert_eq!(rt; replayed(rt.alloc())?, (2, "PreviousRecord"));
-    assert_eq!(rt; second_answer(rt.alloc(), FIRST, KEY_ID)?, "PreviousRecord");
-    Ok(())
+    is_replayed(rt.alloc())?;
+    is_text(second_answer(rt.alloc(), FIRST, KEY_ID)?, "PreviousRecord")
 }
 
-/// What is answered of a registry's log of one record, and whether it defines a namespace, where something is known of
-/// it.
-fn named(
+/// The record of a registry's log of these contents.
+fn read_operator(alloc: Global, contents: &[u8]) -> Result<Envelope<Record<OperatorEntry>>, Fail> {
+    Ok(Envelope::read(alloc, contents, KEY_ID, "k:BA==")?)
+}
+
+/// What a registry's log answers to a record. It stands alone, since a call brings its whole contract with it.
+fn validated_operator(
+    alloc: Global,
+    state: &mut OperatorState,
+    next: &Envelope<Record<OperatorEntry>>,
+) -> Result<(), ValidationError> {
+    state.validate(alloc, &EverySignature, next)
+}
+
+/// The name of what a registry's log answers to a record. It holds the answer alone, which is dropped here.
+fn name_of_operator_answer(
+    alloc: Global,
+    state: &mut OperatorState,
+    next: &Envelope<Record<OperatorEntry>>,
+) -> &'static str {
+    name_in(&validated_operator(alloc, state, next))
+}
+
+/// Whether a registry's log defines a namespace, where something is known of it.
+fn defines(state: &OperatorState, namespace: &str) -> Option<bool> {
+    let known = state.namespace_state(namespace);
+    known.map(|state| matches!(state, NamespaceState::Defined))
+}
+
+/// Fails where something else is answered of a registry's log of one record, or it defines a namespace otherwise, where
+/// something is known of it.
+fn is_named(
     alloc: Global,
     contents: &[u8],
     namespace: &str,
-) -> Result<(&'static str, Option<bool>), Fail> {
-    let env: Envelope<Record<OperatorEntry>> = Envelope::read(alloc, contents, KEY_ID, "k:BA==")?;
+    want: (&str, Option<bool>),
+) -> Result<(), Fail> {
+    let next = read_operator(alloc, contents)?;
     let mut state = OperatorState::new(alloc);
-    let answer = name_in(&state.validate(alloc, &EverySignature, &env));
-    let known = state.namespace_state(namespace);
-    Ok((
-        answer,
-        known.map(|state| matches!(state, NamespaceState::Defined)),
-    ))
+    let answer = name_of_operator_answer(alloc, &mut state, &next);
+    holds((answer, defines(&state, namespace)) == want, want.0)
 }
 
 #[test]
 fn a_namespace_is_taken_once(rt: HostRuntime) -> Result<(), Fail> {
-    for (contents, namespace, answer) in [
-        (NAMESPACE, "a", ("accepted", Some(true))),
-        (NAMESPACE, "b", ("accepted", None)),
-        (NAMESPACE_AGAIN, "a", ("NamespaceTaken", None)),
-    ] {
-        assert_eq!(rt; named(rt.alloc(), contents, namespace)?, answer);
-    }
-    Ok(())
+    let alloc = rt.alloc();
+    is_named(alloc, NAMESPACE, "a", ("accepted", Some(true)))?;
+    is_named(alloc, NAMESPACE, "b", ("accepted", None))?;
+    is_named(alloc, NAMESPACE_AGAIN, "a", ("NamespaceTaken", None))
+}
+
+/// The signatures `k:BA==` of `a text` and `k:CA==` of `k:AA==`.
+fn signatures(alloc: Global) -> Result<Vec<(AnyHash, Signature)>, Fail> {
+    let text = AnyHash::from_text(alloc, TEXT_DIGEST)?;
+    let other = AnyHash::from_text(alloc, KEY_ID)?;
+    let mut list = Vec::new(alloc);
+    list.push((text, Signature::new(alloc, "k:BA==")?))?;
+    list.push((other, Signature::new(alloc, "k:CA==")?))?;
+    Ok(list)
 }
 
 /// A signer of `a text` and of `k:AA==`, whose second call fails.
 fn listed_signer(alloc: Global) -> Result<ListedSigner, Fail> {
-    let (text, other) = (
-        AnyHash::from_text(alloc, TEXT_DIGEST)?,
-        AnyHash::from_text(alloc, KEY_ID)?,
-    );
     let key = PublicKey::new(alloc, "k:AA==")?;
-    let mut list = vec![in alloc; (text, Signature::new(alloc, "k:BA==")?)]?;
-    list.push((other, Signature::new(alloc, "k:CA==")?))?;
-    let mut signer = ListedSigner::new(alloc, key, list);
+    let mut signer = ListedSigner::new(alloc, key, signatures(alloc)?);
     signer.fail_at(2)?;
     Ok(signer)
 }
 
+/// Texts, and the signatures that are given for them; nothing where none is given.
+const SIGNED: &[(&[u8], Option<&str>)] = &[
+    (b"a text", Some("k:BA==")),
+    (b"a text", None),
+    (b"k:AA==", Some("k:CA==")),
+    (b"another text", None),
+];
+
 /// Whether a signer gives this signature for a text; it fails where none is given.
 fn gives<S: Signer>(alloc: Global, signer: &mut S, text: &[u8], signature: Option<&str>) -> bool {
-    match (signer.sign(alloc, text), signature) {
-        (Ok(signature), Some(wanted)) => signature.as_str() == wanted,
-        (Err(SignError::Failed), None) => true,
-        _ => false,
+    match signer.sign(alloc, text) {
+        Ok(given) => signature == Some(given.as_str()),
+        Err(SignError::Failed) => signature.is_none(),
+        Err(_) => false,
     }
+}
+
+/// Fails at the first text for which a signer does not give its signature.
+fn are_given(
+    alloc: Global,
+    signer: &mut ListedSigner,
+    rows: &[(&[u8], Option<&str>)],
+) -> Result<(), Fail> {
+    for (text, signature) in rows {
+        let is = gives(alloc, signer, text, *signature);
+        holds(is, signature.unwrap_or("no signature"))?;
+    }
+    Ok(())
 }
 
 #[test]
 fn listed_signatures_are_given_but_at_the_told_call(rt: HostRuntime) -> Result<(), Fail> {
     let mut signer = listed_signer(rt.alloc())?;
-    assert_eq!(rt; signer.public_key().as_str(), "k:AA==");
-    for (text, signature) in [
-        (b"a text".as_slice(), Some("k:BA==")),
-        (b"a text".as_slice(), None),
-        (b"k:AA==".as_slice(), Some("k:CA==")),
-        (b"another text".as_slice(), None),
-    ] {
-        assert!(rt; gives(rt.alloc(), &mut signer, text, signature));
-    }
-    Ok(())
+    is_text(signer.public_key().as_str(), "k:AA==")?;
+    are_given(rt.alloc(), &mut signer, SIGNED)
 }

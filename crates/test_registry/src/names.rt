@@ -3,6 +3,7 @@
 use semver::{Version, VersionReq};
 use std::alloc::Global;
 use std::test::Fail;
+use test_check::{holds, is_text};
 use warg_hash::AnyHash;
 use warg_log::Release;
 use warg_names::{
@@ -151,131 +152,193 @@ fn refusal(alloc: Global, error: &ImportNameError) -> Result<String, Fail> {
     })
 }
 
-/// The answer to a name.
-fn answer(alloc: Global, name: &str) -> Result<String, Fail> {
+/// Fails where an answer is another one.
+fn is_answer(
+    alloc: Global,
+    answer: &Result<Import, ImportNameError>,
+    want: &str,
+) -> Result<(), Fail> {
+    match answer {
+        Ok(import) => is_text(&shown(alloc, import)?, want),
+        Err(error) => is_text(&refusal(alloc, error)?, want),
+    }
+}
+
+/// What a parser answers to a name. It stands alone, since a call brings its whole contract with it.
+fn parsed(alloc: Global, name: &str) -> Result<Import, ImportNameError> {
     let mut parser = DependencyImportParser {
         next: name,
         offset: 0,
     };
-    match parser.parse(alloc) {
-        Ok(import) => shown(alloc, &import),
-        Err(error) => refusal(alloc, &error),
-    }
+    parser.parse(alloc)
 }
 
-/// The answer to the inside of `unlocked-dep=<>`.
-fn dependency_answer(alloc: Global, text: &str) -> Result<String, Fail> {
-    match Import::from_dependency(alloc, text) {
-        Ok(import) => shown(alloc, &import),
-        Err(error) => refusal(alloc, &error),
-    }
+/// Fails where something else is answered to a name. It holds the answer alone, which is dropped here.
+fn is_answered(alloc: Global, name: &str, want: &str) -> Result<(), Fail> {
+    is_answer(alloc, &parsed(alloc, name), want)
 }
 
-/// The first line of a table whose name has another answer.
-fn wrong<'a>(alloc: Global, table: &'a str) -> Result<Option<&'a str>, Fail> {
+/// What is answered to the inside of `unlocked-dep=<>`.
+fn dependency(alloc: Global, text: &str) -> Result<Import, ImportNameError> {
+    Import::from_dependency(alloc, text)
+}
+
+/// Fails where something else is answered to the inside of `unlocked-dep=<>`.
+fn is_dependency(alloc: Global, text: &str, want: &str) -> Result<(), Fail> {
+    is_answer(alloc, &dependency(alloc, text), want)
+}
+
+/// Fails at the first line of a table whose name has another answer.
+fn are_lines(alloc: Global, table: &str) -> Result<(), Fail> {
     for line in table.lines() {
-        let Some((name, wanted)) = line.split_once(" -> ") else {
-            return Ok(Some(line));
-        };
-        if answer(alloc, name)?.as_str() != wanted {
-            return Ok(Some(line));
-        }
+        let (name, want) = line.split_once(" -> ").ok_or("a line of a table")?;
+        is_answered(alloc, name, want)?;
     }
-    Ok(None)
+    Ok(())
 }
 
 #[test]
 fn names_ask_for_what_the_grammar_says(rt: HostRuntime) -> Result<(), Fail> {
-    assert_eq!(rt; wrong(rt.alloc(), GOOD)?, None);
-    Ok(())
+    are_lines(rt.alloc(), GOOD)
 }
 
 #[test]
 fn refusals_tell_where_a_name_ends(rt: HostRuntime) -> Result<(), Fail> {
-    assert_eq!(rt; wrong(rt.alloc(), PACKAGES)?, None);
-    assert_eq!(rt; wrong(rt.alloc(), REQUIREMENTS)?, None);
-    assert_eq!(rt; wrong(rt.alloc(), OTHERS)?, None);
-    Ok(())
+    are_lines(rt.alloc(), PACKAGES)?;
+    are_lines(rt.alloc(), REQUIREMENTS)?;
+    are_lines(rt.alloc(), OTHERS)
 }
 
-#[test]
-fn a_parser_moves_over_a_name_alone(rt: HostRuntime) -> Result<(), Fail> {
-    let alloc = rt.alloc();
+/// Whether a parser reads a name.
+fn reads(alloc: Global, parser: &mut DependencyImportParser<'_>) -> bool {
+    parser.parse(alloc).is_ok()
+}
+
+/// Whether a parser finds no version at this place.
+fn finds_no_version(alloc: Global, parser: &mut DependencyImportParser<'_>, place: usize) -> bool {
+    match parser.parse(alloc) {
+        Err(ImportNameError::NotVersion(found)) => found == place,
+        _ => false,
+    }
+}
+
+/// Fails where a parser is not left with this text at this place.
+fn is_left(parser: &DependencyImportParser<'_>, next: &str, offset: usize) -> Result<(), Fail> {
+    holds(parser.offset == offset, "a parser counts on")?;
+    is_text(parser.next, next)
+}
+
+/// Fails where a parser does not move over a name.
+fn moves_over(alloc: Global) -> Result<(), Fail> {
     let mut parser = DependencyImportParser {
         next: "i@1.0.0",
         offset: 5,
     };
-    assert!(rt; parser.parse(alloc).is_ok());
-    assert_eq!(rt; (parser.next, parser.offset), ("", 12));
+    holds(reads(alloc, &mut parser), "a name is read")?;
+    is_left(&parser, "", 12)
+}
+
+/// Fails where a parser moves over what is no name.
+fn stays(alloc: Global) -> Result<(), Fail> {
     let mut parser = DependencyImportParser {
         next: "i@x",
         offset: 5,
     };
-    assert!(rt; matches!(parser.parse(alloc), Err(ImportNameError::NotVersion(7))));
-    assert_eq!(rt; (parser.next, parser.offset), ("i@x", 5));
+    holds(
+        finds_no_version(alloc, &mut parser, 7),
+        "there is no version",
+    )?;
+    is_left(&parser, "i@x", 5)
+}
+
+#[test]
+fn a_parser_moves_over_a_name_alone(rt: HostRuntime) -> Result<(), Fail> {
+    moves_over(rt.alloc())?;
+    stays(rt.alloc())
+}
+
+/// Insides of `unlocked-dep=<>`, and the answers to them.
+const DEPENDENCIES: &[(&str, &str)] = &[
+    ("demo:app", "demo:app * unlocked"),
+    ("demo:app@{>=1.0.0}", "demo:app {>=1.0.0} unlocked"),
+    ("demo:app>", "end at 8"),
+    ("demo", "`:` at 4"),
+    ("", "label at 0"),
+];
+
+/// Fails at the first text to which something else is answered.
+fn are_dependencies(alloc: Global, rows: &[(&str, &str)]) -> Result<(), Fail> {
+    for (text, want) in rows {
+        is_dependency(alloc, text, want)?;
+    }
     Ok(())
 }
 
 #[test]
 fn dependencies_are_read_without_their_mark(rt: HostRuntime) -> Result<(), Fail> {
-    let alloc = rt.alloc();
-    for (text, wanted) in [
-        ("demo:app", "demo:app * unlocked"),
-        ("demo:app@{>=1.0.0}", "demo:app {>=1.0.0} unlocked"),
-        ("demo:app>", "end at 8"),
-        ("demo", "`:` at 4"),
-        ("", "label at 0"),
-    ] {
-        assert_eq!(rt; dependency_answer(alloc, text)?.as_str(), wanted);
+    are_dependencies(rt.alloc(), DEPENDENCIES)
+}
+
+/// Names, and what is left of them without their kind.
+const KINDLESS: &[(&str, &str)] = &[
+    (
+        "unlocked-dep=<foo:bar@{>=1.0.0 <2.0.0}>",
+        "foo:bar@{>=1.0.0 <2.0.0}",
+    ),
+    ("unlocked-dep=<a:b>x", "a:b"),
+    ("unlocked-dep=<a:b", "unlocked-dep=<a:b"),
+    ("locked-dep=<a:b@1.0.0>,integrity=<x>", "a:b@1.0.0"),
+    ("locked-dep=<a:b", "locked-dep=<a:b"),
+    ("wasi:io/poll@0.2.0", "wasi:io/poll@0.2.0"),
+    ("unlocked-dep=", "unlocked-dep="),
+    ("", ""),
+];
+
+/// Fails at the first name that loses something else.
+fn are_kindless(rows: &[(&str, &str)]) -> Result<(), Fail> {
+    for (name, inside) in rows {
+        is_text(kindless_name(name), inside)?;
     }
     Ok(())
 }
 
 #[test]
-fn names_lose_their_kind(rt: HostRuntime) -> Result<(), Fail> {
-    for (name, inside) in [
-        (
-            "unlocked-dep=<foo:bar@{>=1.0.0 <2.0.0}>",
-            "foo:bar@{>=1.0.0 <2.0.0}",
-        ),
-        ("unlocked-dep=<a:b>x", "a:b"),
-        ("unlocked-dep=<a:b", "unlocked-dep=<a:b"),
-        ("locked-dep=<a:b@1.0.0>,integrity=<x>", "a:b@1.0.0"),
-        ("locked-dep=<a:b", "locked-dep=<a:b"),
-        ("wasi:io/poll@0.2.0", "wasi:io/poll@0.2.0"),
-        ("unlocked-dep=", "unlocked-dep="),
-        ("", ""),
-    ] {
-        assert_eq!(rt; kindless_name(name), inside);
-    }
-    Ok(())
+fn names_lose_their_kind(_rt: HostRuntime) -> Result<(), Fail> {
+    are_kindless(KINDLESS)
 }
 
-/// A requirement as it stands behind a package, and alone.
-fn written(alloc: Global, req: &str) -> Result<String, Fail> {
-    let req = VersionReq::parse(alloc, req)?;
-    let package = versioned_package(alloc, "a:b", &req)?;
-    let alone = version_string(alloc, &req)?;
-    Ok(format!(in alloc; "{package} {alone}")?)
+/// Fails where a requirement stands otherwise behind a package, or alone.
+fn is_written(alloc: Global, req: &VersionReq, want: &str) -> Result<(), Fail> {
+    let package = versioned_package(alloc, "a:b", req)?;
+    let alone = version_string(alloc, req)?;
+    is_text(&format!(in alloc; "{package} {alone}")?, want)
+}
+
+/// Requirements, and how they are written.
+const WRITTEN: &[(&str, &str)] = &[
+    ("*", "a:b *"),
+    ("=1.0.0-rc.1", "a:b@{=1.0.0-rc.1} =1.0.0-rc.1"),
+    (">=1.0.0, <2.0.0", "a:b@{>=1.0.0 <2.0.0} {>=1.0.0 <2.0.0}"),
+    ("^1.2", "a:b@{^1.2} {^1.2}"),
+    ("1.*", "a:b@{1.*} {1.*}"),
+    (
+        "~1, <=1.9.0, >1.1",
+        "a:b@{~1 <=1.9.0 >1.1} {~1 <=1.9.0 >1.1}",
+    ),
+];
+
+/// Fails at the first requirement that is written otherwise.
+fn are_written(alloc: Global, rows: &[(&str, &str)]) -> Result<(), Fail> {
+    for (req, want) in rows {
+        let req = VersionReq::parse(alloc, req)?;
+        is_written(alloc, &req, want)?;
+    }
+    Ok(())
 }
 
 #[test]
 fn requirements_are_written_as_cargo_writes_them(rt: HostRuntime) -> Result<(), Fail> {
-    let alloc = rt.alloc();
-    for (req, wanted) in [
-        ("*", "a:b *"),
-        ("=1.0.0-rc.1", "a:b@{=1.0.0-rc.1} =1.0.0-rc.1"),
-        (">=1.0.0, <2.0.0", "a:b@{>=1.0.0 <2.0.0} {>=1.0.0 <2.0.0}"),
-        ("^1.2", "a:b@{^1.2} {^1.2}"),
-        ("1.*", "a:b@{1.*} {1.*}"),
-        (
-            "~1, <=1.9.0, >1.1",
-            "a:b@{~1 <=1.9.0 >1.1} {~1 <=1.9.0 >1.1}",
-        ),
-    ] {
-        assert_eq!(rt; written(alloc, req)?.as_str(), wanted);
-    }
-    Ok(())
+    are_written(rt.alloc(), WRITTEN)
 }
 
 /// The name of a locked package of the content `abc`.
@@ -288,38 +351,66 @@ fn locked_name(alloc: Global, version: &str) -> Result<String, Fail> {
     Ok(locked_package(alloc, "a:b", &release, &digest)?.into_string())
 }
 
+/// Fails where a name is not the wanted one of the content `abc`.
+fn is_locked_name(alloc: Global, name: &str) -> Result<(), Fail> {
+    let wanted = format!(in alloc; "locked-dep=<a:b@1.2.3-rc.1+x>,integrity=<sha256-{DIGITS}>")?;
+    is_text(name, &wanted)
+}
+
+/// Fails where the answer to a name is not the wanted one of the content `abc`.
+fn reads_back(alloc: Global, name: &str) -> Result<(), Fail> {
+    let wanted = format!(in alloc; "a:b =1.2.3-rc.1 locked sha256-{DIGITS} exact 1.2.3-rc.1+x")?;
+    is_answered(alloc, name, &wanted)
+}
+
 #[test]
 fn locked_packages_read_back(rt: HostRuntime) -> Result<(), Fail> {
-    let alloc = rt.alloc();
-    let name = locked_name(alloc, "1.2.3-rc.1+x")?;
-    let wanted = format!(in alloc; "locked-dep=<a:b@1.2.3-rc.1+x>,integrity=<sha256-{DIGITS}>")?;
-    assert_eq!(rt; name.as_str(), wanted.as_str());
-    let read = format!(in alloc; "a:b =1.2.3-rc.1 locked sha256-{DIGITS} exact 1.2.3-rc.1+x")?;
-    assert_eq!(rt; answer(alloc, &name)?.as_str(), read.as_str());
+    let name = locked_name(rt.alloc(), "1.2.3-rc.1+x")?;
+    is_locked_name(rt.alloc(), &name)?;
+    reads_back(rt.alloc(), &name)
+}
+
+/// Fails where the digits of `abc` name something else between these texts.
+fn are_marked(alloc: Global, front: &str, end: &str, want: Option<AnyHash>) -> Result<(), Fail> {
+    let mark = format!(in alloc; "{front}{DIGITS}{end}")?;
+    holds(marked(alloc, &mark) == want, &mark)
+}
+
+/// Fails at the first text that names a digest.
+fn are_no_marks(alloc: Global, marks: &[&str]) -> Result<(), Fail> {
+    for mark in marks {
+        holds(marked(alloc, mark).is_none(), mark)?;
+    }
     Ok(())
 }
 
 #[test]
 fn marks_name_digests(rt: HostRuntime) -> Result<(), Fail> {
     let alloc = rt.alloc();
-    let mark = format!(in alloc; "sha256-{DIGITS}")?;
-    assert_eq!(rt; marked(alloc, &mark), Some(AnyHash::sha256_of(b"abc")));
-    let long = format!(in alloc; "sha256-{DIGITS}0")?;
-    let colon = format!(in alloc; "sha256:{DIGITS}")?;
-    for mark in [long.as_str(), colon.as_str(), "sha256-abc", "sha256-", ""] {
-        assert_eq!(rt; marked(alloc, mark), None);
-    }
-    Ok(())
+    are_marked(alloc, "sha256-", "", Some(AnyHash::sha256_of(b"abc")))?;
+    are_marked(alloc, "sha256-", "0", None)?;
+    are_marked(alloc, "sha256:", "", None)?;
+    are_no_marks(alloc, &["sha256-abc", "sha256-", ""])
+}
+
+/// The tree of a package of this version.
+fn tree(alloc: Global, version: &str) -> Result<TreeBuilder, Fail> {
+    let version = Version::parse(alloc, version)?;
+    Ok(new_tree(alloc, "demo", "app", &version)?)
+}
+
+/// Whether a node has this text, and none below it.
+fn is_alone(node: &TreeBuilder, text: &str) -> bool {
+    node.text.as_str() == text && node.children.is_empty()
 }
 
 #[test]
 fn trees_begin_with_a_package(rt: HostRuntime) -> Result<(), Fail> {
-    let alloc = rt.alloc();
-    let version = Version::parse(alloc, "1.0.0+x")?;
-    let tree = new_tree(alloc, "demo", "app", &version)?;
-    assert_eq!(rt; tree.text.as_str(), "demo:app@1.0.0+x");
-    assert!(rt; tree.children.is_empty());
-    Ok(())
+    let tree = tree(rt.alloc(), "1.0.0+x")?;
+    holds(
+        is_alone(&tree, "demo:app@1.0.0+x"),
+        "the package stands alone",
+    )
 }
 
 /// The texts of the nodes below one, with a comma behind each.
@@ -332,44 +423,65 @@ fn texts_below(alloc: Global, node: &TreeBuilder) -> Result<String, Fail> {
     Ok(texts)
 }
 
+/// Fails where the nodes below one have other texts.
+fn has_below(alloc: Global, node: &TreeBuilder, texts: &str) -> Result<(), Fail> {
+    is_text(&texts_below(alloc, node)?, texts)
+}
+
+/// The first node below one.
+fn first_below(node: &TreeBuilder) -> Result<&TreeBuilder, Fail> {
+    Ok(node.children.as_slice().first().ok_or("a node")?)
+}
+
+/// Adds a node, one below it and another.
+fn grow(alloc: Global, tree: &mut TreeBuilder) -> Result<(), Fail> {
+    let first = create_child_node(alloc, tree, "a:b", "1.0.0")?;
+    create_child_node(alloc, first, "c:d", "*")?;
+    create_child_node(alloc, tree, "e:f", "{>=1.0.0}")?;
+    Ok(())
+}
+
 #[test]
 fn nodes_are_added_last(rt: HostRuntime) -> Result<(), Fail> {
-    let alloc = rt.alloc();
-    let mut tree = new_tree(alloc, "demo", "app", &Version::new(1, 0, 0))?;
-    let first = create_child_node(alloc, &mut tree, "a:b", "1.0.0")?;
-    create_child_node(alloc, first, "c:d", "*")?;
-    create_child_node(alloc, &mut tree, "e:f", "{>=1.0.0}")?;
-    assert_eq!(rt;
-        texts_below(alloc, &tree)?.as_str(),
-        "a:b@1.0.0,e:f@{>=1.0.0},"
-    );
-    let below = match tree.children.as_slice() {
-        [first, ..] => texts_below(alloc, first)?,
-        [] => String::new(alloc),
-    };
-    assert_eq!(rt; below.as_str(), "c:d@*,");
-    Ok(())
+    let mut tree = new_tree(rt.alloc(), "demo", "app", &Version::new(1, 0, 0))?;
+    grow(rt.alloc(), &mut tree)?;
+    has_below(rt.alloc(), &tree, "a:b@1.0.0,e:f@{>=1.0.0},")?;
+    has_below(rt.alloc(), first_below(&tree)?, "c:d@*,")
 }
 
 /// The import of a name.
 fn import(alloc: Global, name: &str) -> Result<Import, Fail> {
-    let mut parser = DependencyImportParser {
-        next: name,
-        offset: 0,
-    };
-    Ok(parser.parse(alloc)?)
+    Ok(parsed(alloc, name)?)
+}
+
+/// Whether imports ask for the same, where they are to, and otherwise whether they do not.
+fn are_compared(first: &Import, second: &Import, same: bool) -> bool {
+    if same {
+        first.is_same(second) && first == second
+    } else {
+        !first.is_same(second) && first != second
+    }
+}
+
+/// Fails where the imports of two names do not ask for the same, where they are to, or otherwise do.
+fn ask(alloc: Global, first: &str, second: &str, same: bool) -> Result<(), Fail> {
+    let first = import(alloc, first)?;
+    let second = import(alloc, second)?;
+    holds(are_compared(&first, &second, same), "imports are compared")
+}
+
+/// Fails where a copy of a name's import asks for something else.
+fn is_copied(alloc: Global, name: &str) -> Result<(), Fail> {
+    let import = import(alloc, name)?;
+    let copy = import.try_clone(alloc)?;
+    holds(are_compared(&copy, &import, true), "a copy is the same")
 }
 
 #[test]
 fn imports_are_compared_by_what_they_ask_for(rt: HostRuntime) -> Result<(), Fail> {
     let alloc = rt.alloc();
-    let plain = import(alloc, "unlocked-dep=<a:b>")?;
-    let star = import(alloc, "unlocked-dep=<a:b@*>")?;
-    let locked = import(alloc, "locked-dep=<a:b@1.0.0+x>")?;
-    let other = import(alloc, "locked-dep=<a:b@1.0.0+y>")?;
-    assert!(rt; plain.is_same(&star) && plain == star);
-    assert!(rt; !locked.is_same(&other) && locked != other);
-    let copy = locked.try_clone(alloc)?;
-    assert!(rt; copy.is_same(&locked) && copy == locked);
-    Ok(())
+    ask(alloc, "unlocked-dep=<a:b>", "unlocked-dep=<a:b@*>", true)?;
+    let locked = "locked-dep=<a:b@1.0.0+x>";
+    ask(alloc, locked, "locked-dep=<a:b@1.0.0+y>", false)?;
+    is_copied(alloc, locked)
 }

@@ -2,6 +2,7 @@
 
 use std::alloc::Global;
 use std::test::Fail;
+use test_check::{holds, is_text};
 use warg_hash::{NameError, RecordId};
 use warg_record::{
     Envelope, EnvelopeError, LogEntry, OperatorEntry, PackageEntry, PackageRecord, PublicKey,
@@ -27,18 +28,18 @@ const WHOLE: &[u8] = b"\
     \x0a\x051.0.0\x12Gsha256:92521fc3cbd964bdc9f584a991b89fddaa5754ed1cc96d6d42445338669c1305\x22\x09*\x07\x0a\
     \x051.0.0";
 
-/// Whether a record's message is what is written of the record that is read from it.
-fn is_rewritten<E: LogEntry>(alloc: Global, contents: &[u8]) -> Result<bool, Fail> {
+/// Fails where a record's message is not what is written of the record that is read from it.
+fn is_rewritten<E: LogEntry>(alloc: Global, contents: &[u8]) -> Result<(), Fail> {
     let env: Envelope<Record<E>> = Envelope::read(alloc, contents, ID, "k:BA==")?;
-    Ok(Envelope::write(alloc, &env.rec)?.as_slice() == contents)
+    let is_same = Envelope::write(alloc, &env.rec)?.as_slice() == contents;
+    holds(is_same, "a record is written as it was read")
 }
 
 #[test]
 fn records_are_read_and_written_again(rt: HostRuntime) -> Result<(), Fail> {
-    assert!(rt; is_rewritten::<PackageEntry>(rt.alloc(), FIRST)?);
-    assert!(rt; is_rewritten::<PackageEntry>(rt.alloc(), RELEASE_AND_YANK)?);
-    assert!(rt; is_rewritten::<OperatorEntry>(rt.alloc(), KEYS_AND_NAMESPACES)?);
-    Ok(())
+    is_rewritten::<PackageEntry>(rt.alloc(), FIRST)?;
+    is_rewritten::<PackageEntry>(rt.alloc(), RELEASE_AND_YANK)?;
+    is_rewritten::<OperatorEntry>(rt.alloc(), KEYS_AND_NAMESPACES)
 }
 
 /// What an entry is, the text of its key, and how many permissions it has.
@@ -58,45 +59,66 @@ fn whole(alloc: Global) -> Result<PackageRecord, Fail> {
     Ok(env.rec)
 }
 
-#[test]
-fn a_whole_record_has_each_field_of_its_bytes(rt: HostRuntime) -> Result<(), Fail> {
-    let rec = whole(rt.alloc())?;
-    assert!(rt; is_rewritten::<PackageEntry>(rt.alloc(), WHOLE)?);
-    assert_eq!(rt; rec.prev, Some(RecordId::of(b"")));
-    assert_eq!(rt;
-        (rec.version, rec.time.seconds, rec.time.nanos),
-        (3, 300, 5)
-    );
-    let entries = [
-        ("init", "k:AA==", 0),
-        ("grant", "k:BA==", 2),
-        ("revoke", "", 1),
-        ("release", "", 0),
-        ("yank", "", 0),
-    ];
-    assert_eq!(rt; rec.entries.len(), entries.len());
-    for (entry, wanted) in rec.entries.as_slice().iter().zip(entries.iter()) {
-        assert_eq!(rt; shown(entry), *wanted);
-    }
-    Ok(())
+/// What the entries of the whole message are.
+const ENTRIES: &[(&str, &str, usize)] = &[
+    ("init", "k:AA==", 0),
+    ("grant", "k:BA==", 2),
+    ("revoke", "", 1),
+    ("release", "", 0),
+    ("yank", "", 0),
+];
+
+/// Whether a record has the record before it, the version and the time of the whole message.
+fn has_front(rec: &PackageRecord) -> bool {
+    rec.prev == Some(RecordId::of(b""))
+        && (rec.version, rec.time.seconds, rec.time.nanos) == (3, 300, 5)
 }
 
-/// The seconds and nanoseconds of a record's time, and its signature.
-fn time_and_signature(alloc: Global, contents: &[u8]) -> Result<(u64, u32, Signature), Fail> {
+/// Whether a record has these entries.
+fn has_entries(rec: &PackageRecord, entries: &[(&str, &str, usize)]) -> bool {
+    for (entry, wanted) in rec.entries.as_slice().iter().zip(entries.iter()) {
+        if shown(entry) != *wanted {
+            return false;
+        }
+    }
+    rec.entries.len() == entries.len()
+}
+
+/// Fails where the record of the whole message has other fields.
+fn has_fields(alloc: Global) -> Result<(), Fail> {
+    let rec = whole(alloc)?;
+    holds(
+        has_front(&rec) && has_entries(&rec, ENTRIES),
+        "a record has each field of its bytes",
+    )
+}
+
+#[test]
+fn a_whole_record_has_each_field_of_its_bytes(rt: HostRuntime) -> Result<(), Fail> {
+    is_rewritten::<PackageEntry>(rt.alloc(), WHOLE)?;
+    has_fields(rt.alloc())
+}
+
+/// Whether a record has this time, in seconds and nanoseconds.
+fn has_time(rec: &PackageRecord, time: (u64, u32)) -> bool {
+    (rec.time.seconds, rec.time.nanos) == time
+}
+
+/// Fails where a message's record has another time, or a copy of its signature another text.
+fn has_time_and_signature(
+    alloc: Global,
+    contents: &[u8],
+    time: (u64, u32),
+    signature: &str,
+) -> Result<(), Fail> {
     let env: Envelope<PackageRecord> = Envelope::read(alloc, contents, ID, "k:BA==")?;
-    Ok((
-        env.rec.time.seconds,
-        env.rec.time.nanos,
-        env.signature.try_clone(alloc)?,
-    ))
+    let is_signed = env.signature.try_clone(alloc)?.as_str() == signature;
+    holds(is_signed && has_time(&env.rec, time), signature)
 }
 
 #[test]
 fn a_record_has_the_time_and_the_signature_of_its_bytes(rt: HostRuntime) -> Result<(), Fail> {
-    let (seconds, nanos, signature) = time_and_signature(rt.alloc(), FIRST)?;
-    assert_eq!(rt; (seconds, nanos), (1, 0));
-    assert_eq!(rt; signature.as_str(), "k:BA==");
-    Ok(())
+    has_time_and_signature(rt.alloc(), FIRST, (1, 0), "k:BA==")
 }
 
 /// Whether a message, the text of a key's id and that of a signature are refused for their form.
@@ -108,7 +130,7 @@ fn is_refused<E: LogEntry>(alloc: Global, contents: &[u8], key_id: &str, signatu
 }
 
 /// What is wrong with a package's record, and its message.
-const DAMAGED: [(&str, &[u8]); 18] = [
+const DAMAGED: &[(&str, &[u8])] = &[
     ("no bytes", b""),
     (
         "a version of 0 that is written out",
@@ -174,19 +196,49 @@ const DAMAGED: [(&str, &[u8]); 18] = [
     ),
 ];
 
-#[test]
-fn damaged_records_are_refused_for_their_form(rt: HostRuntime) -> Result<(), Fail> {
-    for (damage, contents) in DAMAGED {
-        assert!(rt;
-            is_refused::<PackageEntry>(rt.alloc(), contents, ID, "k:BA=="),
-            "{damage}"
-        );
+/// Fails at the first message that is not refused as a package's for its form.
+fn are_refused(alloc: Global, rows: &[(&str, &[u8])]) -> Result<(), Fail> {
+    for (damage, contents) in rows {
+        let is = is_refused::<PackageEntry>(alloc, contents, ID, "k:BA==");
+        holds(is, damage)?;
     }
-    assert!(rt; is_refused::<OperatorEntry>(rt.alloc(), RELEASE_AND_YANK, ID, "k:BA=="));
-    assert!(rt; is_refused::<PackageEntry>(rt.alloc(), FIRST, "sha256:", "k:BA=="));
-    assert!(rt; is_refused::<PackageEntry>(rt.alloc(), FIRST, ID, "k:BA="));
     Ok(())
 }
+
+/// Whether a package's record in an operator's log, and other texts of keys' ids and signatures, are refused for their
+/// form.
+fn are_others_refused(alloc: Global) -> bool {
+    is_refused::<OperatorEntry>(alloc, RELEASE_AND_YANK, ID, "k:BA==")
+        && is_refused::<PackageEntry>(alloc, FIRST, "sha256:", "k:BA==")
+        && is_refused::<PackageEntry>(alloc, FIRST, ID, "k:BA=")
+}
+
+#[test]
+fn damaged_records_are_refused_for_their_form(rt: HostRuntime) -> Result<(), Fail> {
+    are_refused(rt.alloc(), DAMAGED)?;
+    holds(
+        are_others_refused(rt.alloc()),
+        "entries, ids and signatures are refused",
+    )
+}
+
+/// Texts, and whether they are keys and signatures.
+const KEYS: &[(&str, bool)] = &[
+    ("k:AA==", true),
+    ("ecdsa-p256:AAA=", true),
+    ("-:AAAA", true),
+    ("k:", true),
+    ("", false),
+    ("k", false),
+    (":AA==", false),
+    ("K:AA==", false),
+    ("k:A", false),
+    ("k:AA", false),
+    ("k:AA=", false),
+    ("k:AB==", false),
+    ("k:-A==", false),
+    ("k:AA==\n", false),
+];
 
 /// Whether a text is the text of a key and of a signature; nothing where it is only one of them, or memory is short.
 fn is_key(alloc: Global, text: &str) -> Option<bool> {
@@ -197,55 +249,49 @@ fn is_key(alloc: Global, text: &str) -> Option<bool> {
     }
 }
 
-#[test]
-fn keys_and_signatures_are_a_kind_and_canonical_base64(rt: HostRuntime) -> Result<(), Fail> {
-    for (text, is) in [
-        ("k:AA==", true),
-        ("ecdsa-p256:AAA=", true),
-        ("-:AAAA", true),
-        ("k:", true),
-        ("", false),
-        ("k", false),
-        (":AA==", false),
-        ("K:AA==", false),
-        ("k:A", false),
-        ("k:AA", false),
-        ("k:AA=", false),
-        ("k:AB==", false),
-        ("k:-A==", false),
-        ("k:AA==\n", false),
-    ] {
-        assert!(rt; is_key(rt.alloc(), text) == Some(is), "{text}");
+/// Fails at the first text that is a key and a signature where it is to be none, or none where it is to be both.
+fn are_keys(alloc: Global, rows: &[(&str, bool)]) -> Result<(), Fail> {
+    for (text, is) in rows {
+        holds(is_key(alloc, text) == Some(*is), text)?;
     }
     Ok(())
 }
 
-/// What is written of a copy of an envelope's record, and the text of the copy's signature.
-fn copied<E: LogEntry>(alloc: Global, contents: &[u8]) -> Result<(Vec<u8>, Signature), Fail> {
+#[test]
+fn keys_and_signatures_are_a_kind_and_canonical_base64(rt: HostRuntime) -> Result<(), Fail> {
+    are_keys(rt.alloc(), KEYS)
+}
+
+/// A copy of the envelope of a message.
+fn copied<E: LogEntry>(alloc: Global, contents: &[u8]) -> Result<Envelope<Record<E>>, Fail> {
     let env: Envelope<Record<E>> = Envelope::read(alloc, contents, ID, "k:BA==")?;
-    let copy = env.try_clone(alloc)?;
-    Ok((Envelope::write(alloc, &copy.rec)?, copy.signature))
+    Ok(env.try_clone(alloc)?)
+}
+
+/// Fails where the copy of an envelope has another signature, or its record is written otherwise than in this message.
+fn is_copied<E: LogEntry>(alloc: Global, contents: &[u8]) -> Result<(), Fail> {
+    let copy = copied::<E>(alloc, contents)?;
+    let is_same = Envelope::write(alloc, &copy.rec)?.as_slice() == contents;
+    holds(
+        is_same && copy.signature.as_str() == "k:BA==",
+        "a copy is the same",
+    )
 }
 
 #[test]
 fn envelopes_are_copied_whole(rt: HostRuntime) -> Result<(), Fail> {
-    let (first, signature) = copied::<PackageEntry>(rt.alloc(), FIRST)?;
-    assert_eq!(rt; first.as_slice(), FIRST);
-    assert_eq!(rt; signature.as_str(), "k:BA==");
-    let (later, _) = copied::<PackageEntry>(rt.alloc(), RELEASE_AND_YANK)?;
-    assert_eq!(rt; later.as_slice(), RELEASE_AND_YANK);
-    let (operator, _) = copied::<OperatorEntry>(rt.alloc(), KEYS_AND_NAMESPACES)?;
-    assert_eq!(rt; operator.as_slice(), KEYS_AND_NAMESPACES);
-    Ok(())
+    is_copied::<PackageEntry>(rt.alloc(), FIRST)?;
+    is_copied::<PackageEntry>(rt.alloc(), RELEASE_AND_YANK)?;
+    is_copied::<OperatorEntry>(rt.alloc(), KEYS_AND_NAMESPACES)
 }
 
-/// A copy of a key.
-fn copy_of(alloc: Global, text: &str) -> Result<PublicKey, Fail> {
-    Ok(PublicKey::new(alloc, text)?.try_clone(alloc)?)
+/// Fails where a copy of the key of a text has another one.
+fn is_copied_key(alloc: Global, text: &str) -> Result<(), Fail> {
+    let copy = PublicKey::new(alloc, text)?.try_clone(alloc)?;
+    is_text(copy.as_str(), text)
 }
 
 #[test]
 fn a_copy_of_a_key_has_its_text(rt: HostRuntime) -> Result<(), Fail> {
-    assert_eq!(rt; copy_of(rt.alloc(), "k:AA==")?.as_str(), "k:AA==");
-    Ok(())
+    is_copied_key(rt.alloc(), "k:AA==")
 }

@@ -7,6 +7,7 @@ use crate::world::{
     SWAPPED, TWICE, UNLAWFUL, UNSIGNED,
 };
 use std::alloc::Global;
+use std::fmt::Display;
 use std::test::Fail;
 use warg_api::Client;
 use warg_exchange::{Checkpoint, Reply, Request, SignedCheckpoint};
@@ -19,8 +20,9 @@ use warg_recorded::{read_checked, read_replies};
 use warg_update::{AskError, Settings, UpdateError, UpdateStep};
 
 /// Bodies of replies, in the order in which they come, and what becomes of an update that begins with nothing: how many
-/// records are proved of the operator's log and of the package's, or the beginning of the error's text.
-const FRESH: [(&[&str], &str); 20] = [
+/// records are proved of the operator's log and of the package's, or the beginning of the error's text. They stand in
+/// three tables, of pages, of checkpoints and of proofs, since a row costs more to prove the longer its table is.
+const PAGES: &[(&[&str], &str)] = &[
     (&[CHECKPOINT, PAGE, INCLUSION], "proved 1 2"),
     (&[CHECKPOINT, FRONT, REST, INCLUSION], "proved 1 2"),
     (&[INCLUSION], "the reply"),
@@ -38,12 +40,25 @@ const FRESH: [(&[&str], &str); 20] = [
         &[CHECKPOINT, NO_PACKAGE],
         "the registry sends no record of a:b",
     ),
+    (&[CHECKPOINT, EMPTY], "the registry sends no record of a:b"),
+    (
+        &[CHECKPOINT, FRONT, FRONT, FRONT],
+        "the registry sends more pages than the limit allows",
+    ),
+];
+
+/// The same of checkpoints that are refused.
+const CHECKPOINTS: &[(&[&str], &str)] = &[
     (&[OTHER_KEY, PAGE], "the checkpoint is signed with the key"),
     (
         &[UNSIGNED, PAGE],
         "the checkpoint's signature is not its key's",
     ),
     (&[OTHER_ROOT, PAGE, INCLUSION], "a proof gives the root"),
+];
+
+/// The same of proofs that are refused.
+const PROOFS: &[(&[&str], &str)] = &[
     (
         &[CHECKPOINT, PAGE, HALF],
         "the bundle does not hold the proofs",
@@ -63,15 +78,10 @@ const FRESH: [(&[&str], &str); 20] = [
     (&[CHECKPOINT, PAGE, LACKING], "the bundle lacks a hash"),
     (&[CHECKPOINT, PAGE, OTHER_HASH], "a proof gives the root"),
     (&[CHECKPOINT, PAGE, CUT], "the bytes are no proof bundle"),
-    (&[CHECKPOINT, EMPTY], "the registry sends no record of a:b"),
-    (
-        &[CHECKPOINT, FRONT, FRONT, FRONT],
-        "the registry sends more pages than the limit allows",
-    ),
 ];
 
 /// The length and the roots of a stored checkpoint, the bodies that come, and what becomes of the update.
-const STORED: [(u64, &str, &str, &[&str], &str); 8] = [
+const STORED: &[(u64, &str, &str, &[&str], &str)] = &[
     (3, ROOT, MAP, &[CHECKPOINT, PAGE, INCLUSION], "proved 1 2"),
     (
         1,
@@ -154,7 +164,7 @@ const REPORTED: HintSettings = HintSettings {
 
 /// What is set, what a decision says, the hint in a reply that says that a log is not found, its body, and how the error's
 /// text begins.
-const MISSED: [(HintSettings, bool, &str, &str, &str); 9] = [
+const MISSED: &[(HintSettings, bool, &str, &str, &str)] = &[
     (HEEDED, true, "", MISSING, "the registry has no package a:b"),
     (
         HEEDED,
@@ -214,15 +224,27 @@ const MISSED: [(HintSettings, bool, &str, &str, &str); 9] = [
     ),
 ];
 
+/// The package `a:b`, of which nothing is kept.
+fn package(alloc: Global) -> Result<PackageInfo, Fail> {
+    let name = PackageName::new(alloc, "a:b")?;
+    Ok(PackageInfo::new(alloc, name))
+}
+
+/// The package `a:b` alone.
+fn packages(alloc: Global) -> Result<Vec<PackageInfo>, Fail> {
+    let mut packages = Vec::new(alloc);
+    packages.push(package(alloc)?)?;
+    Ok(packages)
+}
+
 /// The update of the package `a:b` and of its registry's operator, of which nothing is kept.
 fn step(
     alloc: Global,
     stored: Option<SignedCheckpoint>,
     hints: HintSettings,
 ) -> Result<UpdateStep, Fail> {
+    let packages = packages(alloc)?;
     let operator = OperatorInfo::new(alloc, None);
-    let mut packages = Vec::new(alloc);
-    packages.push(PackageInfo::new(alloc, PackageName::new(alloc, "a:b")?))?;
     let settings = Settings {
         hints,
         round_limit: 3,
@@ -261,6 +283,48 @@ fn proved(alloc: Global, step: &UpdateStep) -> Result<String, Fail> {
     }
 }
 
+/// Whether something is asked, or the text of the error.
+fn ask_text(
+    alloc: Global,
+    answer: &Result<Option<Request>, AskError>,
+) -> Result<Result<bool, String>, Fail> {
+    match answer {
+        Ok(request) => Ok(Ok(request.is_some())),
+        Err(error) => Ok(Err(format!(in alloc; "{error}")?)),
+    }
+}
+
+/// Whether something is asked next, or the text of the error. It holds the answer alone, which is dropped here, since
+/// each way out of a function that holds an error is proved for each kind of error.
+fn asked(alloc: Global, step: &UpdateStep, client: &Client) -> Result<Result<bool, String>, Fail> {
+    ask_text(alloc, &ask(alloc, step, client))
+}
+
+/// The text of an error. It takes an error of any type, since one of a known type is dropped by a proof for each kind
+/// of it.
+fn error_text<E: Display + Drop>(alloc: Global, error: E) -> Result<String, Fail> {
+    Ok(format!(in alloc; "{error}")?)
+}
+
+/// The text of the error, where there is one.
+fn told(alloc: Global, answer: Result<(), UpdateError>) -> Result<Option<String>, Fail> {
+    match answer {
+        Ok(()) => Ok(None),
+        Err(error) => Ok(Some(error_text(alloc, error)?)),
+    }
+}
+
+/// The reply is taken; the text of the error, where there is one.
+fn taken(
+    alloc: Global,
+    step: &mut UpdateStep,
+    verifier: &ListedVerifier,
+    decide: &mut AlwaysDecide,
+    reply: &Reply,
+) -> Result<Option<String>, Fail> {
+    told(alloc, take(alloc, step, verifier, decide, reply))
+}
+
 /// What becomes of an update over these replies.
 fn run(
     alloc: Global,
@@ -271,19 +335,44 @@ fn run(
     replies: &[Reply],
 ) -> Result<String, Fail> {
     for reply in replies {
-        match ask(alloc, step, client) {
-            Ok(Some(_)) => {}
-            Ok(None) => return proved(alloc, step),
-            Err(error) => return Ok(format!(in alloc; "{error}")?),
+        match asked(alloc, step, client)? {
+            Ok(true) => {}
+            Ok(false) => return proved(alloc, step),
+            Err(text) => return Ok(text),
         }
-        if let Err(error) = take(alloc, step, verifier, decide, reply) {
-            return Ok(format!(in alloc; "{error}")?);
+        if let Some(text) = taken(alloc, step, verifier, decide, reply)? {
+            return Ok(text);
         }
     }
-    match ask(alloc, step, client) {
+    match asked(alloc, step, client)? {
         Ok(_) => proved(alloc, step),
-        Err(error) => Ok(format!(in alloc; "{error}")?),
+        Err(text) => Ok(text),
     }
+}
+
+/// The same with a client, and a decision that says this.
+fn run_with(
+    alloc: Global,
+    step: &mut UpdateStep,
+    verifier: &ListedVerifier,
+    answer: bool,
+    replies: &[Reply],
+) -> Result<String, Fail> {
+    let client = Client::new(alloc, "https://home.test", None)?;
+    let mut decide = AlwaysDecide { answer };
+    run(alloc, step, &client, verifier, &mut decide, replies)
+}
+
+/// The same over the replies of a file.
+fn run_over(
+    alloc: Global,
+    step: &mut UpdateStep,
+    answer: bool,
+    file: &str,
+) -> Result<String, Fail> {
+    let verifier = read_checked(alloc, CHECKED.as_bytes())?;
+    let replies = read_replies(alloc, file.as_bytes())?;
+    run_with(alloc, step, &verifier, answer, &replies)
 }
 
 /// A file of replies with these bodies.
@@ -301,18 +390,16 @@ fn file(alloc: Global, bodies: &[&str]) -> Result<String, Fail> {
     Ok(text)
 }
 
-/// What becomes of an update over replies with these bodies, behind a stored checkpoint.
+/// What becomes of an update over the replies of a file, behind a stored checkpoint where there is one.
 fn outcome(
     alloc: Global,
     stored: Option<SignedCheckpoint>,
-    bodies: &[&str],
+    hints: HintSettings,
+    answer: bool,
+    file: &str,
 ) -> Result<String, Fail> {
-    let client = Client::new(alloc, "https://home.test", None)?;
-    let verifier = read_checked(alloc, CHECKED.as_bytes())?;
-    let replies = read_replies(alloc, file(alloc, bodies)?.as_bytes())?;
-    let mut step = step(alloc, stored, HEEDED)?;
-    let mut decide = AlwaysDecide { answer: true };
-    run(alloc, &mut step, &client, &verifier, &mut decide, &replies)
+    let mut step = step(alloc, stored, hints)?;
+    run_over(alloc, &mut step, answer, file)
 }
 
 /// A file of the checkpoint's reply and of one that says, with this hint and body, that a log is not found.
@@ -334,22 +421,6 @@ fn missing_file(alloc: Global, hint: &str, body: &str) -> Result<String, Fail> {
     Ok(text)
 }
 
-/// What becomes of an update where a log is not found.
-fn missed(
-    alloc: Global,
-    hints: HintSettings,
-    answer: bool,
-    hint: &str,
-    body: &str,
-) -> Result<String, Fail> {
-    let client = Client::new(alloc, "https://home.test", None)?;
-    let verifier = read_checked(alloc, CHECKED.as_bytes())?;
-    let replies = read_replies(alloc, missing_file(alloc, hint, body)?.as_bytes())?;
-    let mut step = step(alloc, None, hints)?;
-    let mut decide = AlwaysDecide { answer };
-    run(alloc, &mut step, &client, &verifier, &mut decide, &replies)
-}
-
 /// A checkpoint that was stored.
 fn checkpoint(
     alloc: Global,
@@ -369,27 +440,68 @@ fn checkpoint(
     })
 }
 
+/// Fails where something else becomes of an update.
+fn is_outcome(found: &str, expected: &str) -> Result<(), Fail> {
+    if !found.starts_with(expected) {
+        return Err(Fail::new(format_args!("{found} where {expected} was to come")));
+    }
+    Ok(())
+}
+
+/// Fails at the first bodies of which something else becomes, where nothing is stored.
+fn are_fresh(alloc: Global, rows: &[(&[&str], &str)]) -> Result<(), Fail> {
+    for (bodies, expected) in rows {
+        let file = file(alloc, bodies)?;
+        let found = outcome(alloc, None, HEEDED, true, &file)?;
+        is_outcome(&found, expected)?;
+    }
+    Ok(())
+}
+
+/// Fails at the first pages of which something else becomes.
+fn are_pages(alloc: Global) -> Result<(), Fail> {
+    are_fresh(alloc, PAGES)
+}
+
+/// Fails at the first checkpoint of which something else becomes.
+fn are_checkpoints(alloc: Global) -> Result<(), Fail> {
+    are_fresh(alloc, CHECKPOINTS)
+}
+
+/// Fails at the first proofs of which something else becomes.
+fn are_proofs(alloc: Global) -> Result<(), Fail> {
+    are_fresh(alloc, PROOFS)
+}
+
 #[test]
 fn an_update_proves_logs_or_tells_the_first_fault(rt: HostRuntime) -> Result<(), Fail> {
-    for (bodies, expected) in FRESH.as_slice() {
-        let found = outcome(rt.alloc(), None, bodies)?;
-        assert!(rt;
-            found.starts_with(*expected),
-            "{found} where {expected} was to come"
-        );
+    are_pages(rt.alloc())?;
+    are_checkpoints(rt.alloc())?;
+    are_proofs(rt.alloc())
+}
+
+/// Fails at the first bodies of which something else becomes behind the stored checkpoint.
+fn are_behind(alloc: Global, rows: &[(u64, &str, &str, &[&str], &str)]) -> Result<(), Fail> {
+    for (length, log_root, map_root, bodies, expected) in rows {
+        let file = file(alloc, bodies)?;
+        let stored = checkpoint(alloc, *length, log_root, map_root)?;
+        let found = outcome(alloc, Some(stored), HEEDED, true, &file)?;
+        is_outcome(&found, expected)?;
     }
     Ok(())
 }
 
 #[test]
 fn an_update_continues_the_stored_checkpoint_or_is_refused(rt: HostRuntime) -> Result<(), Fail> {
-    for (length, log_root, map_root, bodies, expected) in STORED.as_slice() {
-        let stored = checkpoint(rt.alloc(), *length, log_root, map_root)?;
-        let found = outcome(rt.alloc(), Some(stored), bodies)?;
-        assert!(rt;
-            found.starts_with(*expected),
-            "{found} where {expected} was to come"
-        );
+    are_behind(rt.alloc(), STORED)
+}
+
+/// Fails at the first reply with a hint of which something else becomes.
+fn are_missed(alloc: Global, rows: &[(HintSettings, bool, &str, &str, &str)]) -> Result<(), Fail> {
+    for (hints, answer, hint, body, expected) in rows {
+        let file = missing_file(alloc, hint, body)?;
+        let found = outcome(alloc, None, *hints, *answer, &file)?;
+        is_outcome(&found, expected)?;
     }
     Ok(())
 }
@@ -398,12 +510,5 @@ fn an_update_continues_the_stored_checkpoint_or_is_refused(rt: HostRuntime) -> R
 fn a_package_that_is_not_found_does_not_exist_or_may_be_elsewhere(
     rt: HostRuntime,
 ) -> Result<(), Fail> {
-    for (hints, answer, hint, body, expected) in MISSED.as_slice() {
-        let found = missed(rt.alloc(), *hints, *answer, hint, body)?;
-        assert!(rt;
-            found.starts_with(*expected),
-            "{found} where {expected} was to come"
-        );
-    }
-    Ok(())
+    are_missed(rt.alloc(), MISSED)
 }

@@ -5,6 +5,7 @@ use indexmap::IndexMap;
 use std::alloc::Global;
 use std::fmt::Write;
 use std::test::Fail;
+use test_check::{is_row, is_text};
 use warg_values::Text;
 use yaml_small::{
     Event, Marker, Parser, Resolved, ScanError, Style, Yaml, YamlList, YamlPairs, resolve,
@@ -75,18 +76,28 @@ fn push_error(out: &mut String, error: ScanError) -> Result<(), Fail> {
     Ok(())
 }
 
-/// Adds what the parser tells next. Whether more may come.
-fn push_next(alloc: Global, out: &mut String, parser: &mut Parser<'_>) -> Result<bool, Fail> {
-    match parser.next_token(alloc) {
+/// What the parser tells next. It stands alone, since a call brings its whole contract with it.
+fn next(alloc: Global, parser: &mut Parser<'_>) -> Result<(Event, Marker), ScanError> {
+    parser.next_token(alloc)
+}
+
+/// Adds what the parser told. Whether more may come.
+fn push_told(out: &mut String, told: &Result<(Event, Marker), ScanError>) -> Result<bool, Fail> {
+    match told {
         Ok((event, _)) => {
-            push_event(out, &event)?;
-            Ok(event != Event::StreamEnd)
+            push_event(out, event)?;
+            Ok(*event != Event::StreamEnd)
         }
         Err(error) => {
-            push_error(out, error)?;
+            push_error(out, *error)?;
             Ok(false)
         }
     }
+}
+
+/// Adds what the parser tells next. Whether more may come.
+fn push_next(alloc: Global, out: &mut String, parser: &mut Parser<'_>) -> Result<bool, Fail> {
+    push_told(out, &next(alloc, parser))
 }
 
 /// The events of a text's nodes, and the error where one comes, each behind a space.
@@ -101,14 +112,13 @@ fn emitted(alloc: Global, text: &str) -> Result<String, Fail> {
     Ok(out)
 }
 
-/// The text of the first row that emits other events.
-fn first_wrong<'t>(alloc: Global, table: &'t [(&str, &str)]) -> Result<Option<&'t str>, Fail> {
+/// Fails at the first text that emits other events.
+fn are_emitted(alloc: Global, table: &[(&str, &str)]) -> Result<(), Fail> {
     for (text, want) in table {
-        if emitted(alloc, text)?.as_str().trim_start() != *want {
-            return Ok(Some(*text));
-        }
+        let events = emitted(alloc, text)?;
+        is_row(text, events.as_str().trim_start(), want)?;
     }
-    Ok(None)
+    Ok(())
 }
 
 /// The error among events.
@@ -119,47 +129,51 @@ fn error_in(events: &str) -> &str {
     }
 }
 
-/// The text of the first row that is refused otherwise, or not.
-fn first_not_refused<'t>(
-    alloc: Global,
-    table: &'t [(&str, &str)],
-) -> Result<Option<&'t str>, Fail> {
+/// Fails at the first text that is refused otherwise, or not.
+fn are_refused(alloc: Global, table: &[(&str, &str)]) -> Result<(), Fail> {
     for (text, want) in table {
-        if error_in(emitted(alloc, text)?.as_str()) != *want {
-            return Ok(Some(*text));
-        }
+        let events = emitted(alloc, text)?;
+        is_row(text, error_in(events.as_str()), want)?;
     }
-    Ok(None)
+    Ok(())
 }
 
 #[test]
 fn carried_examples_of_the_standard(rt: HostRuntime) -> Result<(), Fail> {
-    assert_eq!(rt; first_wrong(rt.alloc(), EXAMPLES.as_slice())?, None);
-    Ok(())
+    are_emitted(rt.alloc(), EXAMPLES)
 }
 
 #[test]
 fn refused_examples_of_the_standard(rt: HostRuntime) -> Result<(), Fail> {
-    assert_eq!(rt; first_not_refused(rt.alloc(), REFUSED.as_slice())?, None);
-    Ok(())
+    are_refused(rt.alloc(), REFUSED)
 }
 
 #[test]
 fn doubtful_white_space_and_comments(rt: HostRuntime) -> Result<(), Fail> {
-    assert_eq!(rt; first_wrong(rt.alloc(), WHITE_SPACE.as_slice())?, None);
-    Ok(())
+    are_emitted(rt.alloc(), WHITE_SPACE)
 }
 
 #[test]
 fn doubtful_scalars(rt: HostRuntime) -> Result<(), Fail> {
-    assert_eq!(rt; first_wrong(rt.alloc(), SCALARS.as_slice())?, None);
-    Ok(())
+    are_emitted(rt.alloc(), SCALARS)
 }
 
 #[test]
 fn doubtful_flows_keys_and_documents(rt: HostRuntime) -> Result<(), Fail> {
-    assert_eq!(rt; first_wrong(rt.alloc(), STRUCTURE.as_slice())?, None);
-    Ok(())
+    are_emitted(rt.alloc(), STRUCTURE)
+}
+
+/// Adds an event's mark. Whether more may come.
+fn push_mark(out: &mut String, event: &Event, marker: Marker) -> Result<bool, Fail> {
+    let Marker { line, col, index } = marker;
+    write!(out, "{line}:{col}:{index} ")?;
+    Ok(*event != Event::StreamEnd)
+}
+
+/// Adds the mark of the next event. Whether more may come.
+fn push_next_mark(alloc: Global, out: &mut String, parser: &mut Parser<'_>) -> Result<bool, Fail> {
+    let (event, marker) = next(alloc, parser)?;
+    push_mark(out, &event, marker)
 }
 
 /// The marks of a text's events, each as line, column and index.
@@ -167,35 +181,24 @@ fn marks(alloc: Global, text: &str) -> Result<String, Fail> {
     let mut out = String::new(alloc);
     let mut parser = Parser::new(alloc, text);
     for _ in 0..u64::MAX {
-        let (event, Marker { line, col, index }) = parser.next_token(alloc)?;
-        write!(out, "{line}:{col}:{index} ")?;
-        if event == Event::StreamEnd {
+        if !push_next_mark(alloc, &mut out, &mut parser)? {
             break;
         }
     }
     Ok(out)
 }
 
-/// The text of the first row whose events have other marks.
-fn first_otherwise_marked<'t>(
-    alloc: Global,
-    table: &'t [(&str, &str)],
-) -> Result<Option<&'t str>, Fail> {
+/// Fails at the first text whose events have other marks.
+fn are_marked(alloc: Global, table: &[(&str, &str)]) -> Result<(), Fail> {
     for (text, want) in table {
-        if marks(alloc, text)?.as_str() != *want {
-            return Ok(Some(*text));
-        }
+        is_row(text, &marks(alloc, text)?, want)?;
     }
-    Ok(None)
+    Ok(())
 }
 
 #[test]
 fn markers_count_lines_and_characters(rt: HostRuntime) -> Result<(), Fail> {
-    assert_eq!(rt;
-        first_otherwise_marked(rt.alloc(), MARKED.as_slice())?,
-        None
-    );
-    Ok(())
+    are_marked(rt.alloc(), MARKED)
 }
 
 /// So many lists, each but the first in the one before.
@@ -210,19 +213,44 @@ fn nested(alloc: Global, depth: usize, open: &str, close: &str) -> Result<String
     Ok(out)
 }
 
-/// Whether so many lists are refused by this error.
-fn nests(alloc: Global, row: (usize, &str, &str, &str)) -> Result<bool, Fail> {
+/// Fails where so many lists are refused by another error.
+fn nests(alloc: Global, row: (usize, &str, &str, &str)) -> Result<(), Fail> {
     let (depth, open, close, want) = row;
     let text = nested(alloc, depth, open, close)?;
-    Ok(error_in(emitted(alloc, text.as_str())?.as_str()) == want)
+    let events = emitted(alloc, text.as_str())?;
+    is_text(error_in(events.as_str()), want)
 }
 
 #[test]
 fn the_65th_list_is_too_deep(rt: HostRuntime) -> Result<(), Fail> {
-    assert!(rt; nests(rt.alloc(), (64, "[", "]", "none"))?);
-    assert!(rt; nests(rt.alloc(), (65, "[", "]", "TooDeep 1:64"))?);
-    assert!(rt; nests(rt.alloc(), (65, "- ", "", "TooDeep 1:128"))?);
+    nests(rt.alloc(), (64, "[", "]", "none"))?;
+    nests(rt.alloc(), (65, "[", "]", "TooDeep 1:64"))?;
+    nests(rt.alloc(), (65, "- ", "", "TooDeep 1:128"))
+}
+
+/// What a peek tells. It stands alone, since a call brings its whole contract with it.
+fn peek(alloc: Global, parser: &mut Parser<'_>) -> Result<(Event, Marker), ScanError> {
+    parser.peek(alloc)
+}
+
+/// Adds what a call tells, and what a peek told before it, where it is something else.
+fn push_both(
+    out: &mut String,
+    peeked: &Result<(Event, Marker), ScanError>,
+    told: &Result<(Event, Marker), ScanError>,
+) -> Result<(), Fail> {
+    if peeked != told {
+        write!(out, "({peeked:?})")?;
+    }
+    write!(out, "{told:?};")?;
     Ok(())
+}
+
+/// Adds what the next call tells. Where a peek tells something else, it stands between brackets.
+fn push_call(alloc: Global, out: &mut String, parser: &mut Parser<'_>) -> Result<(), Fail> {
+    let peeked = peek(alloc, parser);
+    let told = next(alloc, parser);
+    push_both(out, &peeked, &told)
 }
 
 /// What so many calls tell. Where a peek tells something else, it stands between brackets.
@@ -230,65 +258,77 @@ fn told(alloc: Global, text: &str, calls: usize) -> Result<String, Fail> {
     let mut out = String::new(alloc);
     let mut parser = Parser::new(alloc, text);
     for _ in 0..calls {
-        let peeked = parser.peek(alloc);
-        let told = parser.next_token(alloc);
-        if peeked != told {
-            write!(out, "({peeked:?})")?;
-        }
-        write!(out, "{told:?};")?;
+        push_call(alloc, &mut out, &mut parser)?;
     }
     Ok(out)
 }
 
+/// Fails where so many calls tell something else.
+fn is_told(alloc: Global, text: &str, calls: usize, want: &str) -> Result<(), Fail> {
+    is_text(&told(alloc, text, calls)?, want)
+}
+
 #[test]
 fn a_refusal_and_the_end_come_again(rt: HostRuntime) -> Result<(), Fail> {
-    assert_eq!(rt; told(rt.alloc(), "- ]", 5)?.as_str(), REFUSED_AGAIN);
-    assert_eq!(rt; told(rt.alloc(), "# nothing\n\n", 4)?.as_str(), ENDED_AGAIN);
+    is_told(rt.alloc(), "- ]", 5, REFUSED_AGAIN)?;
+    is_told(rt.alloc(), "# nothing\n\n", 4, ENDED_AGAIN)
+}
+
+/// Fails at the first text that stands for something else.
+fn are_resolved(table: &[(&str, Resolved)]) -> Result<(), Fail> {
+    for (text, want) in table {
+        let found = resolve(text);
+        if found != *want {
+            return Err(Fail::new(format_args!("{text:?} stands for {found:?}")));
+        }
+    }
     Ok(())
 }
 
-/// The text of the first row that stands for something else.
-fn first_otherwise_resolved<'t>(table: &'t [(&str, Resolved)]) -> Option<&'t str> {
-    for (text, want) in table {
-        if resolve(text) != *want {
-            return Some(*text);
-        }
-    }
-    None
-}
-
 #[test]
-fn texts_stand_for_values(rt: HostRuntime) {
-    assert_eq!(rt; first_otherwise_resolved(VALUES.as_slice()), None);
+fn texts_stand_for_values(_rt: HostRuntime) -> Result<(), Fail> {
+    are_resolved(VALUES)
 }
 
-/// Pairs of these keys, with the numbers from 1 on.
-fn pairs(alloc: Global, keys: &[&str]) -> Result<YamlPairs, Fail> {
+/// A map of these keys, with the numbers from 1 on.
+fn numbered(alloc: Global, keys: &[&str]) -> Result<IndexMap<Text, Yaml>, Fail> {
     let mut pairs = IndexMap::new(alloc);
     let mut number = 0i64;
     for key in keys {
         number = number.saturating_add(1);
         pairs.insert(Text::copy_of(alloc, key)?, Yaml::Integer(number))?;
     }
+    Ok(pairs)
+}
+
+/// Pairs of these keys, with the numbers from 1 on.
+fn pairs(alloc: Global, keys: &[&str]) -> Result<YamlPairs, Fail> {
+    let pairs = numbered(alloc, keys)?;
     Ok(YamlPairs::new(alloc, pairs)?)
+}
+
+/// A list of pairs and of nothing.
+fn list(alloc: Global, pairs: YamlPairs) -> Result<YamlList, Fail> {
+    Ok(YamlList::new(vec![in alloc; Yaml::Hash(pairs), Yaml::Null]?))
+}
+
+/// A count and a list, as `Debug` prints it.
+fn list_text(alloc: Global, count: usize, list: &YamlList) -> Result<String, Fail> {
+    let items = list.as_slice();
+    Ok(format!(in alloc; "{count} {items:?}")?)
 }
 
 /// How many pairs these keys make, and a list of the pairs and of nothing, as `Debug` prints it.
 fn listed(alloc: Global, keys: &[&str]) -> Result<String, Fail> {
     let pairs = pairs(alloc, keys)?;
     let count = pairs.as_slice().len();
-    let list = YamlList::new(vec![in alloc; Yaml::Hash(pairs), Yaml::Null]?);
-    let items = list.as_slice();
-    Ok(format!(in alloc; "{count} {items:?}")?)
+    let list = list(alloc, pairs)?;
+    list_text(alloc, count, &list)
 }
 
 #[test]
 fn a_repeated_key_keeps_its_place(rt: HostRuntime) -> Result<(), Fail> {
-    assert_eq!(rt;
-        listed(rt.alloc(), ["b", "a", "b"].as_slice())?.as_str(),
-        REPEATED
-    );
-    Ok(())
+    is_text(&listed(rt.alloc(), &["b", "a", "b"])?, REPEATED)
 }
 
 /// The pairs in which `b` came twice, first with 1 and then with 3, and `a` with 2 between them.
@@ -309,7 +349,7 @@ Ok((StreamEnd, Marker { line: 3, col: 0, index: 11 }));\
 Ok((StreamEnd, Marker { line: 3, col: 0, index: 11 }));";
 
 /// Texts, and the marks of their events.
-const MARKED: [(&str, &str); 3] = [
+const MARKED: &[(&str, &str)] = &[
     (
         "é: |\r\n é\r\nb:\r\n- c",
         "1:0:0 1:0:0 1:0:0 1:0:0 1:3:3 3:0:10 4:0:14 4:2:16 4:3:17 4:3:17 4:3:17 4:3:17 ",
@@ -325,7 +365,7 @@ const MARKED: [(&str, &str); 3] = [
 ];
 
 /// Texts and what they stand for.
-const VALUES: [(&str, Resolved); 40] = [
+const VALUES: &[(&str, Resolved)] = &[
     ("", Resolved::Text),
     ("~", Resolved::Null),
     ("null", Resolved::Null),
@@ -375,7 +415,7 @@ const VALUES: [(&str, Resolved); 40] = [
 ];
 
 /// Examples of chapters 2, 6, 7 and 8 of YAML 1.2.2 that are carried, and the events of their nodes.
-const EXAMPLES: [(&str, &str); 35] = [
+const EXAMPLES: &[(&str, &str)] = &[
     // Example 2.1
     (
         "- Mark McGwire\n- Sammy Sosa\n- Ken Griffey\n",
@@ -539,7 +579,7 @@ const EXAMPLES: [(&str, &str); 35] = [
 ];
 
 /// A refused example for each form that is not carried, with the error's kind, line and column.
-const REFUSED: [(&str, &str); 26] = [
+const REFUSED: &[(&str, &str)] = &[
     // Two documents (2.7)
     (
         "---\n- Mark McGwire\n\n# Team ranking\n---\n- Chicago Cubs\n",
@@ -616,7 +656,7 @@ const REFUSED: [(&str, &str); 26] = [
 ];
 
 /// Doubtful corners of white space and comments, with the events or the refusal of each text.
-const WHITE_SPACE: [(&str, &str); 21] = [
+const WHITE_SPACE: &[(&str, &str)] = &[
     ("# \u{1}", "!Form 1:2"),
     ("a # b\u{1}", ":a !Form 1:5"),
     ("a\n# b\u{1}\n", ":a !Form 2:3"),
@@ -641,7 +681,7 @@ const WHITE_SPACE: [(&str, &str); 21] = [
 ];
 
 /// Doubtful corners of scalars, with the events or the refusal of each text.
-const SCALARS: [(&str, &str); 32] = [
+const SCALARS: &[(&str, &str)] = &[
     ("|-\t\nx", "|x"),
     (">-\t\nx", ">x"),
     ("|#c", "!Form 1:1"),
@@ -677,7 +717,7 @@ const SCALARS: [(&str, &str); 32] = [
 ];
 
 /// Doubtful corners of flows, keys and documents, with the events or the refusal of each text.
-const STRUCTURE: [(&str, &str); 44] = [
+const STRUCTURE: &[(&str, &str)] = &[
     ("a # c\n b", ":a !Form 2:1"),
     ("[a # c\n b]", "[ :a !Form 2:1"),
     ("a: b\n  c: d", "{ :a :b !NotCarried 2:2"),

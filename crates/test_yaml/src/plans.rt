@@ -3,7 +3,9 @@
 use compose_config::{Config, Dependency, Instantiation, InstantiationArg};
 use std::alloc::Global;
 use std::test::Fail;
+use test_check::{holds, is_row, is_text};
 use warg_values::Text;
+use yaml_read::DeError;
 
 /// A plan with each form of dependency and argument.
 const PLAN: &str = "\
@@ -49,13 +51,15 @@ instantiations:
       a: {instance: c}
 ";
 
-/// The configuration of a text, or a copy of it.
-fn config_of(alloc: Global, text: &str, copied: bool) -> Result<Config, Fail> {
-    let config = Config::from_text(alloc, text)?;
-    if copied {
-        return Ok(config.try_clone(alloc)?);
-    }
-    Ok(config)
+/// The configuration of a text.
+fn config_of(alloc: Global, text: &str) -> Result<Config, Fail> {
+    Ok(Config::from_text(alloc, text)?)
+}
+
+/// A copy of the configuration of a text.
+fn copy_of(alloc: Global, text: &str) -> Result<Config, Fail> {
+    let config = config_of(alloc, text)?;
+    Ok(config.try_clone(alloc)?)
 }
 
 /// What is looked for in a configuration.
@@ -86,10 +90,15 @@ fn path(alloc: Global, config: &Config, name: &Text) -> Result<String, Fail> {
     Ok(String::from_str(alloc, found.path.as_str())?)
 }
 
+/// The instance `root`.
+fn root(alloc: Global, config: &Config) -> Result<&Instantiation, Fail> {
+    let root = Text::copy_of(alloc, "root")?;
+    Ok(config.instantiations.get(&root).ok_or("no root")?)
+}
+
 /// An argument of the instance `root`.
 fn argument(alloc: Global, config: &Config, name: &Text) -> Result<String, Fail> {
-    let root = Text::copy_of(alloc, "root")?;
-    let root = config.instantiations.get(&root).ok_or("no root")?;
+    let root = root(alloc, config)?;
     let argument = root.arguments.get(name).ok_or("no argument")?;
     let export = match &argument.export {
         Some(export) => export.as_str(),
@@ -110,100 +119,93 @@ fn shown(alloc: Global, config: &Config, part: Part, name: &str) -> Result<Strin
     }
 }
 
-/// The name of the first row in which something else is found.
-fn first_wrong<'t>(
-    alloc: Global,
-    plan: &str,
-    copied: bool,
-    table: &'t [(Part, &str, &str)],
-) -> Result<Option<&'t str>, Fail> {
-    let config = config_of(alloc, plan, copied)?;
+/// Fails at the first part that is something else.
+fn has_parts(alloc: Global, config: &Config, table: &[(Part, &str, &str)]) -> Result<(), Fail> {
     for (part, name, want) in table {
-        if shown(alloc, &config, *part, name)?.as_str() != *want {
-            return Ok(Some(*name));
-        }
+        is_row(name, &shown(alloc, config, *part, name)?, want)?;
     }
-    Ok(None)
+    Ok(())
+}
+
+/// Fails at the first part of a text's configuration that is something else.
+fn are_parts(alloc: Global, plan: &str, table: &[(Part, &str, &str)]) -> Result<(), Fail> {
+    let config = config_of(alloc, plan)?;
+    has_parts(alloc, &config, table)
 }
 
 #[test]
 fn plans_have_their_parts(rt: HostRuntime) -> Result<(), Fail> {
-    let alloc = rt.alloc();
-    assert_eq!(rt; first_wrong(alloc, PLAN, false, PARTS.as_slice())?, None);
-    assert_eq!(rt;
-        first_wrong(alloc, EXAMPLE, false, EXAMPLE_PARTS.as_slice())?,
-        None
-    );
-    assert_eq!(rt;
-        first_wrong(alloc, REPEATED, false, REPEATED_PARTS.as_slice())?,
-        None
-    );
-    Ok(())
+    are_parts(rt.alloc(), PLAN, PARTS)?;
+    are_parts(rt.alloc(), EXAMPLE, EXAMPLE_PARTS)?;
+    are_parts(rt.alloc(), REPEATED, REPEATED_PARTS)
+}
+
+/// Fails at the first part of a copy of a text's configuration that is something else.
+fn are_copied_parts(alloc: Global, plan: &str, table: &[(Part, &str, &str)]) -> Result<(), Fail> {
+    let config = copy_of(alloc, plan)?;
+    has_parts(alloc, &config, table)
 }
 
 #[test]
 fn copies_of_plans_have_the_same_parts(rt: HostRuntime) -> Result<(), Fail> {
-    let alloc = rt.alloc();
-    assert_eq!(rt; first_wrong(alloc, PLAN, true, PARTS.as_slice())?, None);
-    assert_eq!(rt;
-        first_wrong(alloc, EXAMPLE, true, EXAMPLE_PARTS.as_slice())?,
-        None
-    );
-    assert_eq!(rt;
-        first_wrong(alloc, REPEATED, true, REPEATED_PARTS.as_slice())?,
-        None
-    );
-    Ok(())
+    are_copied_parts(rt.alloc(), PLAN, PARTS)?;
+    are_copied_parts(rt.alloc(), EXAMPLE, EXAMPLE_PARTS)?;
+    are_copied_parts(rt.alloc(), REPEATED, REPEATED_PARTS)
 }
 
 /// Why a text is refused, as `Debug` prints it.
-fn refusal(alloc: Global, text: &str) -> Result<String, Fail> {
-    let error = Config::from_text(alloc, text).err().ok_or("read")?;
-    Ok(format!(in alloc; "{error:?}")?)
+fn refusal(alloc: Global, answer: &Result<Config, DeError>) -> Result<String, Fail> {
+    match answer {
+        Ok(_) => Ok(String::from_str(alloc, "read")?),
+        Err(error) => Ok(format!(in alloc; "{error:?}")?),
+    }
 }
 
-/// The first text that is refused otherwise.
-fn first_not_refused<'t>(
-    alloc: Global,
-    table: &'t [(&str, &str)],
-) -> Result<Option<&'t str>, Fail> {
+/// Why a text is refused, as `Debug` prints it. It holds the answer alone, which is dropped here, since each way out of
+/// a function that holds an error is proved for each kind of error.
+fn refused(alloc: Global, text: &str) -> Result<String, Fail> {
+    refusal(alloc, &Config::from_text(alloc, text))
+}
+
+/// Fails at the first text that is refused otherwise.
+fn are_refused(alloc: Global, table: &[(&str, &str)]) -> Result<(), Fail> {
     for (text, want) in table {
-        if refusal(alloc, text)?.as_str() != *want {
-            return Ok(Some(*text));
-        }
+        is_row(text, &refused(alloc, text)?, want)?;
     }
-    Ok(None)
+    Ok(())
 }
 
 #[test]
 fn what_is_no_plan_is_refused(rt: HostRuntime) -> Result<(), Fail> {
-    assert_eq!(rt; first_not_refused(rt.alloc(), REFUSED.as_slice())?, None);
-    Ok(())
+    are_refused(rt.alloc(), REFUSED)
 }
 
-/// The parts of a configuration that are made by hand: a path, an instance and how many arguments.
-fn made(alloc: Global) -> Result<(Text, Text, usize), Fail> {
-    let dependency = Dependency::new(Text::copy_of(alloc, "a.wasm")?);
-    let argument = InstantiationArg::new(Text::copy_of(alloc, "b")?, None);
-    let instantiation = Instantiation::new(alloc);
-    Ok((
-        dependency.path,
-        argument.instance,
-        instantiation.arguments.len(),
-    ))
+/// Fails where a dependency is not made of a path.
+fn is_dependency(alloc: Global, path: &str) -> Result<(), Fail> {
+    let dependency = Dependency::new(Text::copy_of(alloc, path)?);
+    is_text(dependency.path.as_str(), path)
+}
+
+/// Fails where an argument is not made of an instance.
+fn is_argument(alloc: Global, instance: &str) -> Result<(), Fail> {
+    let argument = InstantiationArg::new(Text::copy_of(alloc, instance)?, None);
+    is_text(argument.instance.as_str(), instance)
+}
+
+/// How many arguments a new instance has.
+fn new_arguments(alloc: Global) -> usize {
+    Instantiation::new(alloc).arguments.len()
 }
 
 #[test]
 fn parts_are_made(rt: HostRuntime) -> Result<(), Fail> {
-    let (path, instance, arguments) = made(rt.alloc())?;
-    assert_eq!(rt; path.as_str(), "a.wasm");
-    assert_eq!(rt; instance.as_str(), "b");
-    assert_eq!(rt; arguments, 0);
-    Ok(())
+    is_dependency(rt.alloc(), "a.wasm")?;
+    is_argument(rt.alloc(), "b")?;
+    holds(new_arguments(rt.alloc()) == 0, "there are no arguments")
 }
 
 /// The parts of a plan with each form of dependency and argument.
-const PARTS: [(Part, &str, &str); 7] = [
+const PARTS: &[(Part, &str, &str)] = &[
     (Part::Counts, "", "1 2 2 false"),
     (Part::DependencyName, "root", "frontend"),
     (Part::DependencyName, "time", "time"),
@@ -214,7 +216,7 @@ const PARTS: [(Part, &str, &str); 7] = [
 ];
 
 /// The parts of the example.
-const EXAMPLE_PARTS: [(Part, &str, &str); 4] = [
+const EXAMPLE_PARTS: &[(Part, &str, &str)] = &[
     (Part::Counts, "", "0 0 2 false"),
     (Part::DependencyName, "root", "demo:app"),
     (Part::DependencyName, "log", "demo:log"),
@@ -222,13 +224,13 @@ const EXAMPLE_PARTS: [(Part, &str, &str); 4] = [
 ];
 
 /// The parts of a plan in which an argument stands twice: the last value counts.
-const REPEATED_PARTS: [(Part, &str, &str); 2] = [
+const REPEATED_PARTS: &[(Part, &str, &str)] = &[
     (Part::Counts, "", "0 0 1 false"),
     (Part::Argument, "a", "c/"),
 ];
 
 /// Texts that are no plan, and why.
-const REFUSED: [(&str, &str); 5] = [
+const REFUSED: &[(&str, &str)] = &[
     (
         "instantiations:\n  root:\n    arguments:\n      a: 12\n",
         "UnexpectedScalar(Text { text: \"a text or a map\" }, Text { text: \"12\" }, \

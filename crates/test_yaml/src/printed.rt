@@ -5,30 +5,49 @@ use serde_yaml2::Errors;
 use std::alloc::Global;
 use std::fmt::Write;
 use std::test::Fail;
+use test_check::{is_row, is_text};
 use warg_values::Text;
 use yaml_read::{DeError, YamlNodeWrapper, from_str};
-use yaml_small::{Event, Marker, Parser};
+use yaml_small::{Event, Marker, Parser, ScanError};
 
 /// A text of its own.
 fn text_of(alloc: Global, text: &str) -> Result<Text, Fail> {
     Ok(Text::copy_of(alloc, text)?)
 }
 
-/// A place as a text.
-fn place(alloc: Global, line: u64, col: u64) -> Result<String, Fail> {
+/// Fails where a place is another text.
+fn is_place(alloc: Global, line: u64, col: u64, want: &str) -> Result<(), Fail> {
     let marker = Marker {
         line,
         col,
         index: 0,
     };
-    Ok(format!(in alloc; "{marker}")?)
+    is_text(&format!(in alloc; "{marker}")?, want)
 }
 
 #[test]
 fn places_count_lines_and_columns_from_one(rt: HostRuntime) -> Result<(), Fail> {
-    assert_eq!(rt; place(rt.alloc(), 3, 4)?.as_str(), "line 3, column 5");
-    assert_eq!(rt; place(rt.alloc(), 1, 0)?.as_str(), "line 1, column 1");
-    Ok(())
+    is_place(rt.alloc(), 3, 4, "line 3, column 5")?;
+    is_place(rt.alloc(), 1, 0, "line 1, column 1")
+}
+
+/// Adds what the parser told, an event in a line. Whether more may come.
+fn push_told(out: &mut String, told: &Result<(Event, Marker), ScanError>) -> Result<bool, Fail> {
+    match told {
+        Ok((event, _)) => {
+            write!(out, "{event}\n")?;
+            Ok(*event != Event::StreamEnd)
+        }
+        Err(error) => {
+            write!(out, "{error}")?;
+            Ok(false)
+        }
+    }
+}
+
+/// Adds what the parser tells next. Whether more may come.
+fn push_next(alloc: Global, out: &mut String, parser: &mut Parser<'_>) -> Result<bool, Fail> {
+    push_told(out, &parser.next_token(alloc))
 }
 
 /// What a text emits, each event in a line, or the error at last.
@@ -36,17 +55,8 @@ fn told(alloc: Global, text: &str) -> Result<String, Fail> {
     let mut out = String::new(alloc);
     let mut parser = Parser::new(alloc, text);
     for _ in 0..u64::MAX {
-        match parser.next_token(alloc) {
-            Ok((event, _)) => {
-                write!(out, "{event}\n")?;
-                if event == Event::StreamEnd {
-                    break;
-                }
-            }
-            Err(error) => {
-                write!(out, "{error}")?;
-                break;
-            }
+        if !push_next(alloc, &mut out, &mut parser)? {
+            break;
         }
     }
     Ok(out)
@@ -54,30 +64,23 @@ fn told(alloc: Global, text: &str) -> Result<String, Fail> {
 
 #[test]
 fn events_are_named(rt: HostRuntime) -> Result<(), Fail> {
-    assert_eq!(rt; told(rt.alloc(), "- {a b: []}")?.as_str(), NAMED);
-    Ok(())
+    is_text(&told(rt.alloc(), "- {a b: []}")?, NAMED)
 }
 
-/// The first text whose last line is not this error.
-fn first_otherwise_refused<'t>(
-    alloc: Global,
-    table: &'t [(&str, &str)],
-) -> Result<Option<&'t str>, Fail> {
+/// Fails at the first text whose last line is not this error.
+fn are_refused(alloc: Global, table: &[(&str, &str)]) -> Result<(), Fail> {
     for (text, want) in table {
-        if !told(alloc, text)?.as_str().ends_with(*want) {
-            return Ok(Some(*text));
+        let found = told(alloc, text)?;
+        if !found.as_str().ends_with(*want) {
+            return Err(Fail::new(format_args!("{text:?}: {found}")));
         }
     }
-    Ok(None)
+    Ok(())
 }
 
 #[test]
 fn errors_of_texts_say_where_and_what_to_do(rt: HostRuntime) -> Result<(), Fail> {
-    assert_eq!(rt;
-        first_otherwise_refused(rt.alloc(), REFUSED.as_slice())?,
-        None
-    );
-    Ok(())
+    are_refused(rt.alloc(), REFUSED)
 }
 
 /// What a text is read as.
@@ -119,52 +122,53 @@ fn error_of(alloc: Global, kind: Kind, text: &str) -> Option<DeError> {
     }
 }
 
-/// Why a text is not read, as a text.
-fn read_error(alloc: Global, kind: Kind, text: &str) -> Result<String, Fail> {
-    let error = error_of(alloc, kind, text).ok_or("read")?;
-    Ok(format!(in alloc; "{error}")?)
+/// An error as a text.
+fn error_text(alloc: Global, error: &Option<DeError>) -> Result<String, Fail> {
+    match error {
+        Some(error) => Ok(format!(in alloc; "{error}")?),
+        None => Ok(String::from_str(alloc, "read")?),
+    }
 }
 
-/// The first text whose error prints otherwise.
-fn first_otherwise_read<'t>(
-    alloc: Global,
-    table: &'t [(Kind, &str, &str)],
-) -> Result<Option<&'t str>, Fail> {
+/// Why a text is not read, as a text. It holds the error alone, which is dropped here, since each way out of a function
+/// that holds an error is proved for each kind of error.
+fn read_error(alloc: Global, kind: Kind, text: &str) -> Result<String, Fail> {
+    error_text(alloc, &error_of(alloc, kind, text))
+}
+
+/// Fails at the first text whose error prints otherwise.
+fn are_not_read(alloc: Global, table: &[(Kind, &str, &str)]) -> Result<(), Fail> {
     for (kind, text, want) in table {
-        if read_error(alloc, *kind, text)?.as_str() != *want {
-            return Ok(Some(*text));
-        }
+        is_row(text, &read_error(alloc, *kind, text)?, want)?;
     }
-    Ok(None)
+    Ok(())
 }
 
 #[test]
 fn errors_of_reads_say_where_and_what_to_do(rt: HostRuntime) -> Result<(), Fail> {
-    assert_eq!(rt; first_otherwise_read(rt.alloc(), READ.as_slice())?, None);
-    Ok(())
+    are_not_read(rt.alloc(), READ)
 }
 
-/// An error of a write as a text: that of depth, or that of bytes.
-fn write_error(alloc: Global, deep: bool) -> Result<String, Fail> {
-    let error = if deep {
-        Errors::FormArgsError
-    } else {
-        Errors::UnsupportedSerializationError(text_of(alloc, "bytes")?)
-    };
-    Ok(format!(in alloc; "{error}")?)
+/// An error of a write: that of depth, or that of bytes.
+fn error_of_write(alloc: Global, deep: bool) -> Result<Errors, Fail> {
+    if deep {
+        return Ok(Errors::FormArgsError);
+    }
+    Ok(Errors::UnsupportedSerializationError(text_of(alloc, "bytes")?))
+}
+
+/// Fails where an error of a write is another text.
+fn is_write_error(alloc: Global, deep: bool, want: &str) -> Result<(), Fail> {
+    let error = error_of_write(alloc, deep)?;
+    is_text(&format!(in alloc; "{error}")?, want)
 }
 
 #[test]
 fn errors_of_writes_say_what_to_do(rt: HostRuntime) -> Result<(), Fail> {
-    assert_eq!(rt;
-        write_error(rt.alloc(), true)?.as_str(),
-        "lists and maps are nested more than 64 deep; nest them less deep"
-    );
-    assert_eq!(rt;
-        write_error(rt.alloc(), false)?.as_str(),
-        "bytes are not supported; write them as a text"
-    );
-    Ok(())
+    let deep = "lists and maps are nested more than 64 deep; nest them less deep";
+    is_write_error(rt.alloc(), true, deep)?;
+    let bytes = "bytes are not supported; write them as a text";
+    is_write_error(rt.alloc(), false, bytes)
 }
 
 /// The events of a list of a map, whose one value is an empty list, each as it is printed.
@@ -183,7 +187,7 @@ the end of the text
 ";
 
 /// Texts that are no document, and their errors. The last is one of 65 opening brackets.
-const REFUSED: [(&str, &str); 3] = [
+const REFUSED: &[(&str, &str)] = &[
     (
         "- a\n- ]",
         "the text is not well-formed YAML at line 2, column 3; correct it there",
@@ -199,7 +203,7 @@ const REFUSED: [(&str, &str); 3] = [
 ];
 
 /// Texts that are not read, and their errors.
-const READ: [(Kind, &str, &str); 10] = [
+const READ: &[(Kind, &str, &str)] = &[
     (
         Kind::Pair,
         "[true,\n yes]",

@@ -2,6 +2,7 @@
 
 use std::alloc::Global;
 use std::test::Fail;
+use test_check::is_row;
 use yaml_scan::{Head, QuoteError, Quoted, block_scalar, double_quoted, single_quoted};
 
 /// The text of a quoted scalar, a bar, and what stands behind it.
@@ -28,23 +29,17 @@ fn quoted(alloc: Global, double: bool, line: &str) -> Result<String, Fail> {
     }
 }
 
-/// The line of the first row in which something else is found.
-fn first_wrong<'t>(
-    alloc: Global,
-    table: &'t [(bool, &str, &str)],
-) -> Result<Option<&'t str>, Fail> {
+/// Fails at the first line in which something else is found.
+fn are_found(alloc: Global, table: &[(bool, &str, &str)]) -> Result<(), Fail> {
     for (double, line, want) in table {
-        if quoted(alloc, *double, line)?.as_str() != *want {
-            return Ok(Some(*line));
-        }
+        is_row(line, &quoted(alloc, *double, line)?, want)?;
     }
-    Ok(None)
+    Ok(())
 }
 
 #[test]
 fn quoted_scalars_are_found(rt: HostRuntime) -> Result<(), Fail> {
-    assert_eq!(rt; first_wrong(rt.alloc(), QUOTED.as_slice())?, None);
-    Ok(())
+    are_found(rt.alloc(), QUOTED)
 }
 
 /// The text of a block of two spaces' indentation.
@@ -55,27 +50,21 @@ fn block(alloc: Global, head: Head, lines: &str) -> Result<String, Fail> {
     }
 }
 
-/// The lines of the first row that make another text.
-fn first_wrong_block<'t>(
-    alloc: Global,
-    table: &'t [(Head, &str, &str)],
-) -> Result<Option<&'t str>, Fail> {
+/// Fails at the first lines that make another text.
+fn are_blocks(alloc: Global, table: &[(Head, &str, &str)]) -> Result<(), Fail> {
     for (head, lines, want) in table {
-        if block(alloc, *head, lines)?.as_str() != *want {
-            return Ok(Some(*lines));
-        }
+        is_row(lines, &block(alloc, *head, lines)?, want)?;
     }
-    Ok(None)
+    Ok(())
 }
 
 #[test]
 fn blocks_are_put_together(rt: HostRuntime) -> Result<(), Fail> {
-    assert_eq!(rt; first_wrong_block(rt.alloc(), BLOCKS.as_slice())?, None);
-    Ok(())
+    are_blocks(rt.alloc(), BLOCKS)
 }
 
 /// Whether the quotes are double, a line behind a quote, and what is found in it.
-const QUOTED: [(bool, &str, &str); 8] = [
+const QUOTED: &[(bool, &str, &str)] = &[
     (false, "it''s' # x", "it's| # x"),
     (false, "a", "open"),
     (false, "a\u{1}b'", "bad 3"),
@@ -87,7 +76,7 @@ const QUOTED: [(bool, &str, &str); 8] = [
 ];
 
 /// A head, lines, and their text.
-const BLOCKS: [(Head, &str, &str); 4] = [
+const BLOCKS: &[(Head, &str, &str)] = &[
     (
         Head {
             folded: false,

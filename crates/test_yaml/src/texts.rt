@@ -2,6 +2,7 @@
 
 use std::alloc::Global;
 use std::test::Fail;
+use test_check::{holds, is_row};
 use yaml_small::{Event, Parser, Style};
 use yaml_text::{push_indentation, push_key, push_text};
 
@@ -27,41 +28,22 @@ fn written(alloc: Global, form: Form, text: &str) -> Result<String, Fail> {
     Ok(out)
 }
 
-/// The text of the first row that is written otherwise.
-fn first_wrong<'t>(
-    alloc: Global,
-    table: &'t [(Form, &str, &str)],
-) -> Result<Option<&'t str>, Fail> {
+/// Fails at the first text that is written otherwise.
+fn are_written(alloc: Global, table: &[(Form, &str, &str)]) -> Result<(), Fail> {
     for (form, text, want) in table {
-        if written(alloc, *form, text)?.as_str() != *want {
-            return Ok(Some(*text));
-        }
+        is_row(text, &written(alloc, *form, text)?, want)?;
     }
-    Ok(None)
+    Ok(())
 }
 
 #[test]
 fn texts_are_quoted(rt: HostRuntime) -> Result<(), Fail> {
-    assert_eq!(rt; first_wrong(rt.alloc(), QUOTED.as_slice())?, None);
-    Ok(())
+    are_written(rt.alloc(), QUOTED)
 }
 
 #[test]
 fn texts_of_lines_are_blocks_where_a_block_can_hold_them(rt: HostRuntime) -> Result<(), Fail> {
-    assert_eq!(rt; first_wrong(rt.alloc(), LINES.as_slice())?, None);
-    Ok(())
-}
-
-/// The one scalar of a document.
-fn scalar(alloc: Global, document: &str) -> Result<Event, Fail> {
-    let mut parser = Parser::new(alloc, document);
-    parser.next_token(alloc)?;
-    parser.next_token(alloc)?;
-    let (event, _) = parser.next_token(alloc)?;
-    match parser.next_token(alloc)? {
-        (Event::DocumentEnd, _) => Ok(event),
-        _ => Err(Fail::from("more than one scalar")),
-    }
+    are_written(rt.alloc(), LINES)
 }
 
 /// Whether an event is a scalar of this text and style.
@@ -72,25 +54,54 @@ fn is_scalar(event: &Event, text: &str, style: Style) -> bool {
     }
 }
 
-/// The first text that comes back otherwise.
-fn first_changed<'t>(alloc: Global, table: &'t [(&str, Style)]) -> Result<Option<&'t str>, Fail> {
+/// Passes an event.
+fn pass(alloc: Global, parser: &mut Parser<'_>) -> Result<(), Fail> {
+    parser.next_token(alloc)?;
+    Ok(())
+}
+
+/// Whether the next event is a scalar of this text and style.
+fn has_scalar(
+    alloc: Global,
+    parser: &mut Parser<'_>,
+    text: &str,
+    style: Style,
+) -> Result<bool, Fail> {
+    let (event, _) = parser.next_token(alloc)?;
+    Ok(is_scalar(&event, text, style))
+}
+
+/// Whether the document ends.
+fn is_end(alloc: Global, parser: &mut Parser<'_>) -> Result<bool, Fail> {
+    let (event, _) = parser.next_token(alloc)?;
+    Ok(event == Event::DocumentEnd)
+}
+
+/// Fails where a document is something else than one scalar of this text and style.
+fn is_document(alloc: Global, document: &str, text: &str, style: Style) -> Result<(), Fail> {
+    let mut parser = Parser::new(alloc, document);
+    pass(alloc, &mut parser)?;
+    pass(alloc, &mut parser)?;
+    holds(has_scalar(alloc, &mut parser, text, style)?, document)?;
+    holds(is_end(alloc, &mut parser)?, document)
+}
+
+/// Fails at the first text that comes back otherwise.
+fn come_back(alloc: Global, table: &[(&str, Style)]) -> Result<(), Fail> {
     for (text, style) in table {
         let document = written(alloc, Form::Value(0), text)?;
-        if !is_scalar(&scalar(alloc, document.as_str())?, text, *style) {
-            return Ok(Some(*text));
-        }
+        is_document(alloc, &document, text, *style)?;
     }
-    Ok(None)
+    Ok(())
 }
 
 #[test]
 fn what_is_written_reads_back(rt: HostRuntime) -> Result<(), Fail> {
-    assert_eq!(rt; first_changed(rt.alloc(), RETURNED.as_slice())?, None);
-    Ok(())
+    come_back(rt.alloc(), RETURNED)
 }
 
 /// Texts in single quotes, which are doubled, and in double quotes, in which some characters have names.
-const QUOTED: [(Form, &str, &str); 10] = [
+const QUOTED: &[(Form, &str, &str)] = &[
     (Form::Value(0), "Hello", "'Hello'"),
     (Form::Value(0), "Hello 'world", "'Hello ''world'"),
     (Form::Value(3), "", "''"),
@@ -113,7 +124,7 @@ const QUOTED: [(Form, &str, &str); 10] = [
 
 /// Texts of lines: blocks, keys, which are never blocks, and lines that no block can hold. An indentation is one
 /// space more than its level, but for that of level 0.
-const LINES: [(Form, &str, &str); 10] = [
+const LINES: &[(Form, &str, &str)] = &[
     (Form::Value(0), "First\nSecond", "|-\n  First\n  Second"),
     (
         Form::Value(2),
@@ -131,7 +142,7 @@ const LINES: [(Form, &str, &str); 10] = [
 ];
 
 /// Texts, and the styles in which they are written.
-const RETURNED: [(&str, Style); 5] = [
+const RETURNED: &[(&str, Style)] = &[
     ("", Style::SingleQuoted),
     ("it's # no comment: here", Style::SingleQuoted),
     ("\"\\\u{0}\t\u{9f}\u{2028}\u{feff}é", Style::DoubleQuoted),

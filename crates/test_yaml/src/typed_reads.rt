@@ -4,6 +4,7 @@ use indexmap::IndexMap;
 use std::alloc::Global;
 use std::fmt::Debug;
 use std::test::Fail;
+use test_check::{holds, is_row, is_text};
 use warg_values::Text;
 use yaml_read::{DeError, ReadYaml, YamlDeserializer, YamlNodeWrapper, from_str};
 use yaml_small::Yaml;
@@ -55,12 +56,18 @@ enum Kind {
     Any,
 }
 
-/// What a text is read as, or why it is not read.
-fn shown<T: ReadYaml + Debug>(alloc: Global, text: &str) -> Result<String, Fail> {
-    match from_str::<T>(alloc, text) {
+/// What an answer is, as `Debug` prints it.
+fn debug_text<T: Debug>(alloc: Global, answer: &Result<T, DeError>) -> Result<String, Fail> {
+    match answer {
         Ok(value) => Ok(format!(in alloc; "{value:?}")?),
         Err(error) => Ok(format!(in alloc; "{error:?}")?),
     }
+}
+
+/// What a text is read as, or why it is not read. It holds the answer alone, which is dropped here, since each way out
+/// of a function that holds an error is proved for each kind of error.
+fn shown<T: ReadYaml + Debug>(alloc: Global, text: &str) -> Result<String, Fail> {
+    debug_text(alloc, &from_str::<T>(alloc, text))
 }
 
 /// The same of a number.
@@ -97,41 +104,32 @@ fn shown_as(alloc: Global, kind: Kind, text: &str) -> Result<String, Fail> {
     }
 }
 
-/// The text of the first row that is read as something else.
-fn first_wrong<'t>(
-    alloc: Global,
-    table: &'t [(Kind, &str, &str)],
-) -> Result<Option<&'t str>, Fail> {
+/// Fails at the first text that is read as something else.
+fn are_read(alloc: Global, table: &[(Kind, &str, &str)]) -> Result<(), Fail> {
     for (kind, text, want) in table {
-        if shown_as(alloc, *kind, text)?.as_str() != *want {
-            return Ok(Some(*text));
-        }
+        is_row(text, &shown_as(alloc, *kind, text)?, want)?;
     }
-    Ok(None)
+    Ok(())
 }
 
 #[test]
 fn numbers_are_read_up_to_their_limits(rt: HostRuntime) -> Result<(), Fail> {
-    assert_eq!(rt; first_wrong(rt.alloc(), NUMBERS.as_slice())?, None);
-    Ok(())
+    are_read(rt.alloc(), NUMBERS)
 }
 
 #[test]
 fn scalars_are_read(rt: HostRuntime) -> Result<(), Fail> {
-    assert_eq!(rt; first_wrong(rt.alloc(), SCALARS.as_slice())?, None);
-    Ok(())
+    are_read(rt.alloc(), SCALARS)
 }
 
 #[test]
 fn lists_and_maps_are_read(rt: HostRuntime) -> Result<(), Fail> {
-    assert_eq!(rt; first_wrong(rt.alloc(), COLLECTIONS.as_slice())?, None);
-    Ok(())
+    are_read(rt.alloc(), COLLECTIONS)
 }
 
 #[test]
 fn errors_say_what_stands_where(rt: HostRuntime) -> Result<(), Fail> {
-    assert_eq!(rt; first_wrong(rt.alloc(), ERRORS.as_slice())?, None);
-    Ok(())
+    are_read(rt.alloc(), ERRORS)
 }
 
 /// The value of any kind in a text.
@@ -139,19 +137,40 @@ fn value(alloc: Global, text: &str) -> Result<Yaml, Fail> {
     Ok(from_str::<YamlNodeWrapper>(alloc, text)?.get())
 }
 
-#[test]
-fn a_value_of_any_kind_is_taken_out(rt: HostRuntime) -> Result<(), Fail> {
-    assert!(rt; value(rt.alloc(), "true")? == Yaml::Boolean(true));
-    Ok(())
+/// Fails where the value in a text is another one than the truth value `true`.
+fn is_true(alloc: Global, text: &str) -> Result<(), Fail> {
+    holds(
+        value(alloc, text)? == Yaml::Boolean(true),
+        "the value is true",
+    )
 }
 
-/// What `finish` answers to a list, and what lent values and the next event are then.
-fn refused_at_a_list(alloc: Global, text: &str) -> Result<String, Fail> {
-    let mut de = YamlDeserializer::from_str(alloc, text)?;
-    let finished = de.finish(alloc);
-    let lent = lends_nothing(&mut de);
-    let scalar = de.at_scalar(alloc)?;
-    Ok(format!(in alloc; "{finished:?} {lent} {scalar}")?)
+#[test]
+fn a_value_of_any_kind_is_taken_out(rt: HostRuntime) -> Result<(), Fail> {
+    is_true(rt.alloc(), "true")
+}
+
+/// What `finish` answered, as `Debug` prints it.
+fn answer_text(alloc: Global, answer: &Result<(), DeError>) -> Result<String, Fail> {
+    Ok(format!(in alloc; "{answer:?}")?)
+}
+
+/// What `finish` answers, as `Debug` prints it. It holds the answer alone, which is dropped here.
+fn finished(alloc: Global, de: &mut YamlDeserializer<'_>) -> Result<String, Fail> {
+    answer_text(alloc, &de.finish(alloc))
+}
+
+/// Whether the next event is a scalar.
+fn is_scalar(alloc: Global, de: &mut YamlDeserializer<'_>) -> Result<bool, Fail> {
+    Ok(de.at_scalar(alloc)?)
+}
+
+/// Fails where `finish` answers something else to a list, or lent values and the next event are otherwise then.
+fn is_refused(alloc: Global, de: &mut YamlDeserializer<'_>, want: &str) -> Result<(), Fail> {
+    let finished = finished(alloc, de)?;
+    let lent = lends_nothing(de);
+    let scalar = is_scalar(alloc, de)?;
+    is_text(&format!(in alloc; "{finished} {lent} {scalar}")?, want)
 }
 
 /// Whether a deserializer answers `Unsupported` wherever a lent value is asked for.
@@ -164,24 +183,30 @@ fn lends_nothing(de: &mut YamlDeserializer<'_>) -> bool {
 
 #[test]
 fn what_follows_the_value_is_no_end(rt: HostRuntime) -> Result<(), Fail> {
-    assert_eq!(rt;
-        refused_at_a_list(rt.alloc(), "# c\n- a\n")?.as_str(),
-        "Err(NotEnded(Marker { line: 2, col: 0, index: 4 })) true false"
-    );
-    Ok(())
+    let mut de = YamlDeserializer::from_str(rt.alloc(), "# c\n- a\n")?;
+    is_refused(
+        rt.alloc(),
+        &mut de,
+        "Err(NotEnded(Marker { line: 2, col: 0, index: 4 })) true false",
+    )
+}
+
+/// Passes over a value, and takes the end.
+fn pass_over(alloc: Global, de: &mut YamlDeserializer<'_>) -> Result<(), DeError> {
+    de.read_ignored(alloc)?;
+    de.finish(alloc)
 }
 
 #[test]
 fn a_value_is_passed_over(rt: HostRuntime) -> Result<(), Fail> {
-    let alloc = rt.alloc();
-    let mut de = YamlDeserializer::from_str(alloc, "a: [1.5, {b: c}]\nd: |\n  e\n")?;
-    de.read_ignored(alloc)?;
-    de.finish(alloc)?;
+    let text = "a: [1.5, {b: c}]\nd: |\n  e\n";
+    let mut de = YamlDeserializer::from_str(rt.alloc(), text)?;
+    pass_over(rt.alloc(), &mut de)?;
     Ok(())
 }
 
 /// Numbers at their limits and past them.
-const NUMBERS: [(Kind, &str, &str); 14] = [
+const NUMBERS: &[(Kind, &str, &str)] = &[
     (Kind::U8, "255", "255"),
     (Kind::U16, "65535", "65535"),
     (Kind::U32, "4294967295", "4294967295"),
@@ -212,7 +237,7 @@ Scalar(Text { text: \"12\" }, SingleQuoted), Marker { line: 1, col: 0, index: 0 
 ];
 
 /// Other scalars, in several styles.
-const SCALARS: [(Kind, &str, &str); 11] = [
+const SCALARS: &[(Kind, &str, &str)] = &[
     (Kind::Truth, "true\n", "true"),
     (Kind::Character, "x", "'x'"),
     (Kind::Text, "'12'", "Text { text: \"12\" }"),
@@ -246,7 +271,7 @@ Marker { line: 1, col: 0, index: 0 })",
 ];
 
 /// Lists, maps and values that may be missing. A map keeps the last value of a key at its first place.
-const COLLECTIONS: [(Kind, &str, &str); 8] = [
+const COLLECTIONS: &[(Kind, &str, &str)] = &[
     (Kind::Optional, "null", "None"),
     (Kind::Optional, "7", "Some(7)"),
     (Kind::Bytes, "- \n  1\n- \n  2\n- \n  3\n", "[1, 2, 3]"),
@@ -271,7 +296,7 @@ const COLLECTIONS: [(Kind, &str, &str); 8] = [
 ];
 
 /// Errors with their places, each of a text in which other characters stand in front.
-const ERRORS: [(Kind, &str, &str); 9] = [
+const ERRORS: &[(Kind, &str, &str)] = &[
     (
         Kind::Truths,
         "- true\n- é\n",

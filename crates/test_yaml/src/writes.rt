@@ -6,6 +6,7 @@ use serde_yaml2::{
 };
 use std::alloc::Global;
 use std::test::Fail;
+use test_check::{holds, is_row, is_text};
 use warg_values::Text;
 
 /// The type that a text is read as, and whose value is written.
@@ -27,10 +28,15 @@ enum Kind {
     Any,
 }
 
+/// What is written for a value.
+fn written<T: WriteYaml>(alloc: Global, value: &T) -> Result<String, Fail> {
+    Ok(to_string(alloc, value)?)
+}
+
 /// What is written for the value that a text is read as.
 fn rewritten<T: ReadYaml + WriteYaml>(alloc: Global, text: &str) -> Result<String, Fail> {
     let value = from_str::<T>(alloc, text)?;
-    Ok(to_string(alloc, &value)?)
+    written(alloc, &value)
 }
 
 /// The same of a kind.
@@ -46,24 +52,18 @@ fn rewritten_as(alloc: Global, kind: Kind, text: &str) -> Result<String, Fail> {
     }
 }
 
-/// The text of the first row whose value is written otherwise.
-fn first_wrong<'t>(
-    alloc: Global,
-    table: &'t [(Kind, &str, &str)],
-) -> Result<Option<&'t str>, Fail> {
+/// Fails at the first text whose value is written otherwise.
+fn are_written(alloc: Global, table: &[(Kind, &str, &str)]) -> Result<(), Fail> {
     for (kind, text, want) in table {
-        if rewritten_as(alloc, *kind, text)?.as_str() != *want {
-            return Ok(Some(*text));
-        }
+        is_row(text, &rewritten_as(alloc, *kind, text)?, want)?;
     }
-    Ok(None)
+    Ok(())
 }
 
 #[test]
 fn lists_maps_and_texts_are_written(rt: HostRuntime) -> Result<(), Fail> {
-    assert_eq!(rt; first_wrong(rt.alloc(), WRITTEN.as_slice())?, None);
-    assert_eq!(rt; to_string(rt.alloc(), &'-')?.as_str(), "'-'");
-    Ok(())
+    are_written(rt.alloc(), WRITTEN)?;
+    is_text(&written(rt.alloc(), &'-')?, "'-'")
 }
 
 /// A variant's name in front of a number, of nothing, or of an empty list.
@@ -77,47 +77,57 @@ enum Variant {
     Empty,
 }
 
-/// What is written for a variant behind a text.
-fn behind(alloc: Global, front: &str, variant: Variant) -> Result<String, Fail> {
-    let mut ser = YamlSerializer::new(String::from_str(alloc, front)?);
+/// Writes a variant.
+fn write_variant(ser: &mut YamlSerializer, variant: Variant) -> Result<(), Errors> {
     match variant {
-        Variant::Number => ser.write_newtype_variant("C", &7u8)?,
-        Variant::Unit => ser.write_unit_variant("A")?,
-        Variant::Empty => ser.write_empty_variant("B")?,
+        Variant::Number => ser.write_newtype_variant("C", &7u8),
+        Variant::Unit => ser.write_unit_variant("A"),
+        Variant::Empty => ser.write_empty_variant("B"),
     }
-    Ok(ser.into_string())
+}
+
+/// Fails where something else is written for a variant behind a text.
+fn is_behind(alloc: Global, front: &str, variant: Variant, want: &str) -> Result<(), Fail> {
+    let mut ser = YamlSerializer::new(String::from_str(alloc, front)?);
+    write_variant(&mut ser, variant)?;
+    is_text(&ser.into_string(), want)
 }
 
 #[test]
 fn variants_stand_behind_what_was_written(rt: HostRuntime) -> Result<(), Fail> {
     let alloc = rt.alloc();
-    assert_eq!(rt; behind(alloc, "", Variant::Empty)?.as_str(), "B: []");
-    assert_eq!(rt; behind(alloc, "", Variant::Unit)?.as_str(), "A: ~");
-    assert_eq!(rt;
-        behind(alloc, "# a variant\n", Variant::Number)?.as_str(),
-        "# a variant\nC:\n  7"
-    );
-    Ok(())
+    is_behind(alloc, "", Variant::Empty, "B: []")?;
+    is_behind(alloc, "", Variant::Unit, "A: ~")?;
+    is_behind(
+        alloc,
+        "# a variant\n",
+        Variant::Number,
+        "# a variant\nC:\n  7",
+    )
 }
 
-/// How bytes are refused, and what is written then.
-fn refused_bytes(alloc: Global) -> Result<(Option<Errors>, String), Fail> {
-    let mut ser = YamlSerializer::new(String::new(alloc));
-    let refused = ser.write_bytes(alloc, b"a").err();
-    Ok((refused, ser.into_string()))
+/// Whether an answer is that bytes are refused.
+fn are_bytes(answer: &Result<(), Errors>) -> bool {
+    match answer {
+        Err(Errors::UnsupportedSerializationError(found)) => found.as_str() == "bytes",
+        _ => false,
+    }
+}
+
+/// Whether bytes are refused.
+fn refuses_bytes(alloc: Global, ser: &mut YamlSerializer) -> bool {
+    are_bytes(&ser.write_bytes(alloc, b"a"))
 }
 
 #[test]
 fn bytes_are_refused_and_write_nothing(rt: HostRuntime) -> Result<(), Fail> {
-    let (refused, written) = refused_bytes(rt.alloc())?;
-    let bytes = Text::copy_of(rt.alloc(), "bytes")?;
-    assert_eq!(rt; refused, Some(Errors::UnsupportedSerializationError(bytes)));
-    assert_eq!(rt; written.as_str(), "");
-    Ok(())
+    let mut ser = YamlSerializer::new(String::new(rt.alloc()));
+    holds(refuses_bytes(rt.alloc(), &mut ser), "bytes are refused")?;
+    is_text(&ser.into_string(), "")
 }
 
 /// Texts, and what is written for the values that they are read as.
-const WRITTEN: [(Kind, &str, &str); 11] = [
+const WRITTEN: &[(Kind, &str, &str)] = &[
     (Kind::Bytes, "[1, 2, 3]", "- \n  1\n- \n  2\n- \n  3\n"),
     (Kind::Lists, "[[1]]", "- \n  - \n   1\n  \n"),
     (Kind::Triple, "[1, -2, ~]", "- \n  1\n- \n  -2\n- \n  ~\n"),
