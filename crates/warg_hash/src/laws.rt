@@ -1,10 +1,11 @@
 //! What is known of hash texts and of names. Each law is the contract of a function that does nothing; as lemmas they
-//! stand in `specs/HashLaws` and `specs/NameLaws`.
+//! stand in `specs/HashLaws`, `specs/NameLaws` and `specs/ByteLaws`.
 
 ghost use Rattle.std.specs.Prelude.{◌≡◌, ◌↔◌, ℕ, List, Some, length};
 ghost use Rattle.std.specs.Ordering.{nat_cmp};
 ghost use Rattle.std.specs.Cmp.Lexicographic.{slice_cmp};
 ghost use Rattle.std.specs.List.{before_first, after_first};
+ghost use Rattle.sha2.specs.Sha256.{sha256};
 ghost use Rattle.warg_hash.specs.Hash.{IsDigest, IsHashText, digest_of, hash_text};
 ghost use Rattle.warg_hash.specs.Name.{is_colon, IsNameOf};
 
@@ -30,4 +31,9 @@ pub fn hash_texts_are_ordered_as_digests()
 pub fn a_name_has_one_namespace()
     ensures { (text namespace name : List ℕ) → IsNameOf text namespace name
         → (namespace ≡ before_first is_colon text) × (name ≡ after_first is_colon text) }
+{}
+
+/// A SHA-256 is a digest: 32 bytes.
+pub fn a_sha256_is_a_digest()
+    ensures { (message : List ℕ) → IsDigest (sha256 message) }
 {}

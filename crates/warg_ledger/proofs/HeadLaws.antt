@@ -1,13 +1,12 @@
 -- Where the last records of an honest registry's logs stand in its log and in its map.
-use Rattle.std.proofs.Common.{◌≡◌, ◌+◌, ◌++◌, ◌∷◌, [], List, ℕ, zero, suc, Bool, true, false, Option, Some, None, refl, sym, ◌∙◌, ap, subst, map, get_or, arith}
+use Rattle.std.proofs.Common.{◌≡◌, ◌+◌, ◌∷◌, [], List, ℕ, zero, suc, Bool, true, false, Option, Some, None, refl, sym, ◌∙◌, ap, subst, map, arith}
 use Rattle.std.specs.Prelude.{Contains, slice_get, bytes_eq, cond, option_map}
 use Rattle.std.specs.List.{All, AllByRecursion}
-use Rattle.std.specs.Int.{w32, to_be_bytes, bytes_high_first}
 use Rattle.std.proofs.lemmas.Slice.Eq.{bytes_eq-Decides}
 use Rattle.std.proofs.lemmas.Bool.{false≢true}
 use Rattle.hex.specs.Hex.{IsBytes}
-use Rattle.sha2.specs.Sha256.{sha256, digest_bytes}
-use Rattle.sha2.proofs.Facts256.{length-sha256}
+use Rattle.sha2.specs.Sha256.{sha256}
+use Rattle.warg_hash.specs.ByteLaws.{sha256_is_digest}
 use Rattle.warg_hash.specs.Hash.{IsDigest}
 use Rattle.warg_record.specs.Envelope.{Signed}
 use Rattle.warg_log.specs.History.{last_or}
@@ -16,34 +15,6 @@ use Rattle.warg_proof.specs.MapProofs.{log_key}
 use Rattle.warg_proof.specs.MapTree.{Entries, IsMap, value_at}
 use Rattle.warg_info.specs.Kept.{Kept, last_kept}
 use Rattle.warg_ledger.specs.Registry.{log_from, heads_before}
-
--- ---- digests
-
-no_bytes : IsBytes []
-no_bytes i = omega arith
-
-bytes-append : (xs ys : List ℕ) → IsBytes xs → IsBytes ys → IsBytes (xs ++ ys)
-bytes-append [] ys h k i = k i
-bytes-append (x ∷ xs) ys h k zero = h zero
-bytes-append (x ∷ xs) ys h k (suc i) = bytes-append xs ys (λ j. h (suc j)) k i
-
-bytes-high_first : (k n : ℕ) → IsBytes (bytes_high_first k n)
-bytes-high_first zero n i = omega arith
-bytes-high_first (suc zero) n zero = omega arith
-bytes-high_first (suc (suc k)) n zero = omega arith
-bytes-high_first (suc k) n (suc i) = bytes-high_first k n i
-
-bytes-digest : (words : List ℕ) (n : ℕ) → IsBytes (digest_bytes words n)
-unfolding digest_bytes
-bytes-digest words zero = no_bytes
-bytes-digest words (suc n) = bytes-append (digest_bytes words n) (to_be_bytes w32 (get_or words n 0)) (bytes-digest words n) (bytes-high_first 4 (get_or words n 0))
-
-bytes-sha256 : (m : List ℕ) → IsBytes (sha256 m)
-unfolding sha256
-bytes-sha256 m = bytes-digest _ 8
-
-is-digest : (m : List ℕ) → IsDigest (sha256 m)
-is-digest m = (length-sha256 m, bytes-sha256 m)
 
 -- ---- the entry of a record
 
@@ -138,7 +109,7 @@ is-map-before : ((record_id : List ℕ) → IsBytes (map_value record_id)) → (
     → AllByRecursion (λ entry. IsDigest entry.0 × IsBytes entry.1) (heads_before entries others)
 unfolding heads_before
 is-map-before values [] others are = are
-is-map-before values (e ∷ entries) others are = is-map-before values entries ((log_key e.0, map_value (sha256 e.1.contents)) ∷ others) ((is-digest e.0, values (sha256 e.1.contents)), are)
+is-map-before values (e ∷ entries) others are = is-map-before values entries ((log_key e.0, map_value (sha256 e.1.contents)) ∷ others) ((sha256_is_digest e.0, values (sha256 e.1.contents)), are)
 
 by-index : {A : Type 0} (P : A → Type 0) (xs : List A) → AllByRecursion P xs → All P xs
 by-index P [] are i d lt = absurd (omega (arith, lt))

@@ -1,48 +1,16 @@
 -- What is known of hashes, of the strings that are hashed, and of the first clash in a list of pairs.
-use Rattle.std.proofs.Common.{◌≡◌, ◌⊎◌, ℕ, zero, suc, ◌<◌, ◌≤◌, Bool, not, cond, List, [], ◌∷◌, ◌++◌, length, get_or, take, drop, Some, refl, sym, ap, subst, ◌∙◌, inl, inr, arith}
+use Rattle.std.proofs.Common.{◌≡◌, ◌⊎◌, ℕ, ◌≤◌, Bool, not, cond, List, [], ◌∷◌, ◌++◌, length, take, drop, Some, refl, sym, ap, subst, ◌∙◌, inl, inr, arith}
 use Rattle.std.specs.Prelude.{IsSomeAnd, bytes_eq}
-use Rattle.std.specs.Int.{w32, to_be_bytes, bytes_high_first}
 use Rattle.std.proofs.lemmas.Bool.{cases_Bool, false≢true}
 use Rattle.std.proofs.lemmas.List.{take_at, drop_at, length-append}
 use Rattle.std.proofs.lemmas.Slice.Eq.{bytes_eq-Decides}
-use Rattle.sha2.specs.Sha256.{sha256, digest_bytes}
-use Rattle.sha2.proofs.Facts256.{length-sha256}
+use Rattle.sha2.specs.Sha256.{sha256}
 use Rattle.hex.specs.Hex.{IsBytes}
+use Rattle.warg_hash.specs.ByteLaws.{no_bytes, bytes-cons, bytes-append}
 use Rattle.warg_hash.specs.Hash.{IsDigest}
 use Rattle.warg_proof.specs.Merkle.{AreHashes, leaf_text, branch_text, next_hash, IsClash, first_clash}
 
 -- ---- byte strings
-
-pub no_bytes : IsBytes []
-no_bytes i = omega arith
-
-pub bytes-cons : (b : ℕ) (bytes : List ℕ) → b < 256 → IsBytes bytes → IsBytes (b ∷ bytes)
-bytes-cons b bytes small h zero = small
-bytes-cons b bytes small h (suc i) = h i
-
-pub bytes-append : (xs ys : List ℕ) → IsBytes xs → IsBytes ys → IsBytes (xs ++ ys)
-bytes-append [] ys h k i = k i
-bytes-append (x ∷ xs) ys h k zero = h zero
-bytes-append (x ∷ xs) ys h k (suc i) = bytes-append xs ys (λ j. h (suc j)) k i
-
-bytes-high_first : (k n : ℕ) → IsBytes (bytes_high_first k n)
-bytes-high_first zero n i = omega arith
-bytes-high_first (suc zero) n zero = omega arith
-bytes-high_first (suc (suc k)) n zero = omega arith
-bytes-high_first (suc k) n (suc i) = bytes-high_first k n i
-
-bytes-digest : (words : List ℕ) (n : ℕ) → IsBytes (digest_bytes words n)
-unfolding digest_bytes
-bytes-digest words zero = no_bytes
-bytes-digest words (suc n) = bytes-append (digest_bytes words n) (to_be_bytes w32 (get_or words n 0)) (bytes-digest words n) (bytes-high_first 4 (get_or words n 0))
-
-bytes-sha256 : (m : List ℕ) → IsBytes (sha256 m)
-unfolding sha256
-bytes-sha256 m = bytes-digest _ 8
-
--- a digest is a hash
-pub is_hash : (m : List ℕ) → IsDigest (sha256 m)
-is_hash m = (length-sha256 m, bytes-sha256 m)
 
 pub bytes-leaf_text : (content : List ℕ) → IsBytes content → IsBytes (leaf_text content)
 bytes-leaf_text content h = bytes-cons 0 content (omega arith) h

@@ -7,10 +7,11 @@ use Rattle.std.proofs.lemmas.Option.{cond_some}
 use Rattle.std.proofs.lemmas.List.{length-take, length-drop, take_all, take-take, drop-take}
 use Rattle.std.proofs.lemmas.List.Elements.{All-take, All-drop}
 use Rattle.hex.specs.Hex.{IsBytes}
+use Rattle.warg_hash.specs.ByteLaws.{sha256_is_digest}
 use Rattle.warg_hash.specs.Hash.{IsDigest}
 use Rattle.warg_proof.specs.Merkle.{AreBytes, AreHashes, IsClash, leaf_text, branch_text, branch_hash, next_hash, first_clash}
 use Rattle.warg_proof.specs.LogTree.{root_within, root, inclusion_ranges, path_root_within, path_root, inclusion_pairs, inclusion_clash, consistency_ranges, roots_within, two_roots, consistency_pairs, consistency_clash}
-use Rattle.warg_proof.proofs.Hashes.{is_hash, bytes-leaf_text, bytes-branch_text, IsShort, short_hash, short-next_hash, leaf_parts, branch_of_hashes, clash_or}
+use Rattle.warg_proof.proofs.Hashes.{bytes-leaf_text, bytes-branch_text, IsShort, short_hash, short-next_hash, leaf_parts, branch_of_hashes, clash_or}
 
 -- ---- powers and places
 
@@ -72,10 +73,10 @@ root-split entries k lt le =
 
 pub root_is_hash : (level : ℕ) (entries : List (List ℕ)) → IsDigest (root_within level entries)
 unfolding root_within
-root_is_hash zero [] = is_hash []
-root_is_hash zero (entry ∷ entries) = is_hash (leaf_text entry)
+root_is_hash zero [] = sha256_is_digest []
+root_is_hash zero (entry ∷ entries) = sha256_is_digest (leaf_text entry)
 root_is_hash (suc level) entries =
-    cond_both (ltb (2 ^ level) (length entries)) _ _ IsDigest (λ _. is_hash _) (λ _. root_is_hash level entries)
+    cond_both (ltb (2 ^ level) (length entries)) _ _ IsDigest (λ _. sha256_is_digest _) (λ _. root_is_hash level entries)
 
 -- ---- inclusion
 
@@ -98,10 +99,10 @@ path-less level index count leaf path le = cond-false (ltb (2 ^ level) count) _ 
 
 pub path_is_hash : (level index count : ℕ) (leaf : List ℕ) (path : List (List ℕ)) → IsDigest (path_root_within level index count leaf path)
 unfolding path_root_within
-path_is_hash zero index count leaf path = is_hash (leaf_text leaf)
+path_is_hash zero index count leaf path = sha256_is_digest (leaf_text leaf)
 path_is_hash (suc level) index count leaf path =
     cond_both (ltb (2 ^ level) count) _ _ IsDigest
-    (λ _. cond_both (ltb index (2 ^ level)) _ _ IsDigest (λ _. is_hash _) (λ _. is_hash _))
+    (λ _. cond_both (ltb index (2 ^ level)) _ _ IsDigest (λ _. sha256_is_digest _) (λ _. sha256_is_digest _))
     (λ _. path_is_hash level index count leaf path)
 
 -- the leaf is the entry at the index, or the pairs have a clash
@@ -216,7 +217,7 @@ short_roots (suc level) old new hashes h =
     let P : List ℕ × List ℕ → Type 0 = λ roots. IsShort roots.1 in
     cond_both (ltb (2 ^ level) new) _ _ P
     (λ _. cond_both (eqb old new) _ _ P (λ _. short-next_hash hashes h) (λ _.
-    cond_both (ltb (2 ^ level) old) _ _ P (λ _. short_hash _ (is_hash _)) (λ _. short_hash _ (is_hash _))))
+    cond_both (ltb (2 ^ level) old) _ _ P (λ _. short_hash _ (sha256_is_digest _)) (λ _. short_hash _ (sha256_is_digest _))))
     (λ _. short_roots level old new hashes h)
 
 -- the roots of a range that ends at the old length, of one that it cuts in its right or left part, and of one

@@ -10,10 +10,11 @@ use Rattle.std.proofs.lemmas.Map.Entries.{lookup-filter-keys}
 use Rattle.std.proofs.lemmas.Slice.Eq.{bytes_eq-Decides}
 use Rattle.sha2.specs.Sha256.{sha256}
 use Rattle.hex.specs.Hex.{IsBytes}
+use Rattle.warg_hash.specs.ByteLaws.{sha256_is_digest}
 use Rattle.warg_hash.specs.Hash.{IsDigest}
 use Rattle.warg_proof.specs.Merkle.{AreHashes, leaf_text, branch_text, branch_hash}
 use Rattle.warg_proof.specs.MapTree.{Entries, IsMap, value_at, empty_root, has_bit, left_of, right_of, subtree_root, map_root, subtree_path_root, map_path_root, map_pairs, is_apart, map_clash, IsMapClash}
-use Rattle.warg_proof.proofs.Hashes.{is_hash, bytes-leaf_text, bytes-branch_text, short_hash, leaf_parts, branch_of_hashes}
+use Rattle.warg_proof.proofs.Hashes.{bytes-leaf_text, bytes-branch_text, short_hash, leaf_parts, branch_of_hashes}
 
 -- ---- keys and their bits
 
@@ -104,21 +105,21 @@ subtree-split height (entry ∷ entries) = refl
 pub empty_is_hash : (height : ℕ) → IsDigest (empty_root height)
 unfolding empty_root
 empty_is_hash zero = (refl, bytes-zeros 32)
-empty_is_hash (suc height) = is_hash _
+empty_is_hash (suc height) = sha256_is_digest _
 
 one_is_hash : (entry : List ℕ × List ℕ) (entries : Entries) → IsDigest (subtree_root 0 (entry ∷ entries))
 unfolding subtree_root
-one_is_hash entry entries = is_hash (leaf_text entry.1)
+one_is_hash entry entries = sha256_is_digest (leaf_text entry.1)
 
 pub subtree_is_hash : (height : ℕ) (entries : Entries) → IsDigest (subtree_root height entries)
 subtree_is_hash zero [] = subst IsDigest (sym (subtree-nil 0)) (empty_is_hash 0)
 subtree_is_hash zero (entry ∷ entries) = one_is_hash entry entries
-subtree_is_hash (suc height) entries = subst IsDigest (sym (subtree-split height entries)) (is_hash _)
+subtree_is_hash (suc height) entries = subst IsDigest (sym (subtree-split height entries)) (sha256_is_digest _)
 
 path_is_hash : (key value : List ℕ) (siblings : List (List ℕ)) → IsDigest (subtree_path_root key value siblings)
 unfolding subtree_path_root
-path_is_hash key value [] = is_hash (leaf_text value)
-path_is_hash key value (sibling ∷ siblings) = cond_both (has_bit key (255 - length siblings)) _ _ IsDigest (λ _. is_hash _) (λ _. is_hash _)
+path_is_hash key value [] = sha256_is_digest (leaf_text value)
+path_is_hash key value (sibling ∷ siblings) = cond_both (has_bit key (255 - length siblings)) _ _ IsDigest (λ _. sha256_is_digest _) (λ _. sha256_is_digest _)
 
 pub path-right : (key value sibling : List ℕ) (siblings : List (List ℕ)) → has_bit key (255 - length siblings) ≡ true → subtree_path_root key value (sibling ∷ siblings) ≡ branch_hash sibling (subtree_path_root key value siblings)
 unfolding subtree_path_root

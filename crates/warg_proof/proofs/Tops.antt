@@ -4,13 +4,13 @@ use Rattle.std.specs.Option.{option_map, option_and_then}
 use Rattle.std.specs.List.{AllByRecursion}
 use Rattle.std.proofs.lemmas.Bool.{cond-true, and_from, lt-ltb, le-leb, eq-eqb}
 use Rattle.std.proofs.lemmas.List.Elements.{All-from_recursion}
+use Rattle.warg_hash.specs.ByteLaws.{sha256_is_digest}
 use Rattle.warg_hash.specs.Hash.{IsDigest}
 use Rattle.warg_proof.specs.declared.node.Node.{Node}
 use Rattle.warg_proof.specs.Merkle.{AreHashes, branch_hash}
 use Rattle.warg_proof.specs.LogTree.{Range, inclusion_ranges, path_root_within, path_root, consistency_ranges, roots_within, two_roots}
 use Rattle.warg_proof.specs.LogProofs.{IsNode, listed, branch_of, hash_within, range_hash, each_or_none}
 use Rattle.warg_proof.specs.Judging.{root_beside, roots_joining}
-use Rattle.warg_proof.proofs.Hashes.{is_hash}
 use Rattle.warg_proof.proofs.LogLaws.{below_power, at_any_level}
 use Rattle.warg_proof.proofs.Climbing.{beside_lower, joining_lower}
 
@@ -88,7 +88,7 @@ listed_hash (node ∷ nodes) level place h hash e =
 branch_hashed : (left right : Option (List ℕ)) (hash : List ℕ) → branch_of left right ≡ Some hash → IsDigest hash
 branch_hashed None right hash e = absurd cc
 branch_hashed (Some l) None hash e = absurd cc
-branch_hashed (Some l) (Some r) hash e = subst IsDigest (same_some (branch_hash l r) hash e) (is_hash _)
+branch_hashed (Some l) (Some r) hash e = subst IsDigest (same_some (branch_hash l r) hash e) (sha256_is_digest _)
 
 range_hashed : (nodes : List Node) → AllByRecursion IsNode nodes → (level place count : ℕ) (hash : List ℕ) → hash_within nodes level place count ≡ Some hash → IsDigest hash
 unfolding hash_within

@@ -7,6 +7,7 @@ use Rattle.std.proofs.Math.Nat.{pow-suc}
 use Rattle.std.proofs.lemmas.Bool.{cases_lt, cases_eq, cond-true, cond-false, lt-ltb, le-ltb, eq-eqb, ne_eqb}
 use Rattle.std.proofs.lemmas.Option.{slice_get_within}
 use Rattle.std.proofs.lemmas.List.Elements.{All-from_recursion}
+use Rattle.warg_hash.specs.ByteLaws.{sha256_is_digest}
 use Rattle.warg_hash.specs.Hash.{IsDigest}
 use Rattle.warg_proof.specs.declared.node.Node.{Node}
 use Rattle.warg_proof.specs.Merkle.{branch_hash}
@@ -15,7 +16,6 @@ use Rattle.warg_proof.specs.LogProofs.{LogProofs, hash_within, range_hash, each_
 use Rattle.warg_proof.specs.MapTree.{Entries, IsMap, value_at, map_root, map_path_root}
 use Rattle.warg_proof.specs.MapProofs.{MapPath, siblings, log_key, IsMapPath, ProvesValue}
 use Rattle.warg_proof.specs.TrueProofs.{range_root, true_path, true_hashes, true_siblings, needed_within, needed, IsTrueNode, ListsTruly}
-use Rattle.warg_proof.proofs.Hashes.{is_hash}
 use Rattle.warg_proof.proofs.LogLaws.{below_power, root-more, root-less, root_is_hash}
 use Rattle.warg_proof.proofs.Climbing.{beside-ranges-less, beside-ranges-left, beside-ranges-right, joining-ranges-less, joining-ranges-whole, joining-ranges-left, joining-ranges-right, hash-less, hash-whole, hash-split, both_are}
 use Rattle.warg_proof.proofs.Siblings.{siblings_are_hashes}
@@ -198,5 +198,5 @@ listed_value_law paths at path map log_id value asked is same im e = record {
   path = path;
   asked = asked;
   are_hashes = siblings_are_hashes path is;
-  gives_root = ap (map_path_root (log_key log_id) value) same ∙ true_map_law map (log_key log_id) value im (is_hash log_id) e;
+  gives_root = ap (map_path_root (log_key log_id) value) same ∙ true_map_law map (log_key log_id) value im (sha256_is_digest log_id) e;
 }

@@ -1,12 +1,11 @@
 -- That the last record of each proved log is in the registry's log and in its map.
-use Rattle.std.proofs.Common.{◌≡◌, ◌<◌, ◌⊎◌, ◌++◌, ◌∷◌, [], inl, inr, List, ℕ, zero, suc, Option, Some, None, sym, ◌∙◌, ap, length, get_or, arith}
+use Rattle.std.proofs.Common.{◌≡◌, ◌<◌, ◌⊎◌, ◌∷◌, [], inl, inr, List, ℕ, zero, suc, Option, Some, None, sym, ◌∙◌, ap, length, get_or, arith}
 use Rattle.std.specs.Prelude.{Contains, slice_get, option_map, IsSomeAnd}
 use Rattle.std.specs.List.{filter_map, cons_option}
-use Rattle.std.specs.Int.{w32, to_be_bytes, bytes_high_first}
 use Rattle.std.proofs.lemmas.Option.{slice_get-map}
 use Rattle.hex.specs.Hex.{IsBytes}
-use Rattle.sha2.specs.Sha256.{sha256, digest_bytes}
-use Rattle.sha2.proofs.Facts256.{length-sha256}
+use Rattle.sha2.specs.Sha256.{sha256}
+use Rattle.warg_hash.specs.ByteLaws.{sha256_is_digest}
 use Rattle.warg_hash.specs.Hash.{IsDigest}
 use Rattle.warg_log.specs.Rules.{Accepts}
 use Rattle.warg_proof.specs.Leaves.{log_entry, map_value}
@@ -32,34 +31,6 @@ pub record ShownLaws : Type 0 where
       → (value_at m key ≡ Some value) ⊎ IsSomeAnd (map_clash m key value siblings) IsMapClash
   pub entries : (log_id record_id : List ℕ) → IsBytes (log_entry log_id record_id)
   pub values : (record_id : List ℕ) → IsBytes (map_value record_id)
-
--- ---- digests
-
-no_bytes : IsBytes []
-no_bytes i = omega arith
-
-bytes-append : (xs ys : List ℕ) → IsBytes xs → IsBytes ys → IsBytes (xs ++ ys)
-bytes-append [] ys h k i = k i
-bytes-append (x ∷ xs) ys h k zero = h zero
-bytes-append (x ∷ xs) ys h k (suc i) = bytes-append xs ys (λ j. h (suc j)) k i
-
-bytes-high_first : (k n : ℕ) → IsBytes (bytes_high_first k n)
-bytes-high_first zero n i = omega arith
-bytes-high_first (suc zero) n zero = omega arith
-bytes-high_first (suc (suc k)) n zero = omega arith
-bytes-high_first (suc k) n (suc i) = bytes-high_first k n i
-
-bytes-digest : (words : List ℕ) (n : ℕ) → IsBytes (digest_bytes words n)
-unfolding digest_bytes
-bytes-digest words zero = no_bytes
-bytes-digest words (suc n) = bytes-append (digest_bytes words n) (to_be_bytes w32 (get_or words n 0)) (bytes-digest words n) (bytes-high_first 4 (get_or words n 0))
-
-bytes-sha256 : (m : List ℕ) → IsBytes (sha256 m)
-unfolding sha256
-bytes-sha256 m = bytes-digest _ 8
-
-is-digest : (m : List ℕ) → IsDigest (sha256 m)
-is-digest m = (length-sha256 m, bytes-sha256 m)
 
 -- ---- where a log's last record stands among the last records
 
@@ -103,7 +74,7 @@ in-map laws accepts a start xs logs c m h at p there is_map roots =
     let leaf_there : slice_get (leafs_of logs) at ≡ Some (leaf_in h) = slice_get-map leaf_in (heads_of logs) at ∙ ap (option_map leaf_in) there in
     let shown : ProvesValue p.asks_inclusion.includes.in_map.bundle at (leaf_in h).log_id value c.contents.map_root = p.asks_inclusion.includes.in_map.paths at (index_in h) (leaf_in h) index_there leaf_there in
     let gives : map_path_root key value (siblings shown.path) ≡ Some (map_root m) = shown.gives_root ∙ ap (λ (r : List ℕ). Some r) (sym roots) in
-    elim (laws.map m key value (siblings shown.path) is_map (is-digest (leaf_in h).log_id) (laws.values (leaf_in h).record_id) shown.are_hashes gives) [
+    elim (laws.map m key value (siblings shown.path) is_map (sha256_is_digest (leaf_in h).log_id) (laws.values (leaf_in h).record_id) shown.are_hashes gives) [
       | inl is ↦ inl is
       | inr clash ↦ inr (siblings shown.path, clash)
     ]
