@@ -1,8 +1,6 @@
 -- That an update over replies which prove logs is the front of what proves them.
-use Rattle.std.proofs.Common.{◌≡◌, ◌<◌, ◌⊎◌, ◌++◌, ◌∷◌, [], inl, inr, List, ℕ, zero, suc, Bool, true, false, Option, Some, None, refl, sym, ◌∙◌, ap, subst, take, length, append_assoc}
-use Rattle.std.proofs.Math.Seq.{take-append_seam}
+use Rattle.std.proofs.Common.{◌≡◌, ◌<◌, ◌⊎◌, ◌++◌, ◌∷◌, [], inl, inr, List, Bool, true, false, Option, Some, None, refl, sym, ◌∙◌, ap, subst, append_assoc}
 use Rattle.std.proofs.lemmas.List.{append-nil}
-use Rattle.std.specs.Prelude.{slice_get}
 use Rattle.warg_log.specs.Rules.{Accepts}
 use Rattle.warg_exchange.specs.declared.exchange.Exchange.{Exchange}
 use Rattle.warg_exchange.specs.declared.exchange.Request.{Request}
@@ -10,6 +8,7 @@ use Rattle.warg_exchange.specs.declared.checkpoint.SignedCheckpoint.{SignedCheck
 use Rattle.warg_exchange.specs.Requests.{Asker}
 use Rattle.warg_api.specs.Link.{Asked, Exchanges}
 use Rattle.warg_page.specs.Logs.{Logs}
+use Rattle.warg_update.specs.AskedLaws.{asked-at, asked-none, asked-push}
 use Rattle.warg_update.specs.Proved.{AsksCheckpoint, Turns, Pages, Succeeds, Start, Opens, Shows, Proves, Asks, AreAsked, for_checkpoint, for_page, for_inclusion, for_consistency}
 use Rattle.warg_course.specs.Replies.{IsFront, GivesReplies}
 use Rattle.warg_course.proofs.GivenLaws.{same-given}
@@ -22,38 +21,6 @@ pub record Laws : Type 0 where
   pub more : (a : Asker) (start : Start) (xs : List Exchange) (c : SignedCheckpoint) (mid after : Logs) (x : Exchange) (more : Bool) → Opens a start xs c mid true → Turns a c.contents.log_length mid x after more → Opens a start (xs ++ x ∷ []) c after more
 
 -- ---- each exchange is asked for
-
--- at its place
-at-length : (before after : List Exchange) (x : Exchange) → slice_get (before ++ x ∷ after) (length before) ≡ Some x
-at-length [] after x = refl
-at-length (y ∷ before) after x = at-length before after x
-
-pub asked-at : (a : Asker) (start : Start) (before after : List Exchange) (x : Exchange) → AreAsked a start (before ++ x ∷ after) → Asks a start before x.request
-asked-at a start before after x asked =
-    subst (λ (l : List Exchange). Asks a start l x.request) (take-append_seam before (x ∷ after)) (asked (length before) x (at-length before after x))
-
-asked-none : (a : Asker) (start : Start) → AreAsked a start []
-asked-none a start n x there = absurd cc
-
--- an item of a list with one item more stands in the list, or is the one more
-pushed-at : (xs : List Exchange) (x : Exchange) (n : ℕ) (y : Exchange) → slice_get (xs ++ x ∷ []) n ≡ Some y
-    → ((slice_get xs n ≡ Some y) × (take n (xs ++ x ∷ []) ≡ take n xs)) ⊎ ((x ≡ y) × (take n (xs ++ x ∷ []) ≡ xs))
-pushed-at [] x zero y e = let same : x ≡ y = cc in inr (same, refl)
-pushed-at [] x (suc n) y e = absurd cc
-pushed-at (z ∷ xs) x zero y e = inl (e, refl)
-pushed-at (z ∷ xs) x (suc n) y e = behind (pushed-at xs x n y e)
-  where
-    behind : ((slice_get xs n ≡ Some y) × (take n (xs ++ x ∷ []) ≡ take n xs)) ⊎ ((x ≡ y) × (take n (xs ++ x ∷ []) ≡ xs))
-        → ((slice_get xs n ≡ Some y) × (z ∷ take n (xs ++ x ∷ []) ≡ z ∷ take n xs)) ⊎ ((x ≡ y) × (z ∷ take n (xs ++ x ∷ []) ≡ z ∷ xs))
-    behind (inl here) = inl (here.0, ap (λ (l : List Exchange). z ∷ l) here.1)
-    behind (inr last) = inr (last.0, ap (λ (l : List Exchange). z ∷ l) last.1)
-
-pub asked-push : (a : Asker) (start : Start) (xs : List Exchange) (x : Exchange) → AreAsked a start xs → Asks a start xs x.request → AreAsked a start (xs ++ x ∷ [])
-asked-push a start xs x asked next n y there = by_place (pushed-at xs x n y there)
-  where
-    by_place : ((slice_get xs n ≡ Some y) × (take n (xs ++ x ∷ []) ≡ take n xs)) ⊎ ((x ≡ y) × (take n (xs ++ x ∷ []) ≡ xs)) → Asks a start (take n (xs ++ x ∷ [])) y.request
-    by_place (inl here) = subst (λ (l : List Exchange). Asks a start l y.request) (sym here.1) (asked n y here.0)
-    by_place (inr last) = subst (λ (l : List Exchange). Asks a start l y.request) (sym last.1) (subst (λ (e : Exchange). Asks a start xs e.request) last.0 next)
 
 -- pages, behind exchanges that were asked for
 pages-asked : Laws → (a : Asker) (start : Start) (c : SignedCheckpoint) (done xs : List Exchange) (mid logs : Logs) (more : Bool) → Opens a start done c mid true → AreAsked a start done → Pages a c.contents.log_length mid xs logs more → AreAsked a start (done ++ xs)

@@ -1,7 +1,5 @@
 -- That the exchanges of a whole update with an honest registry prove its whole logs.
-use Rattle.std.proofs.Common.{◌≡◌, ◌<◌, ◌⊎◌, ◌++◌, ◌∷◌, [], inl, inr, List, Bool, true, false, Option, Some, None, refl, sym, ap, subst, length}
-use Rattle.std.proofs.Math.Seq.{take-append_seam}
-use Rattle.std.specs.Prelude.{slice_get}
+use Rattle.std.proofs.Common.{◌≡◌, ◌<◌, ◌⊎◌, ◌++◌, ◌∷◌, [], inl, inr, List, Bool, true, false, Option, Some, None, refl, sym, ap, subst}
 use Rattle.warg_log.specs.Rules.{Accepts}
 use Rattle.warg_exchange.specs.declared.exchange.Exchange.{Exchange}
 use Rattle.warg_exchange.specs.declared.exchange.Request.{Request}
@@ -10,6 +8,7 @@ use Rattle.warg_exchange.specs.declared.checkpoint.SignedCheckpoint.{SignedCheck
 use Rattle.warg_exchange.specs.Requests.{Asker, checkpoint_request, inclusion_request, consistency_request}
 use Rattle.warg_info.specs.Kept.{Kept}
 use Rattle.warg_page.specs.Logs.{Logs, AreLawful, indices_of}
+use Rattle.warg_update.specs.AskedLaws.{asked-at}
 use Rattle.warg_update.specs.Proved.{page_request, IsSigned, AsksInclusion, AsksConsistency, Succeeds, Start, Proves, Opens, Shows, Asks, AreAsked, for_checkpoint, for_page, for_inclusion, for_consistency}
 use Rattle.warg_update.specs.Succession.{MayFollow}
 use Rattle.warg_ledger.specs.Registry.{Registry, IsRegistry}
@@ -29,13 +28,6 @@ pub record ProofLaws : Type 0 where
       → AsksConsistency a old.contents c.contents x → Proves accepts a start (xs ++ x ∷ []) logs c
 
 -- ---- the last of some exchanges
-
-at-length : (before : List Exchange) (x : Exchange) → slice_get (before ++ x ∷ []) (length before) ≡ Some x
-at-length [] x = refl
-at-length (y ∷ before) x = at-length before x
-
-last-asked : (a : Asker) (start : Start) (before : List Exchange) (x : Exchange) → AreAsked a start (before ++ x ∷ []) → Asks a start before x.request
-last-asked a start before x asked = subst (λ (l : List Exchange). Asks a start l x.request) (take-append_seam before (x ∷ [])) (asked (length before) x (at-length before x))
 
 abbrev HasLast : List Exchange → Type 0
 HasLast xs = (before : List Exchange) × (x : Exchange) × (xs ≡ before ++ x ∷ [])
@@ -126,7 +118,7 @@ module _ (laws : Laws) (turns : TurnLaws) (prover : ProverLaws) (proofs : ProofL
   by-last xs (inr l) asked honest over =
       let is : xs ≡ l.0 ++ l.1 ∷ [] = l.2 in
       subst (ProveWhole accepts w a start) (sym is)
-      (proved-behind l.0 l.1 (subst (λ (ys : List Exchange). AreHonest accepts w a start ys) is honest) (subst (AsksNothing a start) is over) (last-asked a start l.0 l.1 (subst (AreAsked a start) is asked)))
+      (proved-behind l.0 l.1 (subst (λ (ys : List Exchange). AreHonest accepts w a start ys) is honest) (subst (AsksNothing a start) is over) (asked-at a start l.0 [] l.1 (subst (AreAsked a start) is asked)))
 
   pub whole-proved : (xs : List Exchange) → AreAsked a start xs → AreHonest accepts w a start xs → AsksNothing a start xs → ProveWhole accepts w a start xs
   whole-proved xs asked honest over = by-last xs (last-exchange xs) asked honest over

@@ -19,7 +19,7 @@ use Rattle.warg_update.specs.declared.step.UpdateStep.{UpdateStep}
 use Rattle.warg_update.specs.Standing.{request_in, request_at, logs_of, Reached, AreTrusted, Stands, KeepsOn, Advances}
 use Rattle.warg_update.specs.Stages.{FollowsPage, FollowsHeads}
 use Rattle.warg_update.proofs.PagesLaws.{opens-push, proves-all}
-use Rattle.warg_update.proofs.AskedLaws.{asked-push}
+use Rattle.warg_update.specs.AskedLaws.{asked-push}
 
 pub some-same : {A : Type 0} (x y : A) → Some x ≡ Some y → y ≡ x
 some-same x y e = cc

@@ -1,4 +1,5 @@
 pub mod Proved
+pub mod AskedLaws
 pub mod Signature
 pub mod Succession
 pub mod Errors

@@ -1,6 +1,6 @@
 use Rattle.std.proofs.Common.{◌∙◌}
 use Rattle.warg_exchange.specs.declared.exchange.Exchange.{Exchange}
-use Rattle.warg_update.proofs.AskedLaws.{asked-push}
+use Rattle.warg_update.specs.AskedLaws.{asked-push}
 use Rattle.warg_update.proofs.StandingLaws.{asks-at}
 use Rattle.warg_update.proofs.step.UpdateStep.feed.Goals as goal
 

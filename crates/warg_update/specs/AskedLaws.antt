@@ -1,9 +1,20 @@
--- Exchanges of an update, of which each request is the next after those before it.
-use Rattle.std.proofs.Common.{◌≡◌, ◌++◌, ◌∷◌, [], ◌⊎◌, inl, inr, List, ℕ, zero, suc, Some, refl, sym, ap, subst, take}
+-- Laws of exchanges of an update, of which each request is the next after those before it.
+use Rattle.std.proofs.Common.{◌≡◌, ◌++◌, ◌∷◌, [], ◌⊎◌, inl, inr, List, ℕ, zero, suc, Some, refl, sym, ap, subst, take, length}
+use Rattle.std.proofs.Math.Seq.{take-append_seam}
 use Rattle.std.specs.Prelude.{slice_get}
 use Rattle.warg_exchange.specs.declared.exchange.Exchange.{Exchange}
 use Rattle.warg_exchange.specs.Requests.{Asker}
 use Rattle.warg_update.specs.Proved.{Start, Asks, AreAsked}
+
+-- an item stands behind those before it
+at-length : (before after : List Exchange) (x : Exchange) → slice_get (before ++ x ∷ after) (length before) ≡ Some x
+at-length [] after x = refl
+at-length (y ∷ before) after x = at-length before after x
+
+-- each one is asked for behind those before it
+pub asked-at : (a : Asker) (start : Start) (before after : List Exchange) (x : Exchange) → AreAsked a start (before ++ x ∷ after) → Asks a start before x.request
+asked-at a start before after x asked =
+    subst (λ (l : List Exchange). Asks a start l x.request) (take-append_seam before (x ∷ after)) (asked (length before) x (at-length before after x))
 
 pub asked-none : (a : Asker) (start : Start) → AreAsked a start []
 asked-none a start n x there = absurd cc
