@@ -66,8 +66,8 @@ page-counts a x xs is = ap (λ (b : Bool). if b then suc (pages_asked a xs) else
 
 module _ {T : Type 0} (Steps : T → Asked → T → Type 0) (laws : Laws) (accepts : Accepts) (a : Asker) (start : Start) (ys : List Exchange) (logs : Logs) (c : SignedCheckpoint) (begun now : Transcript T) where
   -- the link gave no reply to the next of these exchanges
-  never-replied : Proves accepts a start ys logs c → GivesReplies Steps begun.link ys → HasNoReply a start Steps begun now → IsUnanswered Steps ys begun.link now.link
-  never-replied p given none =
+  never-replied : Proves accepts a start ys logs c → GivesReplies Steps begun.link ys → (limit : ℕ) → HasNoReply limit a start Steps begun now → IsUnanswered Steps ys begun.link now.link
+  never-replied p given limit none =
       let front : IsFront none.exchanges ys = proves-front Steps laws accepts a start none.exchanges ys logs c begun.link none.before.link (asks-asked laws a start none.exchanges none.request none.asks) p given none.kept.passed in
       let next = has-next laws accepts a start none.exchanges ys none.request logs c none.asks p front in
       record {
@@ -115,7 +115,7 @@ module _ {T : Type 0} (Steps : T → Asked → T → Type 0) (laws : Laws) (acce
   own-refusal : UpdateLaws → (ids : List (List ℕ)) (limit : ℕ) (said : Bool → Bool) (e : UpdateRefusal) → Proves accepts a start ys logs c → GivesReplies Steps begun.link ys → IsUpdateRefusal e ids accepts said limit a start Steps begun now
       → IsOwnRefusal e ids limit a Steps ys begun.link now.link
   own-refusal updates ids limit said (refusal.SameLog id) p given bad = bad
-  own-refusal updates ids limit said refusal.LinkFault p given bad = never-replied p given bad
+  own-refusal updates ids limit said refusal.LinkFault p given bad = never-replied p given limit bad
   own-refusal updates ids limit said refusal.RoundLimit p given bad = limit-passed limit p given bad
   own-refusal updates ids limit said refusal.BadHeader p given bad = bad
   own-refusal updates ids limit said (refusal.Reply e) p given bad = always-taken updates said limit e p given bad

@@ -13,7 +13,8 @@ use Rattle.warg_session.specs.Pages.{pages_asked}
 use Rattle.warg_session.specs.declared.error.UpdateRefusal.{UpdateRefusal}
 use Rattle.warg_session.specs.declared.error.UpdateRefusal.TheVariants as refusal
 
--- a link was asked the first of these exchanges' requests, and replied so, and gave no reply to the next
+-- a link was asked the requests of the first of these exchanges, replied to each as it says, and gave no reply to the
+-- request of the next
 pub record IsUnanswered {T : Type 0} (Steps : T → Asked → T → Type 0) (xs : List Exchange) (old new : T) : Type 0 where
   pub done : List Exchange
   pub next : Exchange

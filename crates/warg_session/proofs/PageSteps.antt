@@ -1,5 +1,6 @@
 -- How many pages a step has asked for.
-use Rattle.std.proofs.Common.{◌≡◌, ◌+◌, ℕ, Bool, true, false, List, [], ◌∷◌, ◌++◌, Option, Some, None, refl, sym, ap, subst, ◌∙◌, arith, nat_lt}
+use Rattle.std.proofs.Common.{◌≡◌, ◌≤◌, ◌+◌, ℕ, Bool, true, false, List, [], ◌∷◌, ◌++◌, Option, Some, None, refl, ap, subst, arith, nat_lt}
+use Rattle.std.proofs.lemmas.Bool.{ltb-true}
 use Rattle.std.specs.Prelude.{if◌then◌else◌}
 use Rattle.warg_exchange.specs.declared.exchange.Exchange.{Exchange}
 use Rattle.warg_exchange.specs.declared.exchange.Request.{Request}
@@ -12,13 +13,9 @@ use Rattle.warg_update.specs.Standing.{Counts, logs_of, pages_in, pages_left, re
 use Rattle.warg_update.specs.declared.stage.Stage.{Stage}
 use Rattle.warg_update.specs.declared.stage.Stage.TheVariants as stage
 use Rattle.warg_update.specs.declared.step.UpdateStep.{UpdateStep}
-use Rattle.warg_session.specs.Pages.{asks_page, pages_asked}
+use Rattle.warg_session.specs.Pages.{asks_page, pages_asked, pages_of, pages_with}
 use Rattle.warg_session.specs.PagesLaws.{pages_more, page_is_asked, checkpoint_is_no_page, inclusion_is_no_page, consistency_is_no_page}
 use Rattle.warg_session.specs.Recording.{exchange}
-
--- how many pages a request asks for
-abbrev pages_of : Bool → ℕ
-pages_of asks = if asks then 1 else 0
 
 asked_by : (a : Asker) (q r : Request) (asks : Bool) → Some q ≡ Some r → asks_page a q ≡ asks → pages_of (asks_page a r) ≡ pages_of asks
 asked_by a q r asks same is = ap (λ b. pages_of b) (subst (λ o. asks_page a o ≡ asks) (the_same q r same) is)
@@ -51,3 +48,30 @@ pub counted_on : (a : Asker) (old new : UpdateStep) (request : Request) (reply :
 counted_on a old new request reply xs limit asked counts counted =
     sum_on (pages_left new) (pages_left old) (pages_in old.stage) (pages_of (asks_page a request)) (pages_asked a xs) (pages_asked a (xs ++ exchange request reply ∷ [])) limit
     (counts a request asked) (asks_pages old.stage old.checkpoint old.pages_left a (logs_of old) request asked) (pages_more a xs (exchange request reply ∷ [])) counted
+
+-- a page is asked for only where one is left
+page_left : (q r : Request) (left : ℕ) (may : Bool) → nat_lt 0 left ≡ may → (if may then Some q else None) ≡ Some r → 1 ≤ left
+page_left q r left true may is = omega (arith, ltb-true 0 left may)
+page_left q r left false may is = absurd cc
+
+no_more : (asks : Bool) (left : ℕ) → pages_of asks ≡ 0 → pages_of asks ≤ left
+no_more asks left none = omega (arith, none)
+
+within_left : (st : Stage) (ck : Option SignedCheckpoint) (left : ℕ) (a : Asker) (logs : Logs) (r : Request) → request_in st ck left a logs ≡ Some r → pages_of (asks_page a r) ≤ left
+within_left stage.Checkpoint ck left a logs r e = no_more (asks_page a r) left (asks_pages stage.Checkpoint ck left a logs r e)
+within_left stage.Page (Some c) left a logs r e =
+    let one = asks_pages stage.Page (Some c) left a logs r e in
+    let some = page_left (page_request a c.contents.log_length logs) r left (nat_lt 0 left) refl e in
+    omega (arith, one, some)
+within_left stage.Page None left a logs r e = absurd cc
+within_left stage.Inclusion ck left a logs r e = no_more (asks_page a r) left (asks_pages stage.Inclusion ck left a logs r e)
+within_left (stage.Consistency from) ck left a logs r e = no_more (asks_page a r) left (asks_pages (stage.Consistency from) ck left a logs r e)
+within_left stage.Proved ck left a logs r e = absurd cc
+within_left stage.Refused ck left a logs r e = absurd cc
+
+-- with the next request no more are asked for than may be
+pub counted_with : (a : Asker) (step : UpdateStep) (request : Request) (xs : List Exchange) (limit : ℕ) → request_at a step ≡ Some request
+    → pages_left step + pages_asked a xs ≡ limit → pages_with a xs request ≤ limit
+counted_with a step request xs limit asked counted =
+    let few = within_left step.stage step.checkpoint step.pages_left a (logs_of step) request asked in
+    omega (arith, few, counted)

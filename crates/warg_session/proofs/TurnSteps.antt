@@ -15,10 +15,10 @@ use Rattle.warg_update.specs.FeedFaults.{AsksDecision}
 use Rattle.warg_update.specs.declared.step.UpdateStep.{UpdateStep}
 use Rattle.warg_session.specs.Recording.{Transcript, IsKept, exchange}
 use Rattle.warg_session.specs.RecordingLaws.{one_more_kept}
-use Rattle.warg_session.specs.Turns.{IsSilent, IsUnanswered, IsAnswered, IsUnasked, IsUnfit}
+use Rattle.warg_session.specs.Turns.{IsSilent, IsSendRefusal, IsAnswered, IsUnasked, IsUnfit}
 use Rattle.warg_session.specs.Updating.{IsBegun, IsUnderWay, IsUpdateRefusal, IsRefusedTurn}
 use Rattle.warg_session.specs.declared.error.UpdateRefusal.{UpdateRefusal}
-use Rattle.warg_session.proofs.PageSteps.{counted_on}
+use Rattle.warg_session.proofs.PageSteps.{counted_on, counted_with}
 use Rattle.warg_session.proofs.TakenReplies.{no_decision}
 use Rattle.warg_session.specs.declared.error.UpdateRefusal.TheVariants as refusal
 
@@ -67,15 +67,15 @@ module _ {T : Type 0} (accepts : Accepts) (said : Bool → Bool) (limit : ℕ) (
   silent (refusal.Reply e) ids now step h w = absurd h
 
   -- no reply comes
-  pub unanswered_is : (e : UpdateRefusal) (ids : List (List ℕ)) (now next : Transcript T) (step : UpdateStep) (request : Request) → IsUnanswered e Steps now request next → (w : On now step) → Asks a start w.0 request → IsUpdateRefusal e ids accepts said limit a start Steps begun next
-  unanswered_is refusal.LinkFault ids now next step request h w asks = record { exchanges = w.0; before = now; kept = w.1.kept; request = request; asks = asks; no_reply = h }
-  unanswered_is refusal.Memory ids now next step request h w asks = record {}
-  unanswered_is refusal.RoundLimit ids now next step request h w asks = absurd h
-  unanswered_is refusal.BadHeader ids now next step request h w asks = absurd h
-  unanswered_is (refusal.SameLog id) ids now next step request h w asks = absurd h
-  unanswered_is (refusal.Reply e) ids now next step request h w asks = absurd h
+  pub unanswered_is : (e : UpdateRefusal) (ids : List (List ℕ)) (now next : Transcript T) (step : UpdateStep) (request : Request) → IsSendRefusal e Steps now request next → (w : On now step) → Asks a start w.0 request → request_at a step ≡ Some request → IsUpdateRefusal e ids accepts said limit a start Steps begun next
+  unanswered_is refusal.LinkFault ids now next step request h w asks asked = record { exchanges = w.0; before = now; kept = w.1.kept; request = request; asks = asks; within = counted_with a step request w.0 limit asked w.1.counted; no_reply = h }
+  unanswered_is refusal.Memory ids now next step request h w asks asked = record {}
+  unanswered_is refusal.RoundLimit ids now next step request h w asks asked = absurd h
+  unanswered_is refusal.BadHeader ids now next step request h w asks asked = absurd h
+  unanswered_is (refusal.SameLog id) ids now next step request h w asks asked = absurd h
+  unanswered_is (refusal.Reply e) ids now next step request h w asks asked = absurd h
 
-  pub nothing_kept : (e : UpdateRefusal) (now next : Transcript T) (request : Request) → IsUnanswered e Steps now request next → next.exchanges ≡ now.exchanges
+  pub nothing_kept : (e : UpdateRefusal) (now next : Transcript T) (request : Request) → IsSendRefusal e Steps now request next → next.exchanges ≡ now.exchanges
   nothing_kept refusal.LinkFault now next request h = h.exchanges ∙ append-nil now.exchanges
   nothing_kept refusal.Memory now next request h = h
   nothing_kept refusal.RoundLimit now next request h = absurd h
@@ -101,7 +101,7 @@ module _ {T : Type 0} (accepts : Accepts) (said : Bool → Bool) (limit : ℕ) (
   }
   unasked_turn e ids now next step (inr h) w = record {
     is_begun = begun_still now next step (nothing_kept e now next h.request h.unanswered) w;
-    cause = unanswered_is e ids now next step h.request h.unanswered w (h.asks accepts start w.0 w.1.stands);
+    cause = unanswered_is e ids now next step h.request h.unanswered w (h.asks accepts start w.0 w.1.stands) (h.asked accepts start w.0 w.1.stands);
   }
 
   -- so is one whose reply is

@@ -22,12 +22,12 @@ IsSilent refusal.BadHeader a step = CanAsk a → ⊥
 IsSilent refusal.Memory a step = Unit {0}
 IsSilent other a step = ⊥
 
--- why no reply came
-abbrev pub IsUnanswered : {T : Type 0} → UpdateRefusal → (T → Asked → T → Type 0) → Transcript T → Request
+-- why a request that is sent has no reply
+abbrev pub IsSendRefusal : {T : Type 0} → UpdateRefusal → (T → Asked → T → Type 0) → Transcript T → Request
     → Transcript T → Type 0
-IsUnanswered refusal.LinkFault Steps old request new = IsKept Steps old (unanswered request) new
-IsUnanswered refusal.Memory Steps old request new = new.exchanges ≡ old.exchanges
-IsUnanswered other Steps old request new = ⊥
+IsSendRefusal refusal.LinkFault Steps old request new = IsKept Steps old (unanswered request) new
+IsSendRefusal refusal.Memory Steps old request new = new.exchanges ≡ old.exchanges
+IsSendRefusal other Steps old request new = ⊥
 
 -- the request that the step asks next was sent, and its exchange is kept at this place
 pub record IsAnswered {T : Type 0} (Steps : T → Asked → T → Type 0) (old : Transcript T) (a : Asker) (step : UpdateStep)
@@ -43,7 +43,9 @@ pub record IsUnsaid {T : Type 0} (e : UpdateRefusal) (Steps : T → Asked → T 
   pub request : Request
   pub asks : (accepts : Accepts) (start : Start) (xs : List Exchange) → Stands accepts a start step xs
       → Asks a start xs request
-  pub unanswered : IsUnanswered e Steps old request new
+  pub asked : (accepts : Accepts) (start : Start) (xs : List Exchange) → Stands accepts a start step xs
+      → request_at a step ≡ Some request
+  pub unanswered : IsSendRefusal e Steps old request new
 
 abbrev pub IsUnasked : {T : Type 0} → UpdateRefusal → (T → Asked → T → Type 0) → Transcript T → Asker → UpdateStep
     → Transcript T → Type 0

@@ -1,5 +1,5 @@
 -- How far an update over a link has come, what it proves in the end, and why it may prove nothing.
-use Rattle.std.specs.Prelude.{◌≡◌, ◌+◌, ℕ, Bool, List, ◌++◌, Some}
+use Rattle.std.specs.Prelude.{◌≡◌, ◌≤◌, ◌+◌, ℕ, Bool, List, ◌++◌, Some}
 use Rattle.warg_log.specs.Rules.{Accepts}
 use Rattle.warg_exchange.specs.declared.exchange.Exchange.{Exchange}
 use Rattle.warg_exchange.specs.declared.exchange.Request.{Request}
@@ -14,7 +14,7 @@ use Rattle.warg_update.specs.Standing.{Stands, IsAtLimit, pages_left, request_at
 use Rattle.warg_update.specs.FeedFaults.{IsFeedFault}
 use Rattle.warg_update.specs.declared.error.UpdateError.{UpdateError}
 use Rattle.warg_update.specs.declared.step.UpdateStep.{UpdateStep}
-use Rattle.warg_session.specs.Pages.{pages_asked}
+use Rattle.warg_session.specs.Pages.{pages_asked, pages_with}
 use Rattle.warg_session.specs.Recording.{Transcript, IsKept, AreKept}
 use Rattle.warg_session.specs.declared.update.UpdateStart.{UpdateStart}
 use Rattle.warg_session.specs.declared.error.UpdateRefusal.{UpdateRefusal}
@@ -38,8 +38,8 @@ pub record IsBegun {T : Type 0} (a : Asker) (start : Start) (begun now : Transcr
 
 module _ {T : Type 0} (accepts : Accepts) (a : Asker) (start : Start) (Steps : T → Asked → T → Type 0)
     (begun now : Transcript T) where
-  -- After these exchanges, all of which were kept since the update began, its step stands here. So many pages it might ask
-  -- for when it began, and those that it asked for are fewer.
+  -- After these exchanges, all of which were kept since the update began, its step stands here. When it began it might
+  -- ask for so many pages: those that it has asked for, and those that are left.
   pub record HasCome (limit : ℕ) (xs : List Exchange) (step : UpdateStep) : Type 0 where
     pub kept : AreKept Steps begun xs now
     pub stands : Stands accepts a start step xs
@@ -62,14 +62,15 @@ module _ {T : Type 0} (accepts : Accepts) (a : Asker) (start : Start) (Steps : T
     pub under_way : IsUnderWay limit step
     pub none_left : IsAtLimit step
 
--- no reply came to the request that was the next
-pub record HasNoReply {T : Type 0} (a : Asker) (start : Start) (Steps : T → Asked → T → Type 0)
+-- no reply came to the request that was the next, with which no more pages were asked for than may be
+pub record HasNoReply {T : Type 0} (limit : ℕ) (a : Asker) (start : Start) (Steps : T → Asked → T → Type 0)
     (begun now : Transcript T) : Type 0 where
   pub exchanges : List Exchange
   pub before : Transcript T
   pub kept : AreKept Steps begun exchanges before
   pub request : Request
   pub asks : Asks a start exchanges request
+  pub within : pages_with a exchanges request ≤ limit
   pub no_reply : IsKept Steps before (unanswered request) now
 
 -- the last reply has this fault, where the step stood before it, by what may be said where a decision is asked
@@ -88,7 +89,8 @@ pub record IsReplyRefused {T : Type 0} (e : UpdateError) (accepts : Accepts) (sa
 abbrev pub IsUpdateRefusal : {T : Type 0} → UpdateRefusal → List (List ℕ) → Accepts → (Bool → Bool) → ℕ → Asker → Start
     → (T → Asked → T → Type 0) → Transcript T → Transcript T → Type 0
 IsUpdateRefusal (refusal.SameLog id) ids accepts said limit a start Steps begun now = IsTwice ids id
-IsUpdateRefusal refusal.LinkFault ids accepts said limit a start Steps begun now = HasNoReply a start Steps begun now
+IsUpdateRefusal refusal.LinkFault ids accepts said limit a start Steps begun now =
+    HasNoReply limit a start Steps begun now
 IsUpdateRefusal refusal.RoundLimit ids accepts said limit a start Steps begun now =
     IsLimited accepts a start Steps begun now limit
 IsUpdateRefusal refusal.BadHeader ids accepts said limit a start Steps begun now = CanAsk a → ⊥

@@ -17,7 +17,7 @@ ghost use Rattle.warg_update.specs.Standing.{asker_of, request_at, turns_left, H
 ghost use Rattle.warg_update.specs.FeedFaults.{AsksDecision};
 ghost use Rattle.warg_session.specs.declared.error.UpdateRefusal.TheVariants.{LinkFault as IsLinkFault};
 ghost use Rattle.warg_session.specs.Recording.{Transcript, IsKept, exchange, link_of, transcript};
-ghost use Rattle.warg_session.specs.Turns.{IsSilent, IsUnanswered, IsUnasked, IsUnfit, IsAnswered};
+ghost use Rattle.warg_session.specs.Turns.{IsSilent, IsSendRefusal, IsUnasked, IsUnfit, IsAnswered};
 ghost use Rattle.warg_session.specs.Updating.{IsBegun, IsUnderWay, IsRefusedTurn, IsUpdated, IsGoodStart, IsUpdateRefusal, LeavesPages, start_view};
 
 use crate::error::UpdateRefusal;
@@ -84,7 +84,7 @@ fn send<L: Link>(
     ensures within { IfOk result (λ place. place < length (transcript L.told link.new).exchanges) }
     ensures link_fault { (result ≡ Err IsLinkFault)
         → Rose (L.faults (link_of link.old)) (L.faults (link_of link.new)) }
-    ensures refused { IfErr result (λ e. IsUnanswered e L.Steps (transcript L.told link.old) request
+    ensures refused { IfErr result (λ e. IsSendRefusal e L.Steps (transcript L.told link.old) request
         (transcript L.told link.new)) }
 {
     match link.send(alloc, request) {
