@@ -1,5 +1,6 @@
 -- What the update of a package gives by what stores hold, and why it gives nothing.
-use Rattle.std.specs.Prelude.{◌≡◌, ◌⊎◌, ℕ, List, [], ◌∷◌, Option, None, option_map}
+use Rattle.std.specs.Prelude.{◌≡◌, ◌⊎◌, ℕ, Bool, List, [], ◌∷◌, Option, None, option_map}
+use Rattle.warg_hash.specs.Hash.{package_log_id}
 use Rattle.warg_log.specs.Rules.{Accepts}
 use Rattle.warg_exchange.specs.declared.exchange.Exchange.{Exchange}
 use Rattle.warg_exchange.specs.Requests.{Asker}
@@ -9,6 +10,7 @@ use Rattle.warg_page.specs.Steps.{IsGood, IsGoodOperator}
 use Rattle.warg_api.specs.Link.{Asked}
 use Rattle.warg_update.specs.Proved.{AreAsked, Proves}
 use Rattle.warg_session.specs.Recording.{Transcript, AreKept}
+use Rattle.warg_session.specs.Updating.{IsBegun, IsUpdateRefusal, LeavesPages}
 use Rattle.warg_session.specs.declared.error.UpdateRefusal.{UpdateRefusal}
 use Rattle.warg_store.specs.declared.error.EntryKind.TheVariants as kind
 use Rattle.warg_store.specs.declared.error.StoreError.{StoreError}
@@ -65,6 +67,20 @@ pub record IsGoodUpdate (accepts : Accepts) (got : PackageUpdate) : Type 0 where
   pub operator : IsGoodOperator accepts got.operator
   pub info : IsGood accepts got.info
 
+-- What the update of a package gives, by what is known: it is of this package, the exchanges that were kept are its own, and
+-- of the pages that it might ask for so many are left.
+pub record IsPackageFetched {T : Type 0} (accepts : Accepts) (asker : Registry → Asker) (known : Known) (name : List ℕ)
+    (limit : ℕ) (Steps : T → Asked → T → Type 0) (begun now : Transcript T) (got : PackageUpdate) : Type 0 where
+  pub named : got.info.name ≡ name
+  pub exchanges : List Exchange
+  pub fetched : IsFetched accepts asker known Steps begun now (update_of got exchanges)
+  pub pages : LeavesPages (asker (registry_of known name)) begun now limit got.pages_left
+
+-- the exchanges that were kept are those of an update of the package, over or not
+abbrev pub IsFetchBegun : {T : Type 0} → (Registry → Asker) → Known → List ℕ → Transcript T → Transcript T → Type 0
+IsFetchBegun asker known name begun now =
+    IsBegun (asker (registry_of known name)) (start_of known (registry_of known name) name) begun now
+
 -- ---- refusals
 
 -- how many calls of a store had failed at two moments, and what it told at the first
@@ -72,6 +88,9 @@ pub record Loads (T : Type 0) : Type 0 where
   pub before : ℕ
   pub after : ℕ
   pub told : Option T
+
+abbrev pub loads : {T : Type 0} → ℕ → ℕ → Option T → Loads T
+loads before after told = record { before = before; after = after; told = told }
 
 -- which registry has the packages of a namespace can't be loaded
 abbrev pub IsLookupFault : StoreError → Loads Held → Loads (Entry Names) → Type 0
@@ -97,3 +116,10 @@ abbrev pub IsFetchFault : FetchError → (StoreError → Type 0) → (UpdateRefu
 IsFetchFault (error.Store e) OfStores OfUpdate = OfStores e
 IsFetchFault (error.Update e) OfStores OfUpdate = OfUpdate e
 IsFetchFault error.Memory OfStores OfUpdate = Unit {0}
+
+-- the same for a package, of which an update may ask for so many pages, by what may be said where a decision is asked
+abbrev pub IsPackageFault : {T : Type 0} → FetchError → (StoreError → Type 0) → Accepts → (Bool → Bool) → ℕ
+    → (Registry → Asker) → Known → List ℕ → (T → Asked → T → Type 0) → Transcript T → Transcript T → Type 0
+IsPackageFault e OfStores accepts said limit asker known name Steps begun now = IsFetchFault e OfStores
+    (λ refusal. IsUpdateRefusal refusal (package_log_id name ∷ []) accepts said limit (asker (registry_of known name))
+    (start_of known (registry_of known name) name) Steps begun now)

@@ -1,16 +1,14 @@
 //! A package that is updated by what stores hold, and what the update proved kept.
 
-ghost use Rattle.std.specs.Prelude.{◌≡◌, ◌≤◌, ◌∷◌, [], List, Err, IfOk, IfErr, OnErr, OnOk};
+ghost use Rattle.std.specs.Prelude.{◌≡◌, ◌≤◌, List, Err, IfOk, IfErr, OnErr, OnOk};
 ghost use Rattle.warg_values.specs.Faults.{Rose};
-ghost use Rattle.warg_hash.specs.Hash.{package_log_id};
 ghost use Rattle.warg_exchange.specs.declared.exchange.Exchange.{Exchange as Said};
 ghost use Rattle.warg_api.specs.Asking.{asker};
 ghost use Rattle.warg_session.specs.Recording.{link_of, transcript};
-ghost use Rattle.warg_session.specs.Updating.{IsBegun, IsUpdateRefusal, LeavesPages};
 ghost use Rattle.warg_session.specs.declared.error.UpdateRefusal.TheVariants.{LinkFault as IsLinkFault};
-ghost use Rattle.warg_assemble.specs.Known.{Known, registry_of};
-ghost use Rattle.warg_assemble.specs.Parts.{Updated, known_after, start_of};
-ghost use Rattle.warg_fetch.specs.Fetched.{IsFetchFault, IsFetched, IsSoundUpdate, update_of};
+ghost use Rattle.warg_assemble.specs.Known.{Known};
+ghost use Rattle.warg_assemble.specs.Parts.{Updated, known_after};
+ghost use Rattle.warg_fetch.specs.Fetched.{IsFetchBegun, IsPackageFault, IsPackageFetched, IsSoundUpdate, loads, update_of};
 ghost use Rattle.warg_fetch.specs.Kept.{IsStoresFault, LeavesPackage};
 ghost use Rattle.warg_fetch.specs.Stored.{IsOwnStore, IsReadable, Knows};
 ghost use Rattle.warg_fetch.specs.declared.error.FetchError.TheVariants.{Update as IsUpdateFault};
@@ -46,13 +44,10 @@ impl<V: Verifier> Fetcher<'_, V> {
         ensures link_fault { (result ≡ Err (IsUpdateFault IsLinkFault))
             → Rose (L.faults (link_of link.old)) (L.faults (link_of link.new)) }
         ensures names_kept { N.told namespaces.new ≡ N.told namespaces.old }
-        ensures name { IfOk result (λ got. (known : Known)
-            → Knows (V.good self.now.verifier.now) (R.told registries.old) (N.told namespaces.old) known
-            → got.info.name ≡ name.now) }
         ensures fetched { IfOk result (λ got. (known : Known)
             → Knows (V.good self.now.verifier.now) (R.told registries.old) (N.told namespaces.old) known
-            → (xs : List Said) × IsFetched (V.good self.now.verifier.now) (asker self.now.client.now) known L.Steps
-            (transcript L.told link.old) (transcript L.told link.new) (update_of got xs)) }
+            → IsPackageFetched (V.good self.now.verifier.now) (asker self.now.client.now) known name.now
+            self.now.settings.round_limit L.Steps (transcript L.told link.old) (transcript L.told link.new) got) }
         ensures knows { IfOk result (λ got. (known : Known)
             → Knows (V.good self.now.verifier.now) (R.told registries.old) (N.told namespaces.old) known
             → (xs : List Said)
@@ -67,38 +62,23 @@ impl<V: Verifier> Fetcher<'_, V> {
             → IsOwnStore (V.good self.now.verifier.now) (R.told registries.new) }
         ensures readable { OnOk result (IsReadable (R.told registries.old) → IsReadable (R.told registries.new)) }
         ensures sound { IfOk result IsSoundUpdate }
-        ensures pages { IfOk result (λ got. (known : Known)
-            → Knows (V.good self.now.verifier.now) (R.told registries.old) (N.told namespaces.old) known
-            → LeavesPages (asker self.now.client.now (registry_of known name.now)) (transcript L.told link.old)
-            (transcript L.told link.new) self.now.settings.round_limit got.pages_left) }
         ensures unasked { OnOk result ((known : Known)
             → Knows (V.good self.now.verifier.now) (R.told registries.old) (N.told namespaces.old) known
             → decide.new ≡ decide.old) }
         ensures begun { (known : Known)
             → Knows (V.good self.now.verifier.now) (R.told registries.old) (N.told namespaces.old) known
-            → IsBegun (asker self.now.client.now (registry_of known name.now))
-            (start_of known (registry_of known name.now) name.now)
-            (transcript L.told link.old) (transcript L.told link.new) }
+            → IsFetchBegun (asker self.now.client.now) known name.now (transcript L.told link.old)
+            (transcript L.told link.new) }
         ensures cause { IfErr result (λ e. (known : Known)
             → Knows (V.good self.now.verifier.now) (R.told registries.old) (N.told namespaces.old) known
-            → IsFetchFault e
+            → IsPackageFault e
             (λ e. IsStoresFault (V.good self.now.verifier.now) (asker self.now.client.now) known name.now L.Steps
             (transcript L.told link.old) (transcript L.told link.new) e
-            (record {
-              before = R.faults registries.old;
-              after = R.faults registries.new;
-              told = R.told registries.old;
-            })
-            (record {
-              before = N.faults namespaces.old;
-              after = N.faults namespaces.new;
-              told = N.told namespaces.old;
-            }))
-            (λ e. IsUpdateRefusal e (package_log_id name.now ∷ []) (V.good self.now.verifier.now)
-            (D.said decide.old decide.new) self.now.settings.round_limit
-            (asker self.now.client.now (registry_of known name.now))
-            (start_of known (registry_of known name.now) name.now) L.Steps
-            (transcript L.told link.old) (transcript L.told link.new))) }
+            (loads (R.faults registries.old) (R.faults registries.new) (R.told registries.old))
+            (loads (N.faults namespaces.old) (N.faults namespaces.new) (N.told namespaces.old)))
+            (V.good self.now.verifier.now) (D.said decide.old decide.new) self.now.settings.round_limit
+            (asker self.now.client.now) known name.now L.Steps (transcript L.told link.old)
+            (transcript L.told link.new)) }
     {
         let update = self.update_package(alloc, link, registries, namespaces, decide, name)?;
         keep_update(alloc, registries, &update)?;

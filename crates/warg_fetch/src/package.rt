@@ -1,20 +1,18 @@
 //! The update of a package by what stores hold.
 
-ghost use Rattle.std.specs.Prelude.{◌≡◌, ◌≤◌, ◌∷◌, [], List, Some, Err, IfOk, IfErr, IfSome, OnOk};
+ghost use Rattle.std.specs.Prelude.{◌≡◌, ◌≤◌, List, Some, Err, IfOk, IfErr, IfSome, OnOk};
 ghost use Rattle.warg_values.specs.Faults.{Rose};
-ghost use Rattle.warg_hash.specs.Hash.{package_log_id};
 ghost use Rattle.warg_log.specs.Rules.{Accepts};
 ghost use Rattle.warg_exchange.specs.declared.exchange.Exchange.{Exchange as Said};
 ghost use Rattle.warg_api.specs.Asking.{asker};
 ghost use Rattle.warg_page.specs.Steps.{AreGood, IsGoodOperator};
 ghost use Rattle.warg_page.specs.Views.{AreSound, logs_view};
 ghost use Rattle.warg_session.specs.Recording.{link_of, transcript};
-ghost use Rattle.warg_session.specs.Updating.{IsBegun, IsUpdateRefusal, LeavesPages};
 ghost use Rattle.warg_session.specs.declared.error.UpdateRefusal.TheVariants.{LinkFault as IsLinkFault};
 ghost use Rattle.warg_store.specs.Held.{Tells};
 ghost use Rattle.warg_assemble.specs.Known.{Known, registry_of};
-ghost use Rattle.warg_assemble.specs.Parts.{logs_of, start_of};
-ghost use Rattle.warg_fetch.specs.Fetched.{IsFetchFault, IsFetched, IsGoodUpdate, IsOpeningFault, IsSingle, IsSoundUpdate, update_of, writes_in};
+ghost use Rattle.warg_assemble.specs.Parts.{logs_of};
+ghost use Rattle.warg_fetch.specs.Fetched.{IsFetchBegun, IsGoodUpdate, IsOpeningFault, IsPackageFault, IsPackageFetched, IsSingle, IsSoundUpdate, loads, update_of, writes_in};
 ghost use Rattle.warg_fetch.specs.Stored.{Knows};
 ghost use Rattle.warg_fetch.specs.Writes.{writes_of};
 ghost use Rattle.warg_fetch.specs.declared.error.FetchError.TheVariants.{Update as IsUpdateFault};
@@ -128,49 +126,31 @@ impl<V: Verifier> Fetcher<'_, V> {
             → Rose (L.faults (link_of link.old)) (L.faults (link_of link.new)) }
         ensures kept { IfSome (R.told registries.old) (Tells (R.told registries.new)) }
         ensures names_kept { N.told namespaces.new ≡ N.told namespaces.old }
-        ensures name { IfOk result (λ got. (known : Known)
-            → Knows (V.good self.now.verifier.now) (R.told registries.old) (N.told namespaces.old) known
-            → got.info.name ≡ name.now) }
         ensures fetched { IfOk result (λ got. (known : Known)
             → Knows (V.good self.now.verifier.now) (R.told registries.old) (N.told namespaces.old) known
-            → (xs : List Said) × IsFetched (V.good self.now.verifier.now) (asker self.now.client.now) known L.Steps
-            (transcript L.told link.old) (transcript L.told link.new) (update_of got xs)) }
+            → IsPackageFetched (V.good self.now.verifier.now) (asker self.now.client.now) known name.now
+            self.now.settings.round_limit L.Steps (transcript L.told link.old) (transcript L.told link.new) got) }
         ensures writes { IfOk result (λ got. (xs : List Said) → writes_in got ≡ writes_of (update_of got xs)) }
         ensures sound { IfOk result IsSoundUpdate }
         ensures good { IfOk result (λ got. (known : Known)
             → Knows (V.good self.now.verifier.now) (R.told registries.old) (N.told namespaces.old) known
             → IsGoodUpdate (V.good self.now.verifier.now) got) }
-        ensures pages { IfOk result (λ got. (known : Known)
-            → Knows (V.good self.now.verifier.now) (R.told registries.old) (N.told namespaces.old) known
-            → LeavesPages (asker self.now.client.now (registry_of known name.now)) (transcript L.told link.old)
-            (transcript L.told link.new) self.now.settings.round_limit got.pages_left) }
         ensures unasked { OnOk result ((known : Known)
             → Knows (V.good self.now.verifier.now) (R.told registries.old) (N.told namespaces.old) known
             → decide.new ≡ decide.old) }
         ensures begun { (known : Known)
             → Knows (V.good self.now.verifier.now) (R.told registries.old) (N.told namespaces.old) known
-            → IsBegun (asker self.now.client.now (registry_of known name.now))
-            (start_of known (registry_of known name.now) name.now)
-            (transcript L.told link.old) (transcript L.told link.new) }
+            → IsFetchBegun (asker self.now.client.now) known name.now (transcript L.told link.old)
+            (transcript L.told link.new) }
         ensures cause { IfErr result (λ e. (known : Known)
             → Knows (V.good self.now.verifier.now) (R.told registries.old) (N.told namespaces.old) known
-            → IsFetchFault e
+            → IsPackageFault e
             (λ e. IsOpeningFault e (registry_of known name.now)
-            (record {
-              before = R.faults registries.old;
-              after = R.faults registries.new;
-              told = R.told registries.old;
-            })
-            (record {
-              before = N.faults namespaces.old;
-              after = N.faults namespaces.new;
-              told = N.told namespaces.old;
-            }))
-            (λ e. IsUpdateRefusal e (package_log_id name.now ∷ []) (V.good self.now.verifier.now)
-            (D.said decide.old decide.new) self.now.settings.round_limit
-            (asker self.now.client.now (registry_of known name.now))
-            (start_of known (registry_of known name.now) name.now) L.Steps
-            (transcript L.told link.old) (transcript L.told link.new))) }
+            (loads (R.faults registries.old) (R.faults registries.new) (R.told registries.old))
+            (loads (N.faults namespaces.old) (N.faults namespaces.new) (N.told namespaces.old)))
+            (V.good self.now.verifier.now) (D.said decide.old decide.new) self.now.settings.round_limit
+            (asker self.now.client.now) known name.now L.Steps (transcript L.told link.old)
+            (transcript L.told link.new)) }
     {
         let start = load_start(alloc, registries, namespaces, name)?;
         let registry = domain_copy(alloc, &start.registry)?;

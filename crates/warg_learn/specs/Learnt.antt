@@ -12,9 +12,9 @@ use Rattle.warg_assemble.specs.Session.{Serves}
 use Rattle.warg_learn.specs.Seen.{Seen, IsKnown, IsSame, NeverFalls, ReadsStores}
 
 -- how many pages of logs a part asked for
-abbrev pub pages_in : (Registry → Asker) → Part → ℕ
-pages_in asker (Updated u) = pages_asked (asker u.registry) u.exchanges
-pages_in asker (Loaded l) = 0
+abbrev pub pages_of_part : (Registry → Asker) → Part → ℕ
+pages_of_part asker (Updated u) = pages_asked (asker u.registry) u.exchanges
+pages_of_part asker (Loaded l) = 0
 
 module _ {T D : Type 0} (Steps : T → Asked → T → Type 0) (Reads : Content → Type 0) where
   -- A part gives what was asked for, and is right by what is known; its exchanges were kept; and just what it teaches
@@ -24,7 +24,7 @@ module _ {T D : Type 0} (Steps : T → Asked → T → Type 0) (Reads : Content 
     pub is : IsPart old.accepts old.asker Reads known p
     pub kept : AreKept Steps old.transcript (exchanges_in p) new.transcript
     pub knows : IsKnown new (known_after known p)
-    pub pages : new.pages_left + pages_in old.asker p ≡ old.pages_left
+    pub pages : new.pages_left + pages_of_part old.asker p ≡ old.pages_left
     pub undecided : new.decider ≡ old.decider
 
   -- A learner was asked for this, and has learnt it by this part. Stores that can be read still can.

@@ -81,7 +81,7 @@ module _ {T D : Type 0} where
     pub contents : KnowsContents s.contents known
     pub updated : (name : List ℕ) → updated_under known name ≡ updated_in s name
 
-  -- each entry that its stores of registries and of names hold can be read
+  -- the operators, the checkpoints and the names that its stores hold can be read
   pub record ReadsStores (s : Seen T D) : Type 0 where
     pub registries : IsReadable s.registries
     pub names : IfSome s.names CanBeRead

@@ -23,7 +23,7 @@ pub returns-in_err-keep_update-clause-held : goal.returns-in_err-keep_update-cla
 returns-in_err-keep_update-clause-held g c =
     let q = err_from_is_err_and c.from_residual-in_err-keep_update.result c.from_residual-in_err-keep_update.ensures.1 in
     let got = c.in_ok-update.ensures in
-    rw q.1 (λ known k. unkept_leaves _ (asker c.args.self.now.client.now) known c.args.name.now g.L.Link.Steps _ _ _ _ _ _ k c.in_ok-update.update c.update_package.ensures.kept (got.name known k) (got.fetched known k) got.writes
+    rw q.1 (λ known k. unkept_leaves _ (asker c.args.self.now.client.now) known c.args.name.now g.L.Link.Steps _ _ _ _ _ _ k c.in_ok-update.update c.update_package.ensures.kept (got.fetched known k).named ((got.fetched known k).exchanges, (got.fetched known k).fetched) got.writes
     c.in_err-keep_update.ensures.refused)
 
 pub returns-in_err-keep_update-clause-own : goal.returns-in_err-keep_update-clause-own
@@ -35,8 +35,8 @@ pub returns-in_err-keep_update-clause-cause : goal.returns-in_err-keep_update-cl
 returns-in_err-keep_update-clause-cause g c =
     let q = err_from_is_err_and c.from_residual-in_err-keep_update.result c.from_residual-in_err-keep_update.ensures.1 in
     let got = c.in_ok-update.ensures in
-    rw (q.1, q.2) (λ known k. unkept_cause _ (asker c.args.self.now.client.now) known c.args.name.now g.L.Link.Steps _ _ c.in_err-keep_update.field-0.0 _ _ _ _ c.in_ok-update.update c.update_package.ensures.registries_never_fall (got.name known k)
-    (got.fetched known k) c.in_err-keep_update.ensures.fault)
+    rw (q.1, q.2) (λ known k. unkept_cause _ (asker c.args.self.now.client.now) known c.args.name.now g.L.Link.Steps _ _ c.in_err-keep_update.field-0.0 _ _ _ _ c.in_ok-update.update c.update_package.ensures.registries_never_fall (got.fetched known k).named
+    ((got.fetched known k).exchanges, (got.fetched known k).fetched) c.in_err-keep_update.ensures.fault)
 
 pub returns-clause-knows : goal.returns-clause-knows
 returns-clause-knows g c = λ known k xs.

@@ -28,31 +28,22 @@ returns-in_err-package_update-clause-begun g c = λ known k.
     let start = c.in_ok-start.ensures in
     begun_by (asker c.args.self.now.client.now) known _ _ c.in_ok-start.start.registry _ c.args.name.now _ (start.registry known k.registries k.namespaces) (start.begins known k.registries) (c.run_update.ensures.begun (start.good _ k.own))
 
-pub returns-clause-name : goal.returns-clause-name
-returns-clause-name g c = λ known k.
-    let start = c.in_ok-start.ensures in
-    let proved = c.in_ok-updated.updated.proved in
-    named_by _ (asker c.args.self.now.client.now) known _ _ _ c.in_ok-start.start.registry c.in_ok-start.start.registry c.args.name.now _ c.in_ok-package_update.field-0 proved.operator proved.packages.items proved.checkpoint (start.begins known k.registries) c.in_ok-package_update.ensures.logs (c.in_ok-updated.ensures.proves (start.good _ k.own))
-
 pub returns-clause-fetched : goal.returns-clause-fetched
 returns-clause-fetched g c = λ known k.
     let start = c.in_ok-start.ensures in
     let proved = c.in_ok-updated.updated.proved in
-    let p = c.in_ok-updated.ensures.proves (start.good _ k.own) in (
-      p.exchanges,
-      fetched_by _ (asker c.args.self.now.client.now) known _ _ _ c.in_ok-registry.registry c.in_ok-start.start.registry c.args.name.now _ c.in_ok-package_update.field-0 proved.operator proved.packages.items proved.checkpoint c.in_ok-registry.ensures (start.registry known k.registries k.namespaces)
-          c.in_ok-package_update.ensures.registry c.in_ok-package_update.ensures.checkpoint (start.begins known k.registries) c.in_ok-package_update.ensures.logs p,
-    )
+    let p = c.in_ok-updated.ensures.proves (start.good _ k.own) in record {
+      named = named_by _ (asker c.args.self.now.client.now) known _ _ _ c.in_ok-start.start.registry c.in_ok-start.start.registry c.args.name.now _ c.in_ok-package_update.field-0 proved.operator proved.packages.items proved.checkpoint (start.begins known k.registries) c.in_ok-package_update.ensures.logs p;
+      exchanges = p.exchanges;
+      fetched = fetched_by _ (asker c.args.self.now.client.now) known _ _ _ c.in_ok-registry.registry c.in_ok-start.start.registry c.args.name.now _ c.in_ok-package_update.field-0 proved.operator proved.packages.items proved.checkpoint c.in_ok-registry.ensures (start.registry known k.registries k.namespaces)
+          c.in_ok-package_update.ensures.registry c.in_ok-package_update.ensures.checkpoint (start.begins known k.registries) c.in_ok-package_update.ensures.logs p;
+      pages = rw c.in_ok-package_update.ensures.pages (pages_by (asker c.args.self.now.client.now) known (transcript g.L.Link.told c.args.link.now) (transcript g.L.Link.told c.run_update.new.link) c.in_ok-start.start.registry _ c.args.name.now (start_view c.in_ok-start.start) _ _ (start.registry known k.registries k.namespaces) (c.in_ok-updated.ensures.pages (start.good _ k.own)));
+    }
 
 pub returns-clause-good : goal.returns-clause-good
 returns-clause-good g c = λ known k.
     let are = c.in_ok-updated.ensures.good (c.in_ok-start.ensures.good _ k.own) in
     c.in_ok-package_update.ensures.good _ are.0 are.1
-
-pub returns-clause-pages : goal.returns-clause-pages
-returns-clause-pages g c = λ known k.
-    let start = c.in_ok-start.ensures in
-    rw c.in_ok-package_update.ensures.pages (pages_by (asker c.args.self.now.client.now) known (transcript g.L.Link.told c.args.link.now) (transcript g.L.Link.told c.run_update.new.link) c.in_ok-start.start.registry _ c.args.name.now (start_view c.in_ok-start.start) _ _ (start.registry known k.registries k.namespaces) (c.in_ok-updated.ensures.pages (start.good _ k.own)))
 
 pub returns-clause-unasked : goal.returns-clause-unasked
 returns-clause-unasked g c = λ known k. c.in_ok-updated.ensures.unasked (c.in_ok-start.ensures.good _ k.own)

@@ -24,8 +24,8 @@ returns-in_err-releases-clause-refused g c =
     rw (q.1, q.2) (log_forgotten _ _ _ _ _ _ c.in_ok-update.update
     (record {
       way = under_way _ _ _ _ refl refl refl fetch.names_kept fetch.link_never_falls fetch.registries_never_fall refl fetch.names_never_fall fetch.own fetch.begun;
-      named = got.name;
-      fetched = got.fetched;
+      named = λ known k. (got.fetched known k).named;
+      fetched = λ known k. ((got.fetched known k).exchanges, (got.fetched known k).fetched);
       knows = got.knows;
     })
     refl)
@@ -38,8 +38,8 @@ returns-in_err-note_registry-clause-refused g c =
     rw (q.1, q.2) (log_forgotten _ _ _ _ _ _ c.in_ok-update.update
     (record {
       way = under_way _ _ _ _ refl refl refl fetch.names_kept fetch.link_never_falls fetch.registries_never_fall refl fetch.names_never_fall fetch.own fetch.begun;
-      named = got.name;
-      fetched = got.fetched;
+      named = λ known k. (got.fetched known k).named;
+      fetched = λ known k. ((got.fetched known k).exchanges, (got.fetched known k).fetched);
       knows = got.knows;
     })
     c.in_err-note_registry.ensures.unchanged)
@@ -51,8 +51,8 @@ returns-clause-learnt g c =
     log_learnt _ _ _ _ _ c.in_ok-update.update _
     (record {
       way = under_way _ _ _ _ refl refl refl fetch.names_kept fetch.link_never_falls fetch.registries_never_fall refl fetch.names_never_fall fetch.own fetch.begun;
-      named = got.name;
-      fetched = got.fetched;
+      named = λ known k. (got.fetched known k).named;
+      fetched = λ known k. ((got.fetched known k).exchanges, (got.fetched known k).fetched);
       knows = got.knows;
     })
-    (c.in_ok-releases.ensures got.sound.info) got.pages got.unasked got.readable c.in_ok-key.key c.in_ok-key.ensures c.in_ok-note_registry.ensures.noted.0
+    (c.in_ok-releases.ensures got.sound.info) (λ known k. (got.fetched known k).pages) got.unasked got.readable c.in_ok-key.key c.in_ok-key.ensures c.in_ok-note_registry.ensures.noted.0
