@@ -6,7 +6,7 @@ use Rattle.compose_config.specs.Plan.{Settings}
 use Rattle.warg_exchange.specs.declared.exchange.Exchange.{Exchange}
 use Rattle.warg_exchange.specs.Requests.{Asker}
 use Rattle.warg_log.specs.Rules.{Accepts}
-use Rattle.warg_api.specs.Link.{Asked, Exchanges}
+use Rattle.warg_api.specs.Link.{Asked}
 use Rattle.warg_session.specs.Recording.{Transcript, AreKept}
 use Rattle.warg_session.specs.RecordingLaws.{none_kept}
 use Rattle.warg_plan.specs.Walk.{Content, Entry, Facts, Stop, nothing_known}

@@ -1,5 +1,5 @@
 -- That over a link which gives the replies of a session nothing that comes is refused.
-use Rattle.std.proofs.Common.{◌≡◌, ◌≢◌, ◌⊎◌, ◌<◌, ◌∷◌, [], ℕ, zero, suc, arith, List, Bool, true, false, Option, Some, None, IfSome, inl, inr, refl, sym, ◌∙◌, ap, subst}
+use Rattle.std.proofs.Common.{◌≡◌, ◌≢◌, ◌<◌, ◌∷◌, [], ℕ, zero, suc, arith, List, Bool, true, Option, Some, None, IfSome, inl, inr, refl, sym, ◌∙◌, ap, subst}
 use Rattle.std.specs.Prelude.{option_map, slice_get}
 use Rattle.sha2.specs.Sha256.{sha256}
 use Rattle.comp_entity.specs.Entity.{ShapeTree}

@@ -15,7 +15,7 @@ use Rattle.warg_assemble.specs.Session.{Wanted, Serves}
 use Rattle.warg_search.specs.Search.{AsksFor, Finds, IsSearchRefusal}
 use Rattle.warg_search.specs.declared.error.SearchError.{SearchError}
 use Rattle.warg_search.specs.declared.error.SearchError.TheVariants as search
-use Rattle.warg_learn.specs.Learnt.{IsLearnt, pages_in}
+use Rattle.warg_learn.specs.Learnt.{IsLearnt, pages_of_part}
 use Rattle.warg_learn.specs.Seen.{Seen}
 use Rattle.warg_learn.specs.Unlearnt.{IsUnlearnt}
 use Rattle.warg_learn.specs.declared.error.LearnError.{LearnError}
@@ -26,7 +26,7 @@ use Rattle.warg_error.specs.Plans.{learn_refusal, search_refusal}
 use Rattle.warg_error.specs.declared.error.ClientError.TheVariants as told
 use Rattle.warg_complete.specs.Sessions.{ProvesSession, IsFirstOf}
 use Rattle.warg_complete.specs.Refusals.{IsOwnUnlearnt, IsOwnSearchRefusal}
-use Rattle.warg_complete.specs.Undisturbed.{AreSteady, IsUndisturbed, IsUnreplied, pages_in_all, registry_in}
+use Rattle.warg_complete.specs.Undisturbed.{AreSteady, IsUndisturbed, IsUnreplied, pages_of_parts, registry_in}
 use Rattle.warg_complete.proofs.PartLaws.{PartLaws}
 use Rattle.warg_complete.proofs.LearntLaws.{OnePart, ReplyLaws, first-of, over, asked-next, part-right}
 use Rattle.warg_complete.proofs.FaultLaws.{FaultLaws, own-learn-fault}
@@ -98,10 +98,10 @@ module _ {T D : Type 0} (Steps : T → Asked → T → Type 0) (one : OnePart St
       enough : (next rest done all before old : ℕ) → all ≡ done + (next + rest) → before + done ≡ old → all ≤ old → next ≤ before
       enough next rest done all before old a b c = omega (arith, a, b, c)
 
-      pages : pages_in own.before.asker own.next ≤ own.before.pages_left
-      pages = subst (λ (a : Registry → Asker). pages_in a own.next ≤ own.before.pages_left) (sym then.asker)
-          (enough (pages_in old.asker own.next) (pages_in_all old.asker own.rest) (pages_in_all old.asker own.done) (pages_in_all old.asker parts) own.before.pages_left old.pages_left
-          (ap (pages_in_all old.asker) own.in_turn ∙ pages_both old.asker own.done (own.next ∷ own.rest)) then.pages calm.pages)
+      pages : pages_of_part own.before.asker own.next ≤ own.before.pages_left
+      pages = subst (λ (a : Registry → Asker). pages_of_part a own.next ≤ own.before.pages_left) (sym then.asker)
+          (enough (pages_of_part old.asker own.next) (pages_of_parts old.asker own.rest) (pages_of_parts old.asker own.done) (pages_of_parts old.asker parts) own.before.pages_left old.pages_left
+          (ap (pages_of_parts old.asker) own.in_turn ∙ pages_both old.asker own.done (own.next ∷ own.rest)) then.pages calm.pages)
 
       by : IsShort Steps own.before new (known_by known own.done) own.next e → (learn_refusal e ≡ told.Memory) ⊎ ((learn_refusal e ≡ told.LinkFault) × IsUnreplied parts old new Steps)
       by (inl memory) = inl memory

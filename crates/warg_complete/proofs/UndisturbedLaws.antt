@@ -1,10 +1,8 @@
 -- That where nothing stands in the way of a session, what is no reply's fault is told as want of memory.
-use Rattle.std.proofs.Common.{◌≡◌, ◌⊎◌, ◌+◌, ◌<◌, ◌≤◌, ◌++◌, ◌∷◌, [], ℕ, zero, suc, arith, List, Bool, true, false, Option, Some, None, IfSome, inl, inr, refl, sym, ◌∙◌, ap, subst, append_assoc}
+use Rattle.std.proofs.Common.{◌≡◌, ◌⊎◌, ◌+◌, ◌<◌, ◌≤◌, ◌++◌, ◌∷◌, [], ℕ, arith, List, true, Option, Some, IfSome, inl, inr, refl, sym, ◌∙◌, ap, subst, append_assoc}
 use Rattle.std.specs.List.{AllByRecursion, flat_map}
 use Rattle.std.specs.Prelude.{option_map}
-use Rattle.comp_shape.specs.Refusal.{IsRefused}
 use Rattle.comp_shape.specs.declared.error.ShapeError.{ShapeError}
-use Rattle.comp_shape.specs.declared.error.ShapeError.TheVariants as shape
 use Rattle.warg_values.specs.Faults.{Rose}
 use Rattle.warg_exchange.specs.declared.exchange.Exchange.{Exchange}
 use Rattle.warg_exchange.specs.Requests.{Asker}
@@ -20,11 +18,10 @@ use Rattle.warg_store.specs.Held.{Held, Registry}
 use Rattle.warg_store.specs.declared.error.EntryKind.{EntryKind}
 use Rattle.warg_store.specs.declared.error.StoreError.{StoreError}
 use Rattle.warg_store.specs.declared.error.StoreError.TheVariants as store
-use Rattle.warg_plan.specs.Walk.{Facts, nothing_known}
-use Rattle.warg_assemble.specs.Known.{Known, registry_of}
-use Rattle.warg_assemble.specs.Parts.{Load, Loaded, Part, Update, Updated, exchanges_in, known_after, known_by, learnt}
+use Rattle.warg_plan.specs.Walk.{Facts}
+use Rattle.warg_assemble.specs.Known.{Known}
+use Rattle.warg_assemble.specs.Parts.{Load, Loaded, Part, Update, Updated, exchanges_in, known_after, learnt}
 use Rattle.warg_assemble.specs.Session.{Wanted}
-use Rattle.warg_fetch.specs.Fetched.{Loads, IsLookupFault, IsStartFault}
 use Rattle.warg_fetch.specs.Kept.{IsStoresFault}
 use Rattle.warg_fetch.specs.Stored.{CanBeRead}
 use Rattle.warg_fetch.specs.declared.error.FetchError.{FetchError}
@@ -32,20 +29,20 @@ use Rattle.warg_fetch.specs.declared.error.FetchError.TheVariants as fetch
 use Rattle.warg_fetch.specs.declared.error.LoadError.{LoadError}
 use Rattle.warg_fetch.specs.declared.error.LoadError.TheVariants as load
 use Rattle.warg_search.specs.Search.{AreLearnt}
-use Rattle.warg_learn.specs.Learnt.{IsLearnt, pages_in}
-use Rattle.warg_learn.specs.Seen.{Seen, IsKnown, NeverFalls, ReadsStores, registry_loads, name_loads}
+use Rattle.warg_learn.specs.Learnt.{IsLearnt, pages_of_part}
+use Rattle.warg_learn.specs.Seen.{Seen, IsKnown, ReadsStores, registry_loads, name_loads}
 use Rattle.warg_learn.specs.Unlearnt.{is_link_fault}
 use Rattle.warg_learn.specs.declared.error.LearnError.{LearnError}
 use Rattle.warg_learn.specs.declared.error.LearnError.TheVariants as error
 use Rattle.warg_compose.specs.Read.{IsComponent}
 use Rattle.warg_course.specs.Refusals.{IsUnanswered, IsOwnFault}
-use Rattle.warg_error.specs.Calls.{call_refusal, load_refusal, store_refusal}
+use Rattle.warg_error.specs.Calls.{store_refusal}
 use Rattle.warg_error.specs.Plans.{learn_refusal, shape_refusal}
-use Rattle.warg_error.specs.Updates.{fetch_refusal, reply_refusal, update_refusal}
+use Rattle.warg_error.specs.Updates.{reply_refusal}
 use Rattle.warg_error.specs.declared.error.ClientError.TheVariants as told
 use Rattle.warg_complete.specs.Refusals.{IsOwnUpdateRefusal, IsOwnFetchFault, IsOwnLoadFault, IsOwnLearnFault}
 use Rattle.warg_complete.specs.ExchangeLaws.{exchanges_both}
-use Rattle.warg_complete.specs.Undisturbed.{AreSteady, pages_in_all, registry_in}
+use Rattle.warg_complete.specs.Undisturbed.{AreSteady, pages_of_parts, registry_in}
 
 -- ---- stores
 
@@ -101,18 +98,18 @@ module _ {T D : Type 0} (Steps : T → Asked → T → Type 0) (old new : Seen T
 
     -- ---- a part
 
-    update_short : (u : Update) (e : UpdateRefusal) → CanAsk (old.asker u.registry) → pages_in old.asker (Updated u) ≤ old.pages_left → IsOwnUpdateRefusal Steps old new known u e → IsShort (Updated u) (error.Fetch (fetch.Update e))
+    update_short : (u : Update) (e : UpdateRefusal) → CanAsk (old.asker u.registry) → pages_of_part old.asker (Updated u) ≤ old.pages_left → IsOwnUpdateRefusal Steps old new known u e → IsShort (Updated u) (error.Fetch (fetch.Update e))
     update_short u (update.SameLog id) can pages own = absurd own
     update_short u update.LinkFault can pages own = inr (record { told_so = refl; counted = refl; unanswered = own })
     update_short u update.RoundLimit can pages own = absurd (none pages own)
       where
-        none : pages_in old.asker (Updated u) ≤ old.pages_left → old.pages_left < pages_in old.asker (Updated u) → ⊥
+        none : pages_of_part old.asker (Updated u) ≤ old.pages_left → old.pages_left < pages_of_part old.asker (Updated u) → ⊥
         none a b = omega (arith, a, b)
     update_short u update.BadHeader can pages own = absurd (own can)
     update_short u (update.Reply e) can pages own = inl (ap reply_refusal own)
     update_short u update.Memory can pages own = inl refl
 
-    fetch_short : (u : Update) (e : FetchError) → CanAsk (old.asker u.registry) → pages_in old.asker (Updated u) ≤ old.pages_left → IsOwnFetchFault Steps old new known u e → IsShort (Updated u) (error.Fetch e)
+    fetch_short : (u : Update) (e : FetchError) → CanAsk (old.asker u.registry) → pages_of_part old.asker (Updated u) ≤ old.pages_left → IsOwnFetchFault Steps old new known u e → IsShort (Updated u) (error.Fetch e)
     fetch_short u (fetch.Store e) can pages own = inl (ap store_refusal (stores_short e u.name own))
     fetch_short u (fetch.Update e) can pages own = update_short u e can pages own
     fetch_short u fetch.Memory can pages own = inl refl
@@ -131,7 +128,7 @@ module _ {T D : Type 0} (Steps : T → Asked → T → Type 0) (old new : Seen T
     load_is_short l (load.Call e) can own = call_short l e can own
     load_is_short l load.Memory can own = inl refl
 
-    pub part_short : (p : Part) (e : LearnError ShapeError) → CanAsk (old.asker (registry_in p)) → pages_in old.asker p ≤ old.pages_left → IsOwnLearnFault Steps old new known p e → IsShort p e
+    pub part_short : (p : Part) (e : LearnError ShapeError) → CanAsk (old.asker (registry_in p)) → pages_of_part old.asker p ≤ old.pages_left → IsOwnLearnFault Steps old new known p e → IsShort p e
     part_short (Updated u) (error.Fetch e) can pages own = fetch_short u e can pages own
     part_short (Updated u) (error.Load e) can pages own = absurd own
     part_short (Updated u) (error.Content e) can pages own = absurd own
@@ -147,11 +144,11 @@ pub all_at : {X : Type 0} (P : X → Type 0) (done rest : List X) (x : X) → Al
 all_at P [] rest x all = all.0
 all_at P (y ∷ done) rest x all = all_at P done rest x all.1
 
-pub pages_both : (asker : Registry → Asker) (done rest : List Part) → pages_in_all asker (done ++ rest) ≡ pages_in_all asker done + pages_in_all asker rest
+pub pages_both : (asker : Registry → Asker) (done rest : List Part) → pages_of_parts asker (done ++ rest) ≡ pages_of_parts asker done + pages_of_parts asker rest
 pages_both asker [] rest = omega arith
 pages_both asker (p ∷ done) rest =
     let more = pages_both asker done rest in
-    sum (pages_in asker p) (pages_in_all asker (done ++ rest)) (pages_in_all asker done) (pages_in_all asker rest) more
+    sum (pages_of_part asker p) (pages_of_parts asker (done ++ rest)) (pages_of_parts asker done) (pages_of_parts asker rest) more
   where
     sum : (a b c d : ℕ) → b ≡ c + d → a + b ≡ (a + c) + d
     sum a b c d e = omega (arith, e)
@@ -186,7 +183,7 @@ module _ {T D : Type 0} (Steps : T → Asked → T → Type 0) (w : Wanted) wher
     pub names : old.faults.names ≤ now.faults.names
     pub link : old.faults.link ≤ now.faults.link
     pub reads : ReadsStores old → ReadsStores now
-    pub pages : now.pages_left + pages_in_all old.asker done ≡ old.pages_left
+    pub pages : now.pages_left + pages_of_parts old.asker done ≡ old.pages_left
     pub passed : Exchanges Steps old.transcript.link (flat_map exchanges_in done) now.transcript.link
 
   pub behind : (f : Facts) (old now : Seen T D) (done : List Part) (known : Known) → IsKnown old known → AreLearnt w (IsLearnt Steps IsComponent) f old done now → IsBehind old now done
@@ -212,8 +209,8 @@ module _ {T D : Type 0} (Steps : T → Asked → T → Type 0) (w : Wanted) wher
         names = through old.faults.names are.0.faults.names now.faults.names learns.never_falls.names later.names;
         link = through old.faults.link are.0.faults.link now.faults.link learns.never_falls.link later.link;
         reads = λ r. later.reads (learns.reads r);
-        pages = sum now.pages_left (pages_in_all old.asker done) are.0.pages_left (pages_in old.asker p) old.pages_left
-            (subst (λ (a : Registry → Asker). now.pages_left + pages_in_all a done ≡ are.0.pages_left) learns.same.asker later.pages) right.pages;
+        pages = sum now.pages_left (pages_of_parts old.asker done) are.0.pages_left (pages_of_part old.asker p) old.pages_left
+            (subst (λ (a : Registry → Asker). now.pages_left + pages_of_parts a done ≡ are.0.pages_left) learns.same.asker later.pages) right.pages;
         passed = exchanges_both Steps old.transcript.link are.0.transcript.link now.transcript.link (exchanges_in p) (flat_map exchanges_in done) right.kept.passed later.passed;
       }
     where

@@ -8,7 +8,7 @@ use Rattle.warg_api.specs.Link.{Asked}
 use Rattle.warg_course.specs.Refusals.{IsUnanswered}
 use Rattle.warg_store.specs.Held.{Registry}
 use Rattle.warg_assemble.specs.Parts.{Loaded, Part, Updated, exchanges_in}
-use Rattle.warg_learn.specs.Learnt.{pages_in}
+use Rattle.warg_learn.specs.Learnt.{pages_of_part}
 use Rattle.warg_learn.specs.Seen.{Seen, ReadsStores}
 
 -- the registry that a part asks
@@ -17,9 +17,9 @@ registry_in (Updated u) = u.registry
 registry_in (Loaded l) = l.registry
 
 -- how many pages of logs these parts asked for
-abbrev pub pages_in_all : (Registry → Asker) → List Part → ℕ
-pages_in_all asker [] = 0
-pages_in_all asker (p ∷ ps) = pages_in asker p + pages_in_all asker ps
+abbrev pub pages_of_parts : (Registry → Asker) → List Part → ℕ
+pages_of_parts asker [] = 0
+pages_of_parts asker (p ∷ ps) = pages_of_part asker p + pages_of_parts asker ps
 
 module _ {T D : Type 0} (old new : Seen T D) where
   -- Between two moments no call of a store failed; and the operators and checkpoints that were held, and the names of
@@ -36,7 +36,7 @@ module _ {T D : Type 0} (parts : List Part) (old new : Seen T D) where
   pub record IsUndisturbed : Type 0 where
     pub stores : AreSteady old new
     pub can_ask : AllByRecursion (λ p. CanAsk (old.asker (registry_in p))) parts
-    pub pages : pages_in_all old.asker parts ≤ old.pages_left
+    pub pages : pages_of_parts old.asker parts ≤ old.pages_left
 
   -- the link gave no reply to a request of these parts, and has counted that
   pub record IsUnreplied (Steps : T → Asked → T → Type 0) : Type 0 where

@@ -1,5 +1,4 @@
 -- How a client tells the errors of URLs, of stores and of calls of a registry.
-use Rattle.std.specs.Prelude.{Bool, true, false, if◌then◌else◌}
 use Rattle.warg_api.specs.declared.error.ClientError.{ClientError as CallError}
 use Rattle.warg_api.specs.declared.error.ClientError.TheVariants as call
 use Rattle.warg_api.specs.declared.error.Other.{Other as CallOther}

@@ -47,7 +47,7 @@ fn unread(error: DeError) -> ClientError
 pub fn plan_text(alloc: Global, text: &str) -> Result<Config, ClientError>
     ensures read { IfOk result (λ config. IsPlanText text.now (settings_of config)) }
     ensures fault { IfErr result (λ e. IsTextFault e text.now) }
-    // Of a text there is one such plan, and it is refused for want of memory alone.
+    // A text has one configuration of which a plan is made, and where it has one it is refused for want of memory alone.
     ensures one { (s : Settings) → IsPlanText text.now s → IfOk result (λ config. settings_of config ≡ s) }
     ensures short { (s : Settings) → IsPlanText text.now s → IfErr result (λ e. e ≡ WantsMemory) }
 {

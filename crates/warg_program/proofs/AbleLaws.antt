@@ -1,18 +1,17 @@
 -- Where a command can do what it is for, only memory can be short.
-use Rattle.std.proofs.Common.{◌≡◌, ◌∙◌, inl, inr, refl, ap, sym, subst, ℕ, List, [], Some, None, Result, Ok, Err, IfSome, get_or}
+use Rattle.std.proofs.Common.{◌≡◌, ◌∙◌, inl, inr, ap, sym, subst, ℕ, List, None, Result, Ok, Err, IfSome}
 use Rattle.std.specs.List.Sorted.{IsPermutation}
 use Rattle.warg_values.specs.Faults.{Rose}
 use Rattle.warg_base.specs.Files.{file_at}
 use Rattle.comp_entity.specs.Entity.{ShapeTree}
 use Rattle.comp_shape.specs.Shape.{HasShape}
-use Rattle.warg_error.specs.declared.error.ClientError.{ClientError}
 use Rattle.warg_error.specs.declared.error.ClientError.TheVariants as error
 use Rattle.warg_exchange.specs.declared.exchange.Reply.{Reply}
 use Rattle.warg_recorded.specs.Files.{replies_in, signatures_in}
 use Rattle.warg_replay.specs.Replay.{IsReplayable, accepts_listed}
 use Rattle.warg_program.specs.Able.{CanAssemble, Has, IsAble}
 use Rattle.warg_program.specs.Assembly.{AtPlan, AtReplies, AtChecked, AtReplay, HasSources, IsAssemblyCause, IsOther, IsReplayCause, IsSourceCause, Listed}
-use Rattle.warg_program.specs.Command.{Asked, Assemble, Link, Sources, IsCommand}
+use Rattle.warg_program.specs.Command.{Assemble, Sources}
 use Rattle.warg_program.specs.Run.{Stops, IsShortOfMemory, IsStopped}
 use Rattle.warg_program.specs.World.{SeenFiles, World, HasFile, HasNoFile, IsUnfailing}
 use Rattle.warg_program.specs.declared.stop.Access.TheVariants as access

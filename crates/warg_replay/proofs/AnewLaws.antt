@@ -29,10 +29,10 @@ use Rattle.warg_compose.specs.Linked.{IsPlanLinked}
 use Rattle.warg_compose.specs.Read.{IsComponent}
 use Rattle.warg_error.specs.declared.error.ClientError.{ClientError}
 use Rattle.warg_error.specs.declared.error.ClientError.TheVariants as told
-use Rattle.warg_complete.specs.Undisturbed.{IsUnreplied, pages_in_all, registry_in}
+use Rattle.warg_complete.specs.Undisturbed.{IsUnreplied, pages_of_parts, registry_in}
 use Rattle.warg_client.specs.Complete.{IsValidCall}
 use Rattle.warg_client.specs.Assembled.{wanted, IsAssembleFault, IsPlanOfText}
-use Rattle.warg_replay.specs.Replay.{HaveNotFailed, AsksHome, IsAnew, IsRefused, IsReplayable, IsReplayed, nothing, says}
+use Rattle.warg_replay.specs.Replay.{HaveNotFailed, AsksHome, IsAnew, IsRefused, IsReplayable, IsReplayed, nothing, page_limit, says}
 
 absent_whole : {P : Type 0} (info : Info) → Absent ≡ Whole info → P
 absent_whole info e = cc
@@ -162,7 +162,7 @@ module _ (accepts : Accepts) (replies : List Reply) (text : List ℕ) (old new :
         reads = is.can_be_read;
       };
       can_ask = subst (λ (a : Registry → Asker). AllByRecursion (λ p. CanAsk (a (registry_in p))) r.parts) same_asks r.can_ask;
-      pages = subst (λ n. pages_in_all old.asker r.parts ≤ n) (sym is.pages) (subst (λ a. pages_in_all a r.parts ≤ 10000) same_asks r.pages);
+      pages = subst (λ n. pages_of_parts old.asker r.parts ≤ n) (sym is.pages) (subst (λ a. pages_of_parts a r.parts ≤ page_limit) same_asks r.pages);
     };
     linkable = r.linkable;
   }

@@ -29,7 +29,7 @@ use Rattle.warg_assemble.specs.Session.{walked, AreOnce, IsSession, IsPlanOf}
 use Rattle.warg_learn.specs.Seen.{Faults, Seen, IsKnown, ReadsStores}
 use Rattle.warg_compose.specs.Linked.{IsLinkable, IsPlanLinked}
 use Rattle.warg_compose.specs.Read.{IsComponent}
-use Rattle.warg_complete.specs.Undisturbed.{pages_in_all, registry_in}
+use Rattle.warg_complete.specs.Undisturbed.{pages_of_parts, registry_in}
 use Rattle.warg_error.specs.Text.{IsPlanText}
 use Rattle.warg_error.specs.declared.error.ClientError.{ClientError}
 use Rattle.warg_error.specs.declared.error.ClientError.TheVariants as error
@@ -74,8 +74,13 @@ pub record IsReplayed (accepts : Accepts) (replies : List Reply) (text : List �
   pub digests : AllByRecursion (λ e. sha256 e.content ≡ e.digest) entries
   pub linked : IsPlanLinked entries bytes
 
+-- how many pages may be asked for
+abbrev pub page_limit : ℕ
+page_limit = 10000
+
 -- A text is that of a plan that can be linked, which a session finds from nothing that was known, and the first replies
--- are those of the session. The names of its registries are values of headers, and it asks for at most 10,000 pages.
+-- are those of the session. The names of its registries are values of headers, and it asks for no more
+-- pages than may be asked for.
 pub record IsReplayable (accepts : Accepts) (replies : List Reply) (text : List ℕ) : Type 0 where
   pub settings : Settings
   pub reads : IsPlanText text settings
@@ -87,7 +92,7 @@ pub record IsReplayable (accepts : Accepts) (replies : List Reply) (text : List 
   pub finds : walked (wanted settings) (learnt_by nothing_known parts) ≡ Ok entries
   pub replied : AreRepliesOf (flat_map exchanges_in parts) replies
   pub can_ask : AllByRecursion (λ p. CanAsk (asks (registry_in p))) parts
-  pub pages : pages_in_all asks parts ≤ 10000
+  pub pages : pages_of_parts asks parts ≤ page_limit
   pub linkable : IsLinkable entries
 
 -- ---- the client
@@ -115,7 +120,7 @@ pub record IsAnew (accepts : Accepts) (replies : List Reply) (s : Seen Recorded 
   pub unasked : s.transcript.exchanges ≡ []
   pub link : s.transcript.link ≡ record { left = replies; asked = []; faults = 0 }
   pub knows : IsKnown s nothing
-  pub pages : s.pages_left ≡ 10000
+  pub pages : s.pages_left ≡ page_limit
   pub steady : HaveNotFailed s.faults
   pub can_be_read : ReadsStores s
 

@@ -17,6 +17,9 @@ use warg_log::ListedVerifier;
 use warg_plan::Plan;
 use warg_store::{MemoryContent, MemoryNamespaces, MemoryRegistry};
 
+/// How many pages of logs a replay may ask for.
+const PAGE_LIMIT: u64 = 10_000;
+
 /// A client that asks recorded replies, and keeps what it learns in memory.
 type RecordedClient = Client<
     RecordedLink,
@@ -61,7 +64,7 @@ fn client_over(
             disable_auto_accept_federation_hints: false,
             disable_auto_package_init: false,
             disable_interactive: false,
-            round_limit: 10_000,
+            round_limit: PAGE_LIMIT,
             polls: 0,
         },
     );

@@ -1,7 +1,7 @@
 use Rattle.std.proofs.Common.{Err, ◌≤◌, ◌^◌, ◌∙◌, ap, refl, subst, sym}
 use Rattle.comp_shape.specs.Refusal.{IsRefused}
-use Rattle.wasm_compose.specs.declared.error.ComponentError.TheVariants.{BadComponent}
-use Rattle.wasm_compose.specs.Component.{bytes_of, shape_of}
+use Rattle.compose_component.specs.declared.error.ComponentError.TheVariants.{BadComponent}
+use Rattle.compose_component.specs.Component.{bytes_of, shape_of}
 use Rattle.wasm_compose.specs.Link.{IsOfLink, link_exports}
 use Rattle.warg_program.proofs.link.linked.Goals as goal
 
