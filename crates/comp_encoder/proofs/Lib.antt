@@ -3,6 +3,7 @@ pub mod LargestLaws
 pub mod TypeLaws
 pub mod DeclLaws
 pub mod WritingLaws
+pub mod PlaceLaws
 pub mod SectionLaws
 pub mod KeepLaws
 pub mod RawLaws

@@ -1,8 +1,9 @@
--- What the builder keeps: each item as its bytes, and how many items each index space numbers.
-use Rattle.std.specs.Prelude.{◌≡◌, ℕ, ◌<◌, ◌^◌, false, List, [], ◌∷◌, length, map, slice_index, Result, Ok, Err, Some, None, ◌==◌, if◌then◌else◌}
+-- What the builder keeps: the bytes of all items with the place of each, and how many items each index space numbers.
+use Rattle.std.specs.Prelude.{◌≡◌, ℕ, ◌<◌, ◌^◌, false, List, [], ◌∷◌, length, map, take, drop, ◌+◌, slice_index, Result, Ok, Err, Some, None, ◌==◌, if◌then◌else◌}
 use Rattle.std.specs.List.{AllByRecursion}
-use Rattle.comp_encoder.specs.declared.built.Built.{Built}
-use Rattle.comp_encoder.specs.declared.built.Built.TheVariants as built
+use Rattle.comp_encoder.specs.declared.built.Kind.{Kind}
+use Rattle.comp_encoder.specs.declared.built.Kind.TheVariants as kind
+use Rattle.comp_encoder.specs.declared.built.Place.{Place}
 use Rattle.comp_format.specs.declared.types.Sort.{Sort}
 use Rattle.comp_format.specs.SectionIds as ids
 use Rattle.comp_format.specs.Fault.{Fault}
@@ -20,12 +21,19 @@ pub data Kept : Type 0 where
   Item : ℕ → List ℕ → Kept
   Whole : ℕ → List ℕ → Kept
 
-abbrev pub kept : Built → Kept
-kept (built.Item id bytes) = Item id bytes.items
-kept (built.Section id content) = Whole id content.items
+abbrev pub kept : Kind → List ℕ → Kept
+kept (kind.Item id) bytes = Item id bytes
+kept (kind.Section id) content = Whole id content
 
-abbrev pub kepts_of : List Built → List Kept
-kepts_of items = map kept items
+-- how many bytes some places have
+abbrev pub total_len : List Place → ℕ
+total_len [] = 0
+total_len (p ∷ places) = p.len + total_len places
+
+-- the bytes, cut at the places
+abbrev pub kepts_of : List Place → List ℕ → List Kept
+kepts_of [] bytes = []
+kepts_of (p ∷ places) bytes = kept p.kind (take p.len bytes) ∷ kepts_of places (drop p.len bytes)
 
 -- the item that was read
 abbrev pub read_as : {X : Type 0} → (X → ItemTree) → Result (X × List ℕ) Fault → ItemTree
@@ -87,6 +95,11 @@ pub record IsBuilt (kepts : List Kept) (counts : List ℕ) : Type 0 where
   pub counted : (kind : Sort) → slice_index counts (space_of kind) ≡ next_index kind (entries_of kepts)
   pub small : (kind : Sort) → slice_index counts (space_of kind) < 2 ^ 32
 
+-- the places are those of the bytes, and each index space is counted
+pub record IsHeld (places : List Place) (bytes counts : List ℕ) : Type 0 where
+  pub whole : total_len places ≡ length bytes
+  pub built : IsBuilt (kepts_of places bytes) counts
+
 -- the bytes that stand in a section
 abbrev pub kept_bytes : Kept → List ℕ
 kept_bytes (Item id bytes) = bytes
@@ -111,6 +124,18 @@ IsItem id (Whole i content) = ⊥
 abbrev pub EndsRun : ℕ → List Kept → Type 0
 EndsRun id [] = Unit {0}
 EndsRun id (k ∷ kepts) = ¬ IsItem id k
+
+-- the same of places
+abbrev pub IsItemKind : ℕ → Kind → Type 0
+IsItemKind id (kind.Item i) = i ≡ id
+IsItemKind id (kind.Section i) = ⊥
+
+abbrev pub IsOfItem : ℕ → Place → Type 0
+IsOfItem id p = IsItemKind id p.kind
+
+abbrev pub EndsItems : ℕ → List Place → Type 0
+EndsItems id [] = Unit {0}
+EndsItems id (p ∷ places) = ¬ IsOfItem id p
 
 -- all of these stand in one section
 abbrev pub IsRun : List Kept → Type 0

@@ -20,14 +20,14 @@ ghost use Rattle.comp_encoder.specs.Largest.{vector_largest, arg_largest, define
 ghost use Rattle.comp_encoder.specs.Writing.{Single, GivenSection, numbered, IsTooLongAmong, IsShort, items_of, described_sort, item_sort, sections_of, component_text, next_index};
 ghost use Rattle.comp_encoder.specs.Builder.{IsBytesOf, IsContent, IsContentOf, item_of, entries_of};
 
-use crate::built::Built;
+use crate::built::{Built, Kind};
 use crate::items::{
     encode_alias_export, encode_alias_outer, encode_component, encode_component_type,
     encode_core_module, encode_defined, encode_export, encode_function, encode_import,
     encode_instance, encode_instance_type, encode_resource,
 };
 use crate::raw::count_section;
-use crate::sections::write_sections;
+use crate::sections::{component_len, write_sections};
 use crate::spaces::{described_sort, space_of};
 use comp_format::section::{self, HEADER};
 use comp_format::{
@@ -36,18 +36,21 @@ use comp_format::{
 };
 use std::alloc::Global;
 use std::marker::Model;
-
-/// How many bytes a section takes beside its items, at most.
-const FRAME: usize = 11;
+use std::mem;
 
 /// Builds a component, item by item, and writes it.
 ///
 /// A clause sees what was added, in order, by the word `entries_of`. Each adder gives the new item's index in the
-/// index space of its sort, and a refusal adds nothing.
+/// index space of its sort, and a refusal adds nothing. An item of 2^32 bytes or more, which no section can hold, is
+/// refused by `Memory`.
+///
+/// The bytes of all items stand in one buffer, with eight bytes for the place of each.
 #[derive(Drop)]
 pub struct ComponentBuilder {
     /// What was added, in order.
-    items: Vec<Built>,
+    built: Built,
+    /// Where an item is written before it is added, so that not each takes memory of its own.
+    buffer: Vec<u8>,
     /// How many items each index space numbers.
     counts: [u32; 11],
 }
@@ -58,11 +61,11 @@ impl Model for ComponentBuilder {
 
     ghost Value = { List Kept };
 
-    ghost use Rattle.comp_encoder.specs.Builder.{kepts_of, IsBuilt};
+    ghost use Rattle.comp_encoder.specs.Builder.{kepts_of, IsHeld};
 
-    ghost view = { λ b. kepts_of b.items.items };
+    ghost view = { λ b. kepts_of b.built.places.items b.built.bytes.items };
 
-    ghost invariant = { λ b. IsBuilt (kepts_of b.items.items) b.counts };
+    ghost invariant = { λ b. IsHeld b.built.places.items b.built.bytes.items b.counts };
 }
 
 impl ComponentBuilder {
@@ -71,7 +74,8 @@ impl ComponentBuilder {
         ensures { entries_of result ≡ [] }
     {
         ComponentBuilder {
-            items: Vec::new(alloc),
+            built: Built::new(alloc),
+            buffer: Vec::new(alloc),
             counts: [0; 11],
         }
     }
@@ -89,8 +93,36 @@ impl ComponentBuilder {
         }
     }
 
+    /// The buffer for an item, which `add_written` brings back.
+    fn take_buffer(&mut self, alloc: Global) -> Vec<u8>
+        ensures { self.new ≡ self.old }
+    {
+        mem::replace(&mut self.buffer, Vec::new(alloc))
+    }
+
     /// Adds an item as its bytes, and counts it in the index space of its sort.
-    fn add(&mut self, id: u8, bytes: Vec<u8>, sort: Sort, size: u32) -> Result<(), EncodeError>
+    fn add(&mut self, id: u8, bytes: &[u8], sort: Sort, size: u32) -> Result<(), EncodeError>
+        requires bytes { IsBytesOf (item_of id bytes.now) id bytes.now }
+        requires kind { item_sort (item_of id bytes.now) ≡ Some sort }
+        requires next { size ≡ next_index sort (entries_of self.old) + 1 }
+        ensures added { OnOk result
+            (entries_of self.new ≡ entries_of self.old ++ Single (item_of id bytes.now) ∷ []) }
+        ensures unchanged { OnErr result (self.new ≡ self.old) }
+        ensures err { IfErr result (λ e. e ≡ EncodeError.Memory) }
+    {
+        self.built.push(Kind::Item(id), bytes)?;
+        self.counts[space_of(sort)] = size;
+        Ok(())
+    }
+
+    /// Adds an item that was written into the buffer.
+    fn add_written(
+        &mut self,
+        id: u8,
+        bytes: Vec<u8>,
+        sort: Sort,
+        size: u32,
+    ) -> Result<(), EncodeError>
         requires bytes { IsBytesOf (item_of id bytes.items) id bytes.items }
         requires kind { item_sort (item_of id bytes.items) ≡ Some sort }
         requires next { size ≡ next_index sort (entries_of self.old) + 1 }
@@ -99,8 +131,8 @@ impl ComponentBuilder {
         ensures unchanged { OnErr result (self.new ≡ self.old) }
         ensures err { IfErr result (λ e. e ≡ EncodeError.Memory) }
     {
-        self.items.push(Built::Item { id, bytes })?;
-        self.counts[space_of(sort)] = size;
+        self.add(id, &bytes, sort, size)?;
+        self.buffer = bytes;
         Ok(())
     }
 
@@ -133,7 +165,7 @@ impl ComponentBuilder {
             → (2 ^ 32 ≤ n) × ((n ≡ length bytes.now) ⊎ (n ≡ next_index sort.Component (entries_of self.old) + 1)) }
     {
         let (index, size) = self.next_of(Sort::Component)?;
-        let bytes = encode_component(alloc, bytes)?;
+        let bytes = encode_component(bytes)?;
         self.add(section::COMPONENT, bytes, Sort::Component, size)?;
         Ok(index)
     }
@@ -163,8 +195,8 @@ impl ComponentBuilder {
             ⊎ (n ≡ next_index sort.Instance (entries_of self.old) + 1)) }
     {
         let (index, size) = self.next_of(Sort::Instance)?;
-        let bytes = encode_instance(alloc, component, args)?;
-        self.add(section::INSTANCE, bytes, Sort::Instance, size)?;
+        let bytes = encode_instance(self.take_buffer(alloc), component, args)?;
+        self.add_written(section::INSTANCE, bytes, Sort::Instance, size)?;
         Ok(index)
     }
 
@@ -189,8 +221,8 @@ impl ComponentBuilder {
             → (2 ^ 32 ≤ n) × ((n ≡ length name.now) ⊎ (n ≡ next_index sort (entries_of self.old) + 1)) }
     {
         let (index, size) = self.next_of(sort)?;
-        let bytes = encode_alias_export(alloc, instance, name, sort)?;
-        self.add(section::ALIAS, bytes, sort, size)?;
+        let bytes = encode_alias_export(self.take_buffer(alloc), instance, name, sort)?;
+        self.add_written(section::ALIAS, bytes, sort, size)?;
         Ok(index)
     }
 
@@ -215,8 +247,8 @@ impl ComponentBuilder {
             → (2 ^ 32 ≤ n) × (n ≡ next_index sort (entries_of self.old) + 1) }
     {
         let (place, size) = self.next_of(sort)?;
-        let bytes = encode_alias_outer(alloc, count, index, sort)?;
-        self.add(section::ALIAS, bytes, sort, size)?;
+        let bytes = encode_alias_outer(self.take_buffer(alloc), count, index, sort)?;
+        self.add_written(section::ALIAS, bytes, sort, size)?;
         Ok(place)
     }
 
@@ -239,8 +271,8 @@ impl ComponentBuilder {
     {
         let sort = described_sort(*ty);
         let (index, size) = self.next_of(sort)?;
-        let bytes = encode_import(alloc, name, *ty)?;
-        self.add(section::IMPORT, bytes, sort, size)?;
+        let bytes = encode_import(self.take_buffer(alloc), name, *ty)?;
+        self.add_written(section::IMPORT, bytes, sort, size)?;
         Ok(index)
     }
 
@@ -272,8 +304,8 @@ impl ComponentBuilder {
             → (2 ^ 32 ≤ n) × ((n ≡ length name.now) ⊎ (n ≡ next_index sort (entries_of self.old) + 1)) }
     {
         let (place, size) = self.next_of(sort)?;
-        let bytes = encode_export(alloc, name, sort, index, ty.copied())?;
-        self.add(section::EXPORT, bytes, sort, size)?;
+        let bytes = encode_export(self.take_buffer(alloc), name, sort, index, ty.copied())?;
+        self.add_written(section::EXPORT, bytes, sort, size)?;
         Ok(place)
     }
 
@@ -293,8 +325,8 @@ impl ComponentBuilder {
             → (2 ^ 32 ≤ n) × ((n ≡ defined_largest ty.now) ⊎ (n ≡ next_index sort.Ty (entries_of self.old) + 1)) }
     {
         let (index, size) = self.next_of(Sort::Ty)?;
-        let bytes = encode_defined(alloc, ty)?;
-        self.add(section::TYPE, bytes, Sort::Ty, size)?;
+        let bytes = encode_defined(self.take_buffer(alloc), ty)?;
+        self.add_written(section::TYPE, bytes, Sort::Ty, size)?;
         Ok(index)
     }
 
@@ -313,8 +345,8 @@ impl ComponentBuilder {
             → (2 ^ 32 ≤ n) × ((n ≡ func_largest ty.now) ⊎ (n ≡ next_index sort.Ty (entries_of self.old) + 1)) }
     {
         let (index, size) = self.next_of(Sort::Ty)?;
-        let bytes = encode_function(alloc, ty)?;
-        self.add(section::TYPE, bytes, Sort::Ty, size)?;
+        let bytes = encode_function(self.take_buffer(alloc), ty)?;
+        self.add_written(section::TYPE, bytes, Sort::Ty, size)?;
         Ok(index)
     }
 
@@ -338,8 +370,8 @@ impl ComponentBuilder {
             ⊎ (n ≡ next_index sort.Ty (entries_of self.old) + 1)) }
     {
         let (index, size) = self.next_of(Sort::Ty)?;
-        let bytes = encode_instance_type(alloc, ty)?;
-        self.add(section::TYPE, bytes, Sort::Ty, size)?;
+        let bytes = encode_instance_type(self.take_buffer(alloc), ty)?;
+        self.add_written(section::TYPE, bytes, Sort::Ty, size)?;
         Ok(index)
     }
 
@@ -363,8 +395,8 @@ impl ComponentBuilder {
             ⊎ (n ≡ next_index sort.Ty (entries_of self.old) + 1)) }
     {
         let (index, size) = self.next_of(Sort::Ty)?;
-        let bytes = encode_component_type(alloc, ty)?;
-        self.add(section::TYPE, bytes, Sort::Ty, size)?;
+        let bytes = encode_component_type(self.take_buffer(alloc), ty)?;
+        self.add_written(section::TYPE, bytes, Sort::Ty, size)?;
         Ok(index)
     }
 
@@ -381,8 +413,8 @@ impl ComponentBuilder {
             → (2 ^ 32 ≤ n) × (n ≡ next_index sort.Ty (entries_of self.old) + 1) }
     {
         let (index, size) = self.next_of(Sort::Ty)?;
-        let bytes = encode_resource(alloc)?;
-        self.add(section::TYPE, bytes, Sort::Ty, size)?;
+        let bytes = encode_resource(self.take_buffer(alloc))?;
+        self.add_written(section::TYPE, bytes, Sort::Ty, size)?;
         Ok(index)
     }
 
@@ -406,8 +438,8 @@ impl ComponentBuilder {
             ⊎ (n ≡ next_index (sort.Core core_sort.Ty) (entries_of self.old) + 1)) }
     {
         let (index, size) = self.next_of(Sort::Core(CoreSort::Ty))?;
-        let bytes = encode_core_module(alloc, ty)?;
-        self.add(section::CORE_TYPE, bytes, Sort::Core(CoreSort::Ty), size)?;
+        let bytes = encode_core_module(self.take_buffer(alloc), ty)?;
+        self.add_written(section::CORE_TYPE, bytes, Sort::Core(CoreSort::Ty), size)?;
         Ok(index)
     }
 
@@ -431,20 +463,9 @@ impl ComponentBuilder {
             ⊎ ((kind : sort_of_item) × (n ≡ next_index kind (entries_of self.old) + numbered kind items))) }
     {
         let counts = count_section(alloc, self.counts, id, content)?;
-        let content = Vec::from_slice(alloc, content)?;
-        self.items.push(Built::Section { id, content })?;
+        self.built.push(Kind::Section(id), content)?;
         self.counts = counts;
         Ok(())
-    }
-
-    /// How many bytes the component has at most, so that the output is made at its full size.
-    fn room(&self) -> usize {
-        let mut room = HEADER.len();
-        for item in &self.items {
-            let (Built::Item { bytes, .. } | Built::Section { content: bytes, .. }) = item;
-            room = room.saturating_add(bytes.len()).saturating_add(FRAME);
-        }
-        room
     }
 
     /// The component as bytes. They read as the items that were added, in order, and as nothing else.
@@ -462,9 +483,9 @@ impl ComponentBuilder {
         ensures too_large { (n : ℕ) → result ≡ Err (EncodeError.TooLarge n)
             → IsTooLongAmong n (sections_of (entries_of self)) }
     {
-        let mut out = Vec::with_capacity(alloc, self.room())?;
+        let mut out = Vec::with_capacity(alloc, component_len(&self.built.places))?;
         out.extend_from_slice(&HEADER)?;
-        write_sections(alloc, &mut out, &self.items)?;
+        write_sections(&mut out, &self.built.places, &self.built.bytes)?;
         Ok(out)
     }
 }

@@ -6,7 +6,6 @@ ghost use Rattle.comp_format.specs.Numbers.{leb_text, number_text, signed_leb_te
 ghost use Rattle.comp_format.specs.Vectors.{name_text};
 
 use comp_format::EncodeError;
-use std::alloc::Global;
 use warg_values::Memory;
 
 /// Bytes, and the largest length, count or index that was written among them.
@@ -46,6 +45,30 @@ pub fn write_number(out: &mut Vec<u8>, number: u64) -> Result<(), Memory>
     Ok(())
 }
 
+/// How many bytes LEB128 in at most so many bytes takes.
+#[tactic(auto, using(crate::proofs::WriteLaws::leb_text_last, crate::proofs::WriteLaws::leb_text_next), unfolding(comp_format::specs::Numbers::leb_text))]
+fn leb_len(most: u8, number: u64) -> usize
+    ensures value { result ≡ length (leb_text most number) }
+    ensures bound { result ≤ most }
+{
+    if most == 0 {
+        return 0;
+    }
+    if number >= 128 {
+        return 1 + leb_len(most - 1, number / 128);
+    }
+    1
+}
+
+/// How many bytes the shortest spelling of a number takes.
+#[tactic(auto, unfolding(comp_format::specs::Numbers::number_text))]
+pub fn number_len(number: u64) -> usize
+    ensures value { result ≡ length (number_text number) }
+    ensures bound { result ≤ 5 }
+{
+    leb_len(5, number)
+}
+
 /// Signed LEB128 of a number from 0 on, in at most so many bytes.
 #[tactic(auto, using(crate::proofs::WriteLaws::signed_leb_text_last, crate::proofs::WriteLaws::signed_leb_text_next), unfolding(comp_format::specs::Numbers::signed_leb_text))]
 fn write_signed_leb(out: &mut Vec<u8>, most: u8, number: u64) -> Result<(), Memory>
@@ -64,15 +87,14 @@ fn write_signed_leb(out: &mut Vec<u8>, most: u8, number: u64) -> Result<(), Memo
 }
 
 impl Sink {
-    /// Nothing written yet.
-    pub fn new(alloc: Global) -> Self
+    /// Nothing written yet, in the room of a buffer, which may hold what was written before.
+    pub fn new(buffer: Vec<u8>) -> Self
         ensures bytes { result.bytes.items ≡ [] }
         ensures largest { result.largest ≡ 0 }
     {
-        Sink {
-            bytes: Vec::new(alloc),
-            largest: 0,
-        }
+        let mut bytes = buffer;
+        bytes.clear();
+        Sink { bytes, largest: 0 }
     }
 
     /// Bytes that are no number.

@@ -8,13 +8,13 @@ use Rattle.comp_encoder.proofs.SectionLaws.{entries_fit}
 use Rattle.comp_encoder.proofs.WritingLaws.{written_reads}
 use Rattle.comp_encoder.proofs.builder.ComponentBuilder.finish.Goals as goal
 
-items_is : (c : goal.After-drop-self-inside-2) → kepts_of c.deref.result.now ≡ c.args.self
-items_is c = ap kepts_of c.deref.ensures.value ∙ c.self.view_is
+items_is : (c : goal.After-drop-self-inside-4) → kepts_of c.deref-2.result.now c.deref-3.result.now ≡ c.args.self
+items_is c = rw (c.deref-2.ensures.value, c.deref-3.ensures.value) c.self.view_is
 
-text_is : (c : goal.After-drop-self-inside-2) → c.write_sections.new.out.items ≡ component_text (entries_of c.args.self)
+text_is : (c : goal.After-drop-self-inside-4) → c.write_sections.new.out.items ≡ component_text (entries_of c.args.self)
 text_is c =
     let front : c.extend_from_slice.new.self.items ≡ header = c.in_ok-extend_from_slice.ensures.items ∙ ap (λ (f : List ℕ). f ++ header) c.in_ok-out.ensures.items in
-    c.in_ok-write_sections.ensures.text ∙ ap (λ (f : List ℕ). f ++ flat_map section_text (sections_of (entries_of (kepts_of c.deref.result.now)))) front
+    c.in_ok-write_sections.ensures.text ∙ ap (λ (f : List ℕ). f ++ flat_map section_text (sections_of (entries_of (kepts_of c.deref-2.result.now c.deref-3.result.now)))) front
     ∙ ap (λ (items : List Kept). header ++ flat_map section_text (sections_of (entries_of items))) (items_is c)
 
 pub returns-clause-text : goal.returns-clause-text
@@ -25,7 +25,7 @@ returns-clause-fits c = subst (λ (items : List Kept). AllByRecursion IsShort (s
 
 pub returns-clause-reads : goal.returns-clause-reads
 returns-clause-reads c =
-    let fit : AllByRecursion IsKept c.args.self = subst (AllByRecursion IsKept) c.self.view_is c.self.invariant.fit in
+    let fit : AllByRecursion IsKept c.args.self = subst (AllByRecursion IsKept) c.self.view_is c.self.invariant.built.fit in
     subst (λ (bytes : List ℕ). Reads bytes (items_of (entries_of c.args.self))) (sym (text_is c)) (written_reads (entries_of c.args.self) (entries_fit c.args.self fit) (returns-clause-fits c))
 
 pub returns-clause-once : goal.returns-clause-once
