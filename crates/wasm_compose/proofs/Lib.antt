@@ -1,4 +1,3 @@
-mod ComponentLaws
 mod MentionLaws
 mod LinkLaws
 mod ImageLaws

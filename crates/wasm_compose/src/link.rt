@@ -8,17 +8,17 @@ ghost use Rattle.comp_encoder.specs.Builder.{entries_of};
 ghost use Rattle.comp_encoder.specs.Writing.{component_text, items_of, next_index};
 ghost use Rattle.comp_entity.specs.Views.{entity_tree, named_entities};
 ghost use Rattle.comp_scope.specs.Spaces.{sort_of};
-ghost use Rattle.wasm_compose.specs.Component.{bytes_of, shape_of};
+ghost use Rattle.compose_component.specs.Component.{bytes_of, shape_of};
 ghost use Rattle.wasm_compose.specs.Link.{ExportsFit, IsLinked, IsOfExports, IsOfLink, LinkFits, instance_items, link_export, link_exports, link_items, linking, named_sorts, singles};
 ghost use Rattle.wasm_compose.specs.Open.{IsOpen};
 ghost use Rattle.wasm_compose.specs.declared.error.ComposeError.TheVariants.{NotBuilt as not_built, TooLarge as too_large};
 
-use crate::component::Component;
 use crate::error::ComposeError;
 use crate::mentions::is_open;
 use comp_encoder::ComponentBuilder;
 use comp_format::{CoreSort, EncodeError, Sort};
 use comp_shape::Entity;
+use compose_component::Component;
 use std::alloc::Global;
 use warg_base::Text;
 
@@ -106,7 +106,7 @@ fn build(alloc: Global, component: &Component<'_>) -> Result<ComponentBuilder, E
     let mut builder = ComponentBuilder::new(alloc);
     builder.component_raw(alloc, component.bytes())?;
     builder.instantiate(alloc, 0, &[])?;
-    link_each(alloc, &mut builder, &component.shape.exports)?;
+    link_each(alloc, &mut builder, &component.types().exports)?;
     Ok(builder)
 }
 

@@ -2,7 +2,7 @@ use Rattle.std.proofs.Common.{◌≡◌, ap, subst, ◌∙◌}
 use Rattle.comp_format.specs.Sections.{Reads}
 use Rattle.comp_encoder.specs.Builder.{entries_of}
 use Rattle.comp_encoder.specs.Writing.{items_of}
-use Rattle.wasm_compose.specs.Component.{bytes_of, shape_of}
+use Rattle.compose_component.specs.Component.{bytes_of, shape_of}
 use Rattle.wasm_compose.specs.Link.{link_exports, link_items}
 use Rattle.wasm_compose.proofs.ImageLaws.{image_of_link}
 use Rattle.wasm_compose.proofs.LinkLaws.{items_single}

@@ -2,6 +2,7 @@
 
 ghost use Rattle.std.specs.Prelude.{◌≡◌, Some, decimal};
 
+use crate::naming::Named;
 use comp_format::Sort;
 use std::fmt;
 use warg_base::Text;
@@ -35,6 +36,14 @@ pub struct ComponentExport {
     pub sort: Sort,
     /// Its index in the index space of its sort.
     pub index: u32,
+}
+
+impl Named for ComponentExport {
+    ghost name = { λ export. export.name };
+
+    fn name(&self) -> &Text {
+        &self.name
+    }
 }
 
 /// The exports of a component, in order. The iterator has their number.

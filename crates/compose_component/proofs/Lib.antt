@@ -1,0 +1,2 @@
+mod ComponentLaws
+mod NameLaws
