@@ -19,10 +19,13 @@ fn words_of(rt: &HostRuntime) -> io::Result<Vec<String>> {
 }
 
 /// Says on standard error why a run stopped, and gives the exit status.
-fn stopped(rt: &HostRuntime, stop: &Stop<'_>) -> ExitCode {
+fn stopped(rt: &HostRuntime, stop: Stop<'_>) -> ExitCode {
     // A cause that standard error doesn't take changes no status.
     let _ = eprintln!(rt; "warg: {stop}");
-    ExitCode::from(stop.status())
+    let status = stop.status();
+    // A call that is generic is proved once, and not for each of the hundred cases of a stop.
+    drop(stop);
+    ExitCode::from(status)
 }
 
 /// Says why the words could not be read.
@@ -33,7 +36,7 @@ fn unread<O: Out>(rt: &HostRuntime, error: &io::Error, out: &mut O) -> ExitCode 
         _ => Stop::Usage,
     };
     refuse(rt.alloc(), out, &stop);
-    stopped(rt, &stop)
+    stopped(rt, stop)
 }
 
 /// Does what the words ask for.
@@ -45,7 +48,7 @@ fn done<F: Files, O: Out>(
 ) -> ExitCode {
     match outcome(rt.alloc(), words, files, out) {
         Ok(()) => ExitCode::SUCCESS,
-        Err(stop) => stopped(rt, &stop),
+        Err(stop) => stopped(rt, stop),
     }
 }
 
