@@ -10,6 +10,7 @@ use hex::encode;
 use std::alloc::Global;
 use std::rt::HostRuntime;
 use std::test::Fail;
+use test_check::replies_file;
 use warg_base::{Files, MemoryFiles, MemoryOut};
 use warg_program::{Stop, outcome};
 
@@ -143,21 +144,6 @@ const ROWS: &[Row] = &[
     },
 ];
 
-/// A file of replies with these bodies.
-pub fn replies(alloc: Global, bodies: &[&str]) -> Result<String, Fail> {
-    let mut text = String::from_str(alloc, "[")?;
-    for body in bodies {
-        if text.len() > 1 {
-            text.push_str(",")?;
-        }
-        text.push_str(r#"{"status":200,"headers":[["content-type","application/json"]],"body":""#)?;
-        text.push_str(body)?;
-        text.push_str("\"}")?;
-    }
-    text.push_str("]")?;
-    Ok(text)
-}
-
 /// How a run ended: the bytes of OUT in hex, or the status and the cause.
 fn told(
     alloc: Global,
@@ -178,7 +164,9 @@ fn ended_by(
     out: &mut MemoryOut,
 ) -> Result<String, Fail> {
     let ended = outcome(alloc, words, files, out);
-    told(alloc, files, &ended)
+    let told = told(alloc, files, &ended);
+    drop(ended);
+    told
 }
 
 /// What a run over files prints, and how it ends.
@@ -196,7 +184,11 @@ fn ended(alloc: Global, files: &mut MemoryFiles) -> Result<(String, String), Fai
 fn files_of(alloc: Global, row: &Row) -> Result<MemoryFiles, Fail> {
     let mut files = MemoryFiles::new(alloc);
     files.write(alloc, "plan", row.text.as_bytes())?;
-    files.write(alloc, "replies", replies(alloc, row.bodies)?.as_bytes())?;
+    files.write(
+        alloc,
+        "replies",
+        replies_file(alloc, row.bodies)?.as_bytes(),
+    )?;
     files.write(alloc, "checked", CHECKED.as_bytes())?;
     Ok(files)
 }

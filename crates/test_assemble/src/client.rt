@@ -1,12 +1,13 @@
 //! What a client tells of a store that fails, over the replies to one plan.
 
-use crate::assemble::{TEXT, replies};
+use crate::assemble::TEXT;
 use crate::world::{
     CHECKED, TYPES_CHECKPOINT, TYPES_CONTENT, TYPES_INCLUSION, TYPES_PAGE, TYPES_SOURCES,
 };
 use std::alloc::Global;
 use std::rt::HostRuntime;
 use std::test::Fail;
+use test_check::replies_file;
 use warg_api::RecordedLink;
 use warg_client::{Client, Settings};
 use warg_hint::AlwaysDecide;
@@ -44,7 +45,7 @@ const FAILING: &[(u64, &str)] = &[
 
 /// A client over the replies to the plan, with this store of registries.
 fn client(alloc: Global, registry: MemoryRegistry) -> Result<TestClient, Fail> {
-    let replies = read_replies(alloc, replies(alloc, BODIES)?.as_bytes())?;
+    let replies = read_replies(alloc, replies_file(alloc, BODIES)?.as_bytes())?;
     let settings = Settings {
         ignore_federation_hints: false,
         disable_auto_accept_federation_hints: false,
@@ -74,7 +75,11 @@ fn told(alloc: Global, call: u64) -> Result<String, Fail> {
     let mut client = client(alloc, registry)?;
     match client.assemble(alloc, TEXT) {
         Ok(_) => Ok(String::from_str(alloc, "assembled")?),
-        Err(error) => Ok(format!(in alloc; "{error:?}")?),
+        Err(error) => {
+            let told = format!(in alloc; "{error:?}");
+            drop(error);
+            Ok(told?)
+        }
     }
 }
 

@@ -9,6 +9,7 @@ use crate::world::{
 use std::alloc::Global;
 use std::fmt::Display;
 use std::test::Fail;
+use test_check::replies_file;
 use warg_api::Client;
 use warg_exchange::{Checkpoint, Reply, Request, SignedCheckpoint};
 use warg_hash::{AnyHash, KeyId, PackageName};
@@ -375,21 +376,6 @@ fn run_over(
     run_with(alloc, step, &verifier, answer, &replies)
 }
 
-/// A file of replies with these bodies.
-fn file(alloc: Global, bodies: &[&str]) -> Result<String, Fail> {
-    let mut text = String::from_str(alloc, "[")?;
-    for body in bodies {
-        if text.len() > 1 {
-            text.push_str(",")?;
-        }
-        text.push_str(r#"{"status":200,"headers":[["content-type","application/json"]],"body":""#)?;
-        text.push_str(body)?;
-        text.push_str("\"}")?;
-    }
-    text.push_str("]")?;
-    Ok(text)
-}
-
 /// What becomes of an update over the replies of a file, behind a stored checkpoint where there is one.
 fn outcome(
     alloc: Global,
@@ -451,7 +437,7 @@ fn is_outcome(found: &str, expected: &str) -> Result<(), Fail> {
 /// Fails at the first bodies of which something else becomes, where nothing is stored.
 fn are_fresh(alloc: Global, rows: &[(&[&str], &str)]) -> Result<(), Fail> {
     for (bodies, expected) in rows {
-        let file = file(alloc, bodies)?;
+        let file = replies_file(alloc, bodies)?;
         let found = outcome(alloc, None, HEEDED, true, &file)?;
         is_outcome(&found, expected)?;
     }
@@ -483,7 +469,7 @@ fn an_update_proves_logs_or_tells_the_first_fault(rt: HostRuntime) -> Result<(),
 /// Fails at the first bodies of which something else becomes behind the stored checkpoint.
 fn are_behind(alloc: Global, rows: &[(u64, &str, &str, &[&str], &str)]) -> Result<(), Fail> {
     for (length, log_root, map_root, bodies, expected) in rows {
-        let file = file(alloc, bodies)?;
+        let file = replies_file(alloc, bodies)?;
         let stored = checkpoint(alloc, *length, log_root, map_root)?;
         let found = outcome(alloc, Some(stored), HEEDED, true, &file)?;
         is_outcome(&found, expected)?;
