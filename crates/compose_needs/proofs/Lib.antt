@@ -1,0 +1,10 @@
+mod ViewLaws
+mod SeenLaws
+mod CallLaws
+mod ExportLaws
+mod OrderLaws
+mod OutcomeLaws
+mod Rows
+mod ListLaws
+mod SideLaws
+mod TiedLaws

@@ -1,0 +1,9 @@
+pub mod Mentioned
+pub mod Payloads
+pub mod Bits
+pub mod Leaves
+pub mod Tied
+pub mod Sides
+pub mod Needs
+pub mod Agreed
+pub mod Known
