@@ -1,0 +1,4 @@
+mod ValueLaws
+mod KnownLaws
+mod PossibleLaws
+mod Rows
