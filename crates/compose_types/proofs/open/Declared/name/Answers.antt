@@ -1,0 +1,16 @@
+use Rattle.std.proofs.Common.{sym, ap, ◌∙◌}
+use Rattle.compose_writing.specs.WriteEntities.{counted}
+use Rattle.compose_types.specs.Scopes.{with_names}
+use Rattle.compose_types.proofs.open.Declared.name.Goals.{in-Imports+in_ok-import-in-Imports, in-Exports+in_ok-export-in-Exports}
+use Rattle.compose_types.proofs.open.Declared.name.Goals as goal
+
+pub returns-clause-named : goal.returns-clause-named
+returns-clause-named c = λ width known.
+    elim c.match-side.branch [
+      | in-Imports+in_ok-import-in-Imports w ↦
+          rw w.in-Imports.is (ap (λ ds. counted c.args.ty (record (with_names width known c.args.self.now) { decls = ds })) (sym w.in_ok-import-in-Imports.ensures.added))
+          ∙ ap (λ d. counted c.args.ty (with_names width known d)) (sym w.self-is) ∙ c.in_ok-count.ensures.counted width known
+      | in-Exports+in_ok-export-in-Exports w ↦
+          rw w.in-Exports.is (ap (λ ds. counted c.args.ty (record (with_names width known c.args.self.now) { decls = ds })) (sym w.in_ok-export-in-Exports.ensures.added))
+          ∙ ap (λ d. counted c.args.ty (with_names width known d)) (sym w.self-is) ∙ c.in_ok-count.ensures.counted width known
+    ]

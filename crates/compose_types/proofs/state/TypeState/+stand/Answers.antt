@@ -1,0 +1,31 @@
+use Rattle.std.proofs.Common.{rules, ◌≡◌, [], Some, sym, ap, ◌∙◌}
+use Rattle.compose_writing.specs.Scopes.{standing}
+use Rattle.compose_types.specs.Scopes.{scopes}
+use Rattle.compose_types.specs.Views.{mention_of}
+use Rattle.compose_types.proofs.ScopeLaws.{stand_outermost, stand_in, stand_around}
+use Rattle.compose_types.proofs.state.TypeState.+stand.Goals as goal
+
+pub returns-in_default-clause-stood : goal.returns-in_default-clause-stood
+returns-in_default-clause-stood t c =
+    let none : c.self.inside.inner.items ≡ [] = search rules in
+    let rest : c.pop.new.self.items ≡ [] = search rules in
+    let key = mention_of c.args.key in
+    ap (λ s. standing (scopes s) key) (sym c.self.view_is)
+    ∙ stand_outermost c.self.inside.inner.items c.pop.new.self.items c.self.inside.outermost c.index_of.new.self key c.in-Some-2.index none rest (rw c.in-Some-2.is at c.in_ok-index.ensures.found)
+
+pub returns-in_ok-push-in-Some-3-clause-stood : goal.returns-in_ok-push-in-Some-3-clause-stood
+returns-in_ok-push-in-Some-3-clause-stood t c =
+    let key = mention_of c.args.key in
+    ap (λ s. standing (scopes s) key) (sym c.self.view_is)
+    ∙ stand_in c.self.inside.inner.items c.pop.new.self.items c.push.new.self.items c.in-Some.scope c.index_of-2.new.self c.self.inside.outermost key c.in-Some-3.index
+    c.in-Some.ensures.items c.in_ok-push-in-Some-3.ensures.items (rw c.in-Some-3.is at c.in_ok-index-2.ensures.found)
+
+pub returns-in_ok-push-in-None-clause-stood : goal.returns-in_ok-push-in-None-clause-stood
+returns-in_ok-push-in-None-clause-stood t c =
+    let key = mention_of c.args.key in
+    let further = c.self-in-None.inside in
+    ap (λ s. standing (scopes s) key) (sym c.self.view_is)
+    ∙ stand_around c.self.inside.inner.items c.pop.new.self.items further.inner.items c.push-in-None.new.self.items c.in-Some.scope c.index_of-2.new.self c.self.inside.outermost further.outermost key (mention_of c.in-Some-outside.further) c.in_ok-up-in-None.up c.in_ok-up-in-None.index
+    c.in-Some.ensures.items c.in_ok-push-in-None.ensures.items (c.in_ok-index-2.ensures.same c.in-None.is) (rw c.in-None.is at c.in_ok-index-2.ensures.found) c.in-Some-outside.ensures
+    (c.in_ok-up-in-None.ensures.stood ∙ ap (λ s. Some (scopes s, (c.in_ok-up-in-None.up, c.in_ok-up-in-None.index))) (sym c.self-in-None.view_is))
+    ∙ ap (λ n. Some (scopes (further.outermost, c.push-in-None.new.self.items), (n, c.in_ok-up-in-None.index))) (sym c.in_ok-up-in-None-2.ensures.value)

@@ -1,0 +1,7 @@
+pub mod Bodies
+pub mod Views
+pub mod Scopes
+pub mod Values
+pub mod Modules
+pub mod Entities
+pub mod Sights

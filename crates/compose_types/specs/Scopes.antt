@@ -1,0 +1,51 @@
+-- The scopes that a state holds, from the innermost.
+use Rattle.std.specs.Prelude.{◌≡◌, ℕ, List, [], ◌∷◌, ◌++◌, map, reverse}
+use Rattle.compose_writing.specs.Keys.{Known}
+use Rattle.comp_format.specs.declared.types.TypeRef.{TypeRef}
+use Rattle.comp_format.specs.Definitions as tree
+use Rattle.comp_format.specs.Definitions.{DeclTree}
+use Rattle.compose_writing.specs.Scopes.{Scope}
+use Rattle.compose_writing.specs.Scopes.{declared as declare}
+use Rattle.compose_writing.specs.WriteEntities.{counted}
+use Rattle.compose_types.specs.declared.body.Side.{Side}
+use Rattle.compose_types.specs.declared.body.Side.TheVariants as side
+use Rattle.compose_types.specs.declared.body.Scope.TheVariants as kind
+use Rattle.compose_types.specs.Bodies.{declared, kind_in}
+use Rattle.compose_types.specs.declared.open.Declared.{Declared}
+use Rattle.compose_types.specs.declared.open.Open.{Open}
+
+abbrev pub with_names : ℕ → Known → Declared → Scope
+with_names width known d =
+    record { width = width; decls = declared d.body; types = d.types; instances = d.instances; core_types = d.core_types; known = known }
+
+abbrev pub scope_of : Open → Scope
+scope_of o = with_names o.width o.known o.declared
+
+abbrev pub scopes_in : List Open → Open → List Scope
+scopes_in inner outermost = reverse (map scope_of inner) ++ scope_of outermost ∷ []
+
+-- the scopes of a state: the outermost, and those within it, the innermost last
+abbrev pub scopes : Open × List Open → List Scope
+scopes s = scopes_in s.1 s.0
+
+-- the component that a state builds
+abbrev pub outermost_scope : Open × List Open → Scope
+outermost_scope s = scope_of s.0
+
+-- The outermost scope is a component.
+abbrev pub IsOutermost : Open → Type 0
+IsOutermost o = kind_in o.declared.body ≡ kind.Builder
+
+-- whether an import is declared, or an export
+abbrev pub item_of : Side → List ℕ → TypeRef → DeclTree
+item_of side.Imports name ty = tree.Import name ty
+item_of side.Exports name ty = tree.Export name ty
+
+-- An import or export of this description was declared in the innermost scope. So many types and instances stood before it.
+pub record Declares (d : DeclTree) (ty : TypeRef) (old new : List Scope) (types instances : ℕ) : Type 0 where
+  pub top : Scope
+  pub around : List Scope
+  pub was : old ≡ top ∷ around
+  pub is : new ≡ counted ty (declare d top) ∷ around
+  pub types_are : types ≡ top.types
+  pub instances_are : instances ≡ top.instances
