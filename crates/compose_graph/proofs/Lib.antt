@@ -1,0 +1,12 @@
+mod ListLaws
+mod CountLaws
+mod EntryLaws
+mod ConnectionLaws
+mod InstanceLaws
+mod LooseLaws
+mod NameLaws
+mod PartLaws
+mod GraphLaws
+mod HeldLaws
+mod FaultLaws
+mod WiringLaws

@@ -1,0 +1,11 @@
+pub mod Graph
+pub mod Kept
+pub mod Found
+pub mod Listed
+pub mod Codes
+pub mod Loose
+pub mod Parts
+pub mod Refusal
+pub mod Joining
+pub mod Faults
+pub mod Wiring

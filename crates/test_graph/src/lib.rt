@@ -1,0 +1,5 @@
+//! Tests of `compose_graph`.
+#![tactic(auto)]
+
+#[cfg(test)]
+mod calls;
