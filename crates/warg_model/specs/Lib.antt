@@ -1,0 +1,6 @@
+pub mod Records
+pub mod Signatures
+pub mod Held
+pub mod State
+pub mod Hashes
+pub mod Pages
