@@ -4,6 +4,7 @@
 
 mod agree;
 mod completions;
+mod component;
 mod compose;
 mod declarations;
 mod definitions;
@@ -33,6 +34,7 @@ mod wires;
 
 pub use agree::instance_order;
 pub use completions::emitted_events_begin_a_document;
+pub use component::imports_of_bytes;
 pub use compose::link_bytes;
 pub use declarations::one_resource;
 pub use definitions::made_resource;

@@ -10,6 +10,7 @@ pub mod info;
 pub mod json;
 pub mod ledger;
 pub mod log;
+pub mod model;
 pub mod names;
 pub mod page;
 pub mod plan;
