@@ -24,7 +24,8 @@ use Rattle.warg_info.specs.Kept.{Kept, last_kept}
 use Rattle.warg_page.specs.Logs.{Logs, head_in, heads_of, index_in, indices_of, leaf_in, leafs_of, logs_by_id}
 use Rattle.warg_ledger.specs.Registry.{Registry, IsRegistry, IsCheckpointOf, log_below, entry_texts, heads}
 use Rattle.warg_ledger.specs.Replies.{AreWhole, ShowHeads, ShowsGrowth}
-use Rattle.warg_ledger.proofs.HeadLaws.{last-entry, last-value, is-map}
+use Rattle.warg_ledger.proofs.HeadLaws.{last-value, is-map}
+use Rattle.warg_ledger.specs.PlaceLaws.{last_entry}
 
 -- ---- the laws that are used
 
@@ -73,7 +74,7 @@ at-some (y ∷ xs) (suc i) x there = let rest = at-some xs i x there in let less
 
 is-head : (accepts : Accepts) (w : Registry) (n : ℕ) (id : List ℕ) (k : Kept) → IsRegistry accepts w → last_kept (log_below w n id) ≡ Some k → IsHead w n (id, k)
 is-head accepts w n id k registry last =
-    let found = last-entry w.token id (take n w.entries) k last in
+    let found = last_entry w.token id (take n w.entries) k last in
     let index : k.registry_index ≡ found.at = let i = found.index in omega (arith, i) in
     let f : List ℕ × Signed → List ℕ = λ e. log_entry e.0 (sha256 e.1.contents) in
     record {

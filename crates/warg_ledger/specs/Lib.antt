@@ -1,3 +1,4 @@
 pub mod Registry
+pub mod PlaceLaws
 pub mod Replies
 pub mod Honest
