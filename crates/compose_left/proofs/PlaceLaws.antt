@@ -2,10 +2,10 @@
 use Rattle.std.proofs.Common.{◌≡◌, ℕ, zero, suc, ◌+◌, ◌<◌, ◌≤◌, List, [], ◌∷◌, ◌++◌, length, take, refl, sym, ap, subst, ◌∙◌, arith, slice_index_or}
 use Rattle.std.proofs.lemmas.List.{take_more, map-append}
 use Rattle.comp_entity.specs.Entity.{ShapeTree}
-use Rattle.comp_entity.specs.Views.{shape_tree}
+use Rattle.std.specs.Borrow.{Bor}
 use Rattle.comp_entity.specs.declared.entity.Shape.{Shape}
 use Rattle.compose_left.specs.declared.places.Places.{Places}
-use Rattle.compose_left.specs.Wiring.{shapes_of, shape_at, no_shape}
+use Rattle.compose_left.specs.Wiring.{lent_shape, shapes_of, shape_at, no_shape}
 use Rattle.compose_left.specs.Wired.{IsPlaces, ArePlaces}
 
 places_push : (ps : List Places) (ss : List ShapeTree) (p : Places) (s : ShapeTree) → ArePlaces ps ss → IsPlaces p s → ArePlaces (ps ++ p ∷ []) (ss ++ s ∷ [])
@@ -14,13 +14,13 @@ places_push [] (t ∷ ss) p s a h = absurd a
 places_push (q ∷ ps) [] p s a h = absurd a
 places_push (q ∷ ps) (t ∷ ss) p s a h = (a.0, places_push ps ss p s a.1 h)
 
-pub all_places_step : (found new : List Places) (shapes : List Shape) (i : ℕ) (x : Shape) (p : Places) → new ≡ found ++ p ∷ [] → i < length shapes → x ≡ slice_index_or shapes i x
-    → IsPlaces p (shape_tree x) → ArePlaces found (shapes_of (take i shapes)) → ArePlaces new (shapes_of (take (i + 1) shapes))
+pub all_places_step : (found new : List Places) (shapes : List (Bor Shape)) (i : ℕ) (x : Bor Shape) (p : Places) → new ≡ found ++ p ∷ [] → i < length shapes → x ≡ slice_index_or shapes i x
+    → IsPlaces p (lent_shape x) → ArePlaces found (shapes_of (take i shapes)) → ArePlaces new (shapes_of (take (i + 1) shapes))
 all_places_step found new shapes i x p e lt is h a =
-    let front : shapes_of (take (i + 1) shapes) ≡ shapes_of (take i shapes) ++ shape_tree x ∷ [] =
-    ap shapes_of (take_more shapes i x lt ∙ ap (λ (y : Shape). take i shapes ++ y ∷ []) (sym is)) ∙ map-append shape_tree (take i shapes) (x ∷ []) in
+    let front : shapes_of (take (i + 1) shapes) ≡ shapes_of (take i shapes) ++ lent_shape x ∷ [] =
+    ap shapes_of (take_more shapes i x lt ∙ ap (λ (y : Bor Shape). take i shapes ++ y ∷ []) (sym is)) ∙ map-append lent_shape (take i shapes) (x ∷ []) in
     subst (λ (ps : List Places). ArePlaces ps (shapes_of (take (i + 1) shapes))) (sym e)
-    (subst (λ (ss : List ShapeTree). ArePlaces (found ++ p ∷ []) ss) (sym front) (places_push found (shapes_of (take i shapes)) p (shape_tree x) a h))
+    (subst (λ (ss : List ShapeTree). ArePlaces (found ++ p ∷ []) ss) (sym front) (places_push found (shapes_of (take i shapes)) p (lent_shape x) a h))
 
 pub places_at : (ps : List Places) (ss : List ShapeTree) (i : ℕ) (p : Places) → ArePlaces ps ss → i < length ps → p ≡ slice_index_or ps i p → IsPlaces p (shape_at ss i)
 places_at [] ss i p a lt is = absurd (omega (arith, lt))

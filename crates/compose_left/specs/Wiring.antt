@@ -1,5 +1,6 @@
 -- Instances and the wires between them.
 use Rattle.std.specs.Prelude.{◌≡◌, ℕ, ◌<◌, ◌≤◌, Bool, ◌&&◌, List, [], length, map, find, Option, Some, unwrap_or, slice_get, ◌==◌}
+use Rattle.std.specs.Borrow.{Bor}
 use Rattle.comp_entity.specs.Entity.{ShapeTree}
 use Rattle.comp_entity.specs.Views.{shape_tree}
 use Rattle.comp_entity.specs.declared.entity.Shape.{Shape}
@@ -10,8 +11,12 @@ pub record Wiring : Type 0 where
   pub shapes : List ShapeTree
   pub wires : List Wire
 
-abbrev pub shapes_of : List Shape → List ShapeTree
-shapes_of shapes = map shape_tree shapes
+-- a shape that is lent, and several
+abbrev pub lent_shape : Bor Shape → ShapeTree
+lent_shape s = shape_tree s.now
+
+abbrev pub shapes_of : List (Bor Shape) → List ShapeTree
+shapes_of shapes = map lent_shape shapes
 
 abbrev pub no_shape : ShapeTree
 no_shape = record { imports = []; exports = [] }

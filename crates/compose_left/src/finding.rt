@@ -49,7 +49,7 @@ fn push_brought(
 }
 
 /// What the imports of instances bring, in order.
-fn all_brought(alloc: Global, shapes: &[Shape]) -> Result<Vec<Held>, Memory>
+fn all_brought(alloc: Global, shapes: &[&Shape]) -> Result<Vec<Held>, Memory>
     ensures { IfOk result (λ all. all.items ≡ brought_from 0 (shapes_of shapes.now)) }
 {
     let mut all = Vec::new(alloc);
@@ -128,7 +128,7 @@ fn noted(alloc: Global, wired: &Wired<'_>, brought: &[Held]) -> Result<Origins, 
 /// Where the resources and named types of instances of these shapes come from, along these wires.
 ///
 /// The wires have no circle. Of two wires into one import the first counts.
-pub fn origins(alloc: Global, shapes: &[Shape], wires: &[Wire]) -> Result<Origins, Memory>
+pub fn origins(alloc: Global, shapes: &[&Shape], wires: &[Wire]) -> Result<Origins, Memory>
     requires { HasNoCircle (record { shapes = shapes_of shapes.now; wires = wires.now }) }
     ensures { IfOk result (λ o. AreOrigins o (record { shapes = shapes_of shapes.now; wires = wires.now })) }
 {

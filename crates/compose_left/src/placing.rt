@@ -11,7 +11,7 @@ use crate::copies::entity_in;
 use crate::known::Origins;
 use crate::origin::Held;
 use crate::renaming::{Renaming, number_held};
-use crate::spots::{named_type, resource};
+use crate::spots::Thing;
 use comp_entity::{Entity, ResourceNo, TypeNo};
 use std::alloc::Global;
 use warg_values::Memory;
@@ -34,7 +34,7 @@ impl Origins {
     {
         let held = Held {
             instance: at,
-            thing: resource(name),
+            thing: Thing::resource(name),
         };
         let number = number_held(self, held).ok()?;
         ResourceNo::new(0, number)
@@ -47,7 +47,7 @@ impl Origins {
     {
         let held = Held {
             instance: at,
-            thing: named_type(name),
+            thing: Thing::named_type(name),
         };
         let number = number_held(self, held).ok()?;
         TypeNo::new(0, number)

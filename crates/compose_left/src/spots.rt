@@ -20,6 +20,54 @@ pub struct Thing {
     pub number: usize,
 }
 
+impl Thing {
+    /// A resource.
+    pub fn resource(name: ResourceNo) -> Self
+        ensures { result ≡ resource name }
+    {
+        Thing {
+            is_type: false,
+            out: name.out(),
+            number: name.number(),
+        }
+    }
+
+    /// The place that named a type.
+    pub fn named_type(name: TypeNo) -> Self
+        ensures { result ≡ named_type name }
+    {
+        Thing {
+            is_type: true,
+            out: name.out(),
+            number: name.number(),
+        }
+    }
+
+    /// The place that named a value type, where one did.
+    fn of_value(ty: &ValueShape) -> Option<Self>
+        ensures { result ≡ placed_thing (value_tree ty.now) }
+    {
+        match ty {
+            ValueShape::RecordOf(Some(place), _) => Some(Self::named_type(*place)),
+            ValueShape::VariantOf(Some(place), _) => Some(Self::named_type(*place)),
+            ValueShape::FlagsOf(Some(place), _) => Some(Self::named_type(*place)),
+            ValueShape::EnumOf(Some(place), _) => Some(Self::named_type(*place)),
+            _ => None,
+        }
+    }
+
+    /// What an entity names as a type: a resource, or the place that named the value type that it is.
+    pub fn named_by(entity: &Entity) -> Option<Self>
+        ensures { result ≡ named_by (entity_tree entity.now) }
+    {
+        match entity {
+            Entity::Ty(TypeShape::Resource(name)) => Some(Self::resource(*name)),
+            Entity::Ty(TypeShape::Value(ty)) => Self::of_value(ty),
+            _ => None,
+        }
+    }
+}
+
 /// A place at which an import or an export names a resource or a type.
 #[derive(Debug, Drop)]
 pub struct Spot {
@@ -31,52 +79,6 @@ pub struct Spot {
     pub path: Path,
     /// What is named there.
     pub what: Thing,
-}
-
-/// A resource as a thing.
-pub fn resource(name: ResourceNo) -> Thing
-    ensures { result ≡ resource name }
-{
-    Thing {
-        is_type: false,
-        out: name.out(),
-        number: name.number(),
-    }
-}
-
-/// The place that named a type as a thing.
-pub fn named_type(name: TypeNo) -> Thing
-    ensures { result ≡ named_type name }
-{
-    Thing {
-        is_type: true,
-        out: name.out(),
-        number: name.number(),
-    }
-}
-
-/// The place that named a value type, where one did.
-fn placed_thing(ty: &ValueShape) -> Option<Thing>
-    ensures { result ≡ placed_thing (value_tree ty.now) }
-{
-    match ty {
-        ValueShape::RecordOf(Some(place), _) => Some(named_type(*place)),
-        ValueShape::VariantOf(Some(place), _) => Some(named_type(*place)),
-        ValueShape::FlagsOf(Some(place), _) => Some(named_type(*place)),
-        ValueShape::EnumOf(Some(place), _) => Some(named_type(*place)),
-        _ => None,
-    }
-}
-
-/// What an entity names as a type.
-fn named_by(entity: &Entity) -> Option<Thing>
-    ensures { result ≡ named_by (entity_tree entity.now) }
-{
-    match entity {
-        Entity::Ty(TypeShape::Resource(name)) => Some(resource(*name)),
-        Entity::Ty(TypeShape::Value(ty)) => placed_thing(ty),
-        _ => None,
-    }
 }
 
 /// Adds the spot of an entity that is no instance, where it has one.
@@ -91,7 +93,7 @@ fn push_leaf(
     ensures { IfOk result (λ done.
         spots.new.items ≡ spots.old.items ++ spots_of number name.now path.now (entity_tree entity.now)) }
 {
-    match named_by(entity) {
+    match Thing::named_by(entity) {
         Some(what) => {
             let spot = Spot {
                 number,

@@ -44,7 +44,7 @@ pub struct Input {
 #[derive(Drop)]
 pub struct Wired<'a> {
     /// The shapes of the instances.
-    pub shapes: &'a [Shape],
+    pub shapes: &'a [&'a Shape],
     /// The wires, in the order given.
     pub list: &'a [Wire],
     /// What each instance brings and exports.
@@ -55,7 +55,7 @@ pub struct Wired<'a> {
 
 /// Whether each wire comes from an instance that is made before the one that it goes to, which is there: then the wires
 /// have no circle.
-pub fn follows_order(shapes: &[Shape], wires: &[Wire]) -> bool
+pub fn follows_order(shapes: &[&Shape], wires: &[Wire]) -> bool
     ensures no_circle { IsTrue result → HasNoCircle (record { shapes = shapes_of shapes.now; wires = wires.now }) }
     ensures backward { (result ≡ false) → AllByRecursion (IsForward (length shapes.now)) wires.now → ⊥ }
 {
@@ -84,7 +84,7 @@ pub fn wires_by_import(alloc: Global, wires: &[Wire]) -> Result<BTreeMap<Input, 
 }
 
 /// What instances of these shapes bring and export.
-fn all_places(alloc: Global, shapes: &[Shape]) -> Result<Vec<Places>, Memory>
+fn all_places(alloc: Global, shapes: &[&Shape]) -> Result<Vec<Places>, Memory>
     ensures { IfOk result (λ found. ArePlaces found.items (shapes_of shapes.now)) }
 {
     let mut found = Vec::new(alloc);
@@ -97,7 +97,7 @@ fn all_places(alloc: Global, shapes: &[Shape]) -> Result<Vec<Places>, Memory>
 /// Instances of these shapes, and these wires, found by maps.
 pub fn wired_of<'a>(
     alloc: Global,
-    shapes: &'a [Shape],
+    shapes: &'a [&'a Shape],
     wires: &'a [Wire],
 ) -> Result<Wired<'a>, Memory>
     ensures found { IfOk result (λ found. IsWired found) }
@@ -148,7 +148,7 @@ fn given_thing(wired: &Wired<'_>, source: usize, place: &Place) -> Option<Thing>
 }
 
 /// The name of the export that a wire takes, where it takes one.
-fn export_name<'a>(shapes: &'a [Shape], wire: Wire) -> Option<&'a Text>
+fn export_name<'a>(shapes: &'a [&'a Shape], wire: Wire) -> Option<&'a Text>
     ensures { option_copied result ≡ export_name (shape_at (shapes_of shapes.now) wire.source) wire.export }
 {
     let export = wire.export?;
@@ -164,7 +164,7 @@ fn export_name<'a>(shapes: &'a [Shape], wire: Wire) -> Option<&'a Text>
 }
 
 /// A path of what a wire takes, as one of its source's exports.
-fn given_path(alloc: Global, shapes: &[Shape], wire: Wire, path: &Path) -> Result<Path, Memory>
+fn given_path(alloc: Global, shapes: &[&Shape], wire: Wire, path: &Path) -> Result<Path, Memory>
     ensures { IfOk result (λ given.
         given ≡ given_path (shape_at (shapes_of shapes.now) wire.source) wire.export path.now) }
 {

@@ -131,6 +131,15 @@ fn placed(
     }
 }
 
+/// Shapes, lent.
+fn lent<'a>(alloc: Global, shapes: &'a [Shape]) -> Result<Vec<&'a Shape>, Memory> {
+    let mut lent = Vec::new(alloc);
+    for shape in shapes {
+        lent.push(shape)?;
+    }
+    Ok(lent)
+}
+
 /// The number of a resource of an instance, by shapes and wires.
 fn wired(
     alloc: Global,
@@ -139,10 +148,11 @@ fn wired(
     at: usize,
     out: usize,
 ) -> Result<Option<usize>, Memory> {
-    if !follows_order(shapes, wires) {
+    let shapes = lent(alloc, shapes)?;
+    if !follows_order(&shapes, wires) {
         return Ok(None);
     }
-    let origins = origins(alloc, shapes, wires)?;
+    let origins = origins(alloc, &shapes, wires)?;
     placed(alloc, &origins, at, out)
 }
 
@@ -187,6 +197,7 @@ fn back(alloc: Global) -> Result<Vec<Wire>, Memory> {
 fn a_wire_from_a_later_instance_follows_no_order(rt: HostRuntime) -> Result<(), Fail> {
     let back = back(rt.alloc())?;
     let shapes = shapes(rt.alloc())?;
-    assert!(rt; !follows_order(&shapes, &back));
+    let lent = lent(rt.alloc(), &shapes)?;
+    assert!(rt; !follows_order(&lent, &back));
     Ok(())
 }

@@ -1,11 +1,11 @@
 use Rattle.std.proofs.Common.{rules, sym, ◌∙◌, arith, refl, subst, List}
 use Rattle.compose_left.specs.declared.origin.Held.{Held}
 use Rattle.std.proofs.lemmas.List.{length-map}
-use Rattle.comp_entity.specs.Views.{shape_tree}
 use Rattle.compose_left.specs.Wired.{wiring_of}
 use Rattle.compose_left.proofs.FollowLaws.{Following, follow_begins, known, ended, goes_on}
 use Rattle.compose_left.proofs.OriginLaws.{goes_down}
 use Rattle.compose_left.proofs.numbering.follow.Goals as goal
+use Rattle.compose_left.specs.Wiring.{lent_shape}
 use Rattle.compose_left.proofs.numbering.follow.Goals.{else-loop-passed-test, then-loop-passed-test+in_default+in_ok-push+in_ok-origin+in-Goes+else-passed-passed-end}
 
 pub returns-in-Some : goal.returns-in-Some
@@ -22,7 +22,7 @@ unreachable-requires c = elim c.loop-passed-test.branch [
   | then-loop-passed-test+in_default+in_ok-push+in_ok-origin+in-Goes+else-passed-passed-end w ↦
       let lt = goes_down (wiring_of c.args.wired.now) c.requires.order c.loop-passed.held w.in-Goes.next (sym w.in_ok-origin.ensures ∙ w.in-Goes.is) in
       let le = c.loop-passed.invariant.room c.requires.order in
-      let count = length-map c.args.wired.now.shapes.now shape_tree in omega (arith, lt, le, count)
+      let count = length-map c.args.wired.now.shapes.now lent_shape in omega (arith, lt, le, count)
 ]
 
 pub loop-passed-preserved : goal.loop-passed-preserved

@@ -1,8 +1,7 @@
 use Rattle.std.proofs.Common.{None, sym, subst, length}
 use Rattle.std.specs.List.{AllByRecursion}
 use Rattle.std.proofs.lemmas.List.{take_all, length-map}
-use Rattle.comp_entity.specs.Views.{shape_tree}
-use Rattle.compose_left.specs.Wiring.{IsForward, shapes_of}
+use Rattle.compose_left.specs.Wiring.{lent_shape, IsForward, shapes_of}
 use Rattle.compose_left.proofs.OrderLaws.{forward_step, no_circle}
 use Rattle.compose_left.proofs.wiring.follows_order.Goals as goal
 
@@ -13,5 +12,5 @@ loop-wire-preserved c =
 pub returns-clause-no_circle : goal.returns-clause-no_circle
 returns-clause-no_circle c = λ t.
     no_circle (shapes_of c.args.shapes.now) c.args.wires.now
-    (subst (λ n. AllByRecursion (IsForward n) c.args.wires.now) (sym (length-map c.args.shapes.now shape_tree))
+    (subst (λ n. AllByRecursion (IsForward n) c.args.wires.now) (sym (length-map c.args.shapes.now lent_shape))
     (subst (AllByRecursion (IsForward (length c.args.shapes.now))) (take_all c.loop-wire.wire-index c.args.wires.now c.loop-wire-test.false) c.loop-wire.invariant))
