@@ -1,5 +1,5 @@
 -- What is written behind what, and why not.
-use Rattle.std.specs.Prelude.{◌≡◌, ℕ, ◌+◌, ◌<◌, ◌≤◌, List, [], ◌∷◌, ◌++◌, ◌==◌, if◌then◌else◌, codes, Result, Ok, Err, string_bytes}
+use Rattle.std.specs.Prelude.{◌≡◌, ℕ, ◌+◌, ◌<◌, ◌≤◌, List, [], ◌++◌, ◌==◌, if◌then◌else◌, codes, Result, Ok, Err, string_bytes}
 use Rattle.std.specs.Io.{StartsWith}
 use Rattle.yaml_small.specs.Trees.{depth}
 use Rattle.yaml_text.specs.Texts.{quoted}

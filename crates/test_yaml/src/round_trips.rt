@@ -3,6 +3,7 @@
 use indexmap::IndexMap;
 use serde_yaml2::{Errors, ReadYaml, RoundTrip, WriteYaml, YamlNodeWrapper, from_str, to_string};
 use std::alloc::Global;
+use std::hash::{DefaultHasher, Hash, Hasher};
 use std::test::Fail;
 use test_check::{holds, is_text};
 use warg_values::Text;
@@ -130,6 +131,28 @@ fn nested_are_too_deep(alloc: Global, lists: usize) -> Result<(), Fail> {
 fn lists_come_back_64_deep_and_are_refused_65_deep(rt: HostRuntime) -> Result<(), Fail> {
     nested_come_back(rt.alloc(), 64)?;
     nested_are_too_deep(rt.alloc(), 65)
+}
+
+/// The hash of the value that a text is read as.
+fn hash_of(alloc: Global, text: &str) -> Result<u64, Fail> {
+    let value = from_str::<YamlNodeWrapper>(alloc, text)?;
+    let mut state = DefaultHasher::new();
+    value.hash(&mut state);
+    Ok(state.finish())
+}
+
+#[test]
+fn equal_values_hash_alike_and_others_otherwise(rt: HostRuntime) -> Result<(), Fail> {
+    let alloc = rt.alloc();
+    let hash = hash_of(alloc, "a: [1, true, ~, b]")?;
+    holds(
+        hash_of(alloc, "{a: [1, true, null, 'b']}")? == hash,
+        "equal values hash alike",
+    )?;
+    holds(
+        hash_of(alloc, "a: [1, true, ~, c]")? != hash,
+        "another value hashes otherwise",
+    )
 }
 
 /// Names of variants, and the texts that they are written as.

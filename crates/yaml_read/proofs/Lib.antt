@@ -4,3 +4,4 @@ pub mod AnyLoops
 pub mod EntryLemmas
 pub mod Tails
 pub mod WholeTexts
+pub mod Sizes

@@ -14,4 +14,7 @@ pub mod Entries
 pub mod Whole
 pub mod Any
 pub mod AnyLaws
+pub mod Same
+pub mod Fed
+pub mod SameLaws
 pub mod Wrapped

@@ -9,6 +9,7 @@ mod error;
 mod impls;
 mod list;
 mod read;
+mod same;
 mod text;
 mod wrapper;
 

@@ -1,3 +1,4 @@
+pub mod Letters
 pub mod Loops
 pub mod Quotes
 pub mod Blocks

@@ -4,6 +4,7 @@ pub mod Plain
 pub mod Quoted
 pub mod QuotedScan
 pub mod QuotedLaws
+pub mod Turns
 pub mod Finds
 pub mod Block
 pub mod Gathers

@@ -4,10 +4,8 @@ use Rattle.std.specs.Char.{encode_utf8, digit_value, is_digit}
 use Rattle.std.proofs.lemmas.Bool.{eqb-true, ne_eqb, lt-ltb}
 use lib.Utf8.{scalar, scalar_cases}
 use Rattle.yaml_scan.specs.Bytes.{is_control}
-use Rattle.yaml_scan.specs.declared.quoted.Inside.{Inside}
-use Rattle.yaml_scan.specs.declared.quoted.Inside.TheVariants.{Text, Backslash, Hex}
 use Rattle.yaml_scan.specs.Quoted.{escaped, digits_wanted, all_hex, hex_number, Piece, itself, SinglePiece, DoublePiece, Pieces, begins_quote, SingleQuoted, DoubleQuoted}
-use Rattle.yaml_scan.specs.QuotedScan.{Found, Open, Bad, with_text, single_at, Turn, turn, text_turn, escape_turn, hex_turn, digit_turn, continued, double_at, double_quoted_at}
+use Rattle.yaml_scan.specs.QuotedScan.{Found, Open, Bad, with_text, single_at, Standing, Text, Backslash, Hex, Turn, turn, text_turn, escape_turn, hex_turn, digit_turn, continued, double_at, double_quoted_at}
 
 unfoldable pub found_is : List ℕ → List ℕ → Found
 found_is text rest = Ok (text, rest)
@@ -126,7 +124,7 @@ record Digits (wanted value : ℕ) (line text rest : List ℕ) : Type 0 where
   quoted : DoubleQuoted behind more rest
 
 -- what a scan finds from within a scalar
-abbrev Rest : Inside → List ℕ → List ℕ → List ℕ → Type 0
+abbrev Rest : Standing → List ℕ → List ℕ → List ℕ → Type 0
 Rest Text line text rest = DoubleQuoted line text rest
 Rest Backslash line text rest = DoubleQuoted (92 ∷ line) text rest
 Rest (Hex wanted value) line text rest = 0 < wanted → Digits wanted value line text rest
@@ -136,9 +134,9 @@ double_piece p line behind text more rest is may all (ps, pieces) = (p ∷ ps, (
 
 -- a byte, and what the scan finds behind it
 abbrev Onward : List ℕ → List ℕ → Type 0
-Onward cs rest = (inside : Inside) (more : List ℕ) → double_at cs inside ≡ found_is more rest → Rest inside cs more rest
+Onward cs rest = (standing : Standing) (more : List ℕ) → double_at cs standing ≡ found_is more rest → Rest standing cs more rest
 
-refused : {P : Type 0} (text rest : List ℕ) (f : Inside → Found) → continued None f ≡ found_is text rest → P
+refused : {P : Type 0} (text rest : List ℕ) (f : Standing → Found) → continued None f ≡ found_is text rest → P
 unfolding found_is
 refused text rest f e = absurd cc
 
@@ -236,15 +234,15 @@ text_or_end c cs text rest true is onward e =
     ([], (ap (λ (x : ℕ). x ∷ cs) (eqb-true c 34 is) ∙ ap (λ (x : List ℕ). 34 ∷ x) (same_rest [] text cs rest e), sym (same_text [] text cs rest e)))
 text_or_end c cs text rest false is onward e = text_found c cs text rest (eqb c 92) (is_control (c ∷ cs)) refl refl is onward e
 
-rest_found : (line : List ℕ) (inside : Inside) (text rest : List ℕ) → double_at line inside ≡ found_is text rest → Rest inside line text rest
+rest_found : (line : List ℕ) (standing : Standing) (text rest : List ℕ) → double_at line standing ≡ found_is text rest → Rest standing line text rest
 unfolding found_is
 rest_found [] Text text rest e = absurd cc
 rest_found [] Backslash text rest e = absurd cc
 rest_found [] (Hex wanted value) text rest e = absurd cc
-rest_found (c ∷ cs) Text text rest e = text_or_end c cs text rest (eqb c 34) refl (λ inside more h. rest_found cs inside more rest h) e
-rest_found (c ∷ cs) Backslash text rest e = escape_found c cs text rest (digits_wanted c) (escaped c) refl refl (λ inside more h. rest_found cs inside more rest h) e
+rest_found (c ∷ cs) Text text rest e = text_or_end c cs text rest (eqb c 34) refl (λ standing more h. rest_found cs standing more rest h) e
+rest_found (c ∷ cs) Backslash text rest e = escape_found c cs text rest (digits_wanted c) (escaped c) refl refl (λ standing more h. rest_found cs standing more rest h) e
 rest_found (c ∷ cs) (Hex wanted value) text rest e =
-    λ some. digit_found wanted value c cs text rest (is_digit c 16) refl some (λ inside more h. rest_found cs inside more rest h) e
+    λ some. digit_found wanted value c cs text rest (is_digit c 16) refl some (λ standing more h. rest_found cs standing more rest h) e
 
 pub double_found : (line text rest : List ℕ) → double_quoted_at line ≡ found_is text rest → DoubleQuoted line text rest
 double_found line text rest e = rest_found line Text text rest e

@@ -5,8 +5,6 @@ use lib.Utf8.{scalar}
 use Rattle.warg_values.specs.Reading.{◌>>=◌}
 use Rattle.yaml_scan.specs.Bytes.{double_quote, single_quote, backslash, is_control}
 use Rattle.yaml_scan.specs.Quoted.{escaped, digits_wanted}
-use Rattle.yaml_scan.specs.declared.quoted.Inside.{Inside}
-use Rattle.yaml_scan.specs.declared.quoted.Inside.TheVariants.{Text, Backslash, Hex}
 
 -- Why no quoted scalar stands here: the line ends before it does, or a character is not allowed.
 pub data Flaw : Type 0 where
@@ -33,14 +31,20 @@ single_at (c ∷ d ∷ cs) =
     else if is_control (c ∷ d ∷ cs) then Err Bad
     else with_text (c ∷ []) (single_at (d ∷ cs))
 
+-- Where in a double-quoted scalar a byte stands: in its text, behind a backslash, or where so many hex digits more are
+-- wanted, behind those that made a value.
+pub data Standing : Type 0 where
+  Text : Standing
+  Backslash : Standing
+  Hex : ℕ → ℕ → Standing
+
 -- What a byte of a double-quoted scalar gives, and where the next one stands; nothing, where it can't stand there.
--- A backslash begins an escape, which stands for one character. Hex wanted value wants that many digits more
--- behind those that made the value.
+-- A backslash begins an escape, which stands for one character.
 pub record Turn : Type 0 where
   pub text : List ℕ
-  pub next : Inside
+  pub next : Standing
 
-abbrev pub turn : List ℕ → Inside → Option Turn
+abbrev pub turn : List ℕ → Standing → Option Turn
 turn text next = Some (record { text = text; next = next })
 
 abbrev pub text_turn : ℕ → List ℕ → Option Turn
@@ -65,12 +69,12 @@ hex_turn wanted value =
 abbrev pub digit_turn : ℕ → ℕ → ℕ → Option Turn
 digit_turn wanted value c = if is_digit c 16 then hex_turn wanted (16 * value + digit_value c) else None
 
-abbrev pub turn_at : Inside → ℕ → List ℕ → Option Turn
+abbrev pub turn_at : Standing → ℕ → List ℕ → Option Turn
 turn_at Text c cs = text_turn c cs
 turn_at Backslash c cs = escape_turn (digits_wanted c) (escaped c)
 turn_at (Hex wanted value) c cs = digit_turn wanted value c
 
-abbrev pub next_of : Option Turn → Option Inside
+abbrev pub next_of : Option Turn → Option Standing
 next_of None = None
 next_of (Some t) = Some t.next
 
@@ -78,25 +82,26 @@ abbrev pub text_of : Option Turn → List ℕ
 text_of None = []
 text_of (Some t) = t.text
 
-abbrev pub continued : Option Turn → (Inside → Found) → Found
+abbrev pub continued : Option Turn → (Standing → Found) → Found
 continued None f = Err Bad
 continued (Some t) f = with_text t.text (f t.next)
 
-abbrev pub closes : Inside → ℕ → Bool
+abbrev pub closes : Standing → ℕ → Bool
 closes Text c = c == double_quote
 closes Backslash c = false
 closes (Hex wanted value) c = false
 
 -- A scalar that its line cuts off is open, but for a cut number, which is bad.
-abbrev pub cut_off : Inside → Flaw
+abbrev pub cut_off : Standing → Flaw
 cut_off Text = Open
 cut_off Backslash = Open
 cut_off (Hex wanted value) = Bad
 
 -- Double quotes, behind the opening one or further in.
-abbrev pub double_at : List ℕ → Inside → Found
-double_at [] inside = Err (cut_off inside)
-double_at (c ∷ cs) inside = if closes inside c then Ok ([], cs) else continued (turn_at inside c cs) (double_at cs)
+abbrev pub double_at : List ℕ → Standing → Found
+double_at [] standing = Err (cut_off standing)
+double_at (c ∷ cs) standing =
+    if closes standing c then Ok ([], cs) else continued (turn_at standing c cs) (double_at cs)
 
 -- Double quotes, behind the opening one.
 abbrev pub double_quoted_at : List ℕ → Found

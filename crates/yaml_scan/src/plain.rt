@@ -44,16 +44,19 @@ pub fn begins_plain(flow: bool, line: &[u8]) -> bool
 }
 
 /// Whether a plain scalar ends before this, which stands behind white space or not.
+#[tactic(auto, using(crate::proofs::Letters::letters_go_on))]
 fn ends_plain(flow: bool, behind_white: bool, line: &[u8]) -> bool
     ensures { result ≡ spec.ends_plain flow behind_white line.now }
 {
     match line {
         [] => true,
         [first, rest @ ..] => {
-            (*first == b'#' && behind_white)
-                || (*first == b':' && parts(flow, rest))
-                || (flow && is_flow_mark(*first))
-                || is_control(line)
+            // Most bytes are small letters, which end none: one test tells them.
+            !(b'a' <= *first && *first <= b'z')
+                && ((*first == b'#' && behind_white)
+                    || (*first == b':' && parts(flow, rest))
+                    || (flow && is_flow_mark(*first))
+                    || is_control(line))
         }
     }
 }

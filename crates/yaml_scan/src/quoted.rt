@@ -1,8 +1,9 @@
 //! Quoted scalars of one line (YAML 1.2.2, sections 7.3.1, 7.3.2 and 5.7).
 
-ghost use Rattle.std.specs.Prelude.{◌≡◌, ◌++◌, IfOk, OnOk, encode_utf8};
+ghost use Rattle.std.specs.Prelude.{◌≡◌, ℕ, List, ◌++◌, IfOk, IfErr, OnOk, encode_utf8};
 ghost use Rattle.yaml_scan.specs.Quoted as quoted;
 ghost use Rattle.yaml_scan.specs.QuotedScan as spec;
+ghost use Rattle.yaml_scan.specs.Turns as turns;
 ghost use Rattle.yaml_scan.specs.Finds as finds;
 
 use crate::bytes::{is_control, is_control_at};
@@ -49,7 +50,18 @@ impl<T: Drop> From<AllocFailed<T>> for QuoteError {
 }
 
 /// The single-quoted scalar behind an opening quote. Two quotes in it are one.
+#[tactic(auto, using(crate::proofs::Quotes::single_is_found))]
 pub fn single_quoted(alloc: Global, line: &[u8]) -> Result<Quoted<'_>, QuoteError>
+    ensures found { IfOk result (λ q. quoted.SingleQuoted line.now q.text.items q.rest.now) }
+    ensures each { (text rest : List ℕ) → quoted.SingleQuoted line.now text rest
+        → IfErr result (λ e. e ≡ QuoteError.Memory) }
+    ensures scanned { finds.Finds result (spec.single_at line.now) }
+{
+    single_scan(alloc, line)
+}
+
+/// The same, byte by byte.
+fn single_scan(alloc: Global, line: &[u8]) -> Result<Quoted<'_>, QuoteError>
     ensures { finds.Finds result (spec.single_at line.now) }
 {
     let mut text = Vec::new(alloc);
@@ -72,6 +84,17 @@ pub fn single_quoted(alloc: Global, line: &[u8]) -> Result<Quoted<'_>, QuoteErro
     Err(QuoteError::Open)
 }
 
+/// The double-quoted scalar behind an opening quote, with its escapes as the characters that they stand for.
+#[tactic(auto, using(crate::proofs::Quotes::double_is_found))]
+pub fn double_quoted(alloc: Global, line: &[u8]) -> Result<Quoted<'_>, QuoteError>
+    ensures found { IfOk result (λ q. quoted.DoubleQuoted line.now q.text.items q.rest.now) }
+    ensures each { (text rest : List ℕ) → quoted.DoubleQuoted line.now text rest
+        → IfErr result (λ e. e ≡ QuoteError.Memory) }
+    ensures scanned { finds.Finds result (spec.double_quoted_at line.now) }
+{
+    double_scan(alloc, line)
+}
+
 /// Where in a double-quoted scalar a byte stands.
 #[derive(Clone, Copy, Debug)]
 enum Inside {
@@ -83,8 +106,8 @@ enum Inside {
     Hex(u8, u32),
 }
 
-/// The double-quoted scalar behind an opening quote, with its escapes as the characters that they stand for.
-pub fn double_quoted(alloc: Global, line: &[u8]) -> Result<Quoted<'_>, QuoteError>
+/// The same, byte by byte.
+fn double_scan(alloc: Global, line: &[u8]) -> Result<Quoted<'_>, QuoteError>
     ensures { finds.Finds result (spec.double_quoted_at line.now) }
 {
     let mut text = Vec::new(alloc);
@@ -109,7 +132,7 @@ pub fn double_quoted(alloc: Global, line: &[u8]) -> Result<Quoted<'_>, QuoteErro
 
 /// Whether a byte is the closing quote.
 fn closes(inside: Inside, byte: u8) -> bool
-    ensures { result ≡ spec.closes inside byte }
+    ensures { result ≡ spec.closes (turns.standing inside) byte }
 {
     match inside {
         Inside::Text => byte == b'"',
@@ -120,7 +143,7 @@ fn closes(inside: Inside, byte: u8) -> bool
 
 /// Why a scalar that its line cuts off is none.
 fn cut_off(inside: Inside, begun: usize) -> QuoteError
-    ensures { finds.Explains result (spec.cut_off inside) }
+    ensures { finds.Explains result (spec.cut_off (turns.standing inside)) }
 {
     match inside {
         Inside::Text => QuoteError::Open,
@@ -137,8 +160,10 @@ fn turn(
     byte: u8,
     behind: &[u8],
 ) -> Result<Option<Inside>, AllocError>
-    ensures next { IfOk result (λ o. o ≡ spec.next_of (spec.turn_at inside byte behind.now)) }
-    ensures text { OnOk result (text.new.items ≡ text.old.items ++ spec.text_of (spec.turn_at inside byte behind.now)) }
+    ensures next { IfOk result
+        (λ o. turns.next_standing o ≡ spec.next_of (spec.turn_at (turns.standing inside) byte behind.now)) }
+    ensures text { OnOk result
+        (text.new.items ≡ text.old.items ++ spec.text_of (spec.turn_at (turns.standing inside) byte behind.now)) }
 {
     match inside {
         Inside::Text => text_turn(text, byte, behind),
@@ -149,7 +174,7 @@ fn turn(
 
 /// The same for a byte in the text.
 fn text_turn(text: &mut Vec<u8>, byte: u8, behind: &[u8]) -> Result<Option<Inside>, AllocError>
-    ensures next { IfOk result (λ o. o ≡ spec.next_of (spec.text_turn byte behind.now)) }
+    ensures next { IfOk result (λ o. turns.next_standing o ≡ spec.next_of (spec.text_turn byte behind.now)) }
     ensures text { OnOk result (text.new.items ≡ text.old.items ++ spec.text_of (spec.text_turn byte behind.now)) }
 {
     if byte == b'\\' {
@@ -164,7 +189,9 @@ fn text_turn(text: &mut Vec<u8>, byte: u8, behind: &[u8]) -> Result<Option<Insid
 
 /// The same behind a backslash.
 fn escape_turn(text: &mut Vec<u8>, byte: u8) -> Result<Option<Inside>, AllocError>
-    ensures next { IfOk result (λ o. o ≡ spec.next_of (spec.escape_turn (quoted.digits_wanted byte) (quoted.escaped byte))) }
+    ensures next { IfOk result
+        (λ o. turns.next_standing o
+        ≡ spec.next_of (spec.escape_turn (quoted.digits_wanted byte) (quoted.escaped byte))) }
     ensures text { OnOk result
         (text.new.items
         ≡ text.old.items ++ spec.text_of (spec.escape_turn (quoted.digits_wanted byte) (quoted.escaped byte))) }
@@ -186,7 +213,7 @@ fn hex_turn(
     value: u32,
     byte: u8,
 ) -> Result<Option<Inside>, AllocError>
-    ensures next { IfOk result (λ o. o ≡ spec.next_of (spec.digit_turn wanted value byte)) }
+    ensures next { IfOk result (λ o. turns.next_standing o ≡ spec.next_of (spec.digit_turn wanted value byte)) }
     ensures text { OnOk result (text.new.items ≡ text.old.items ++ spec.text_of (spec.digit_turn wanted value byte)) }
 {
     let Some(digit) = char::from(byte).to_digit(16) else {

@@ -1,6 +1,7 @@
 pub mod Scans
 pub mod Digits
 pub mod Marks
+pub mod Nodes
 pub mod Runs
 pub mod Steps
 pub mod EmittedFlow

@@ -1,5 +1,5 @@
 -- What the code's scalars stand for.
-use Rattle.std.specs.Prelude.{◌≡◌, ℕ, List, true, Result}
+use Rattle.std.specs.Prelude.{◌≡◌, ℕ, List, true, Option, Some, None, Result, Ok, Err}
 use Rattle.yaml_scan.specs.declared.quoted.Quoted.{Quoted}
 use Rattle.yaml_scan.specs.declared.quoted.QuoteError.{QuoteError}
 use Rattle.yaml_scan.specs.QuotedScan.{Found}
@@ -20,6 +20,11 @@ content_bytes (Owned bytes) = bytes.items
 
 abbrev pub scalar_token_view : ScalarToken → spec.ScalarToken
 scalar_token_view w = spec.scalar_token (content_bytes w.content) w.style (place_at w.end)
+
+-- what was read, where anything was
+abbrev pub if_read : Result spec.ScalarToken spec.Fault → Option spec.ScalarToken
+if_read (Ok w) = Some w
+if_read (Err fault) = None
 
 -- an error is this fault, or want of memory
 abbrev pub FailsAs : ScanError → spec.Fault → Type 0

@@ -42,7 +42,7 @@ fn block_end(event: Event, place: Place<'_>) -> Step<'_>
         event,
         mark: place.mark,
         place,
-        mode: Mode::Done(false),
+        mode: Mode::Done { continues: false },
         change: Change::Pop,
     }
 }
@@ -223,8 +223,11 @@ pub fn step_of(
         Mode::Key => key_step(alloc, place),
         Mode::Value(col) => value_of(alloc, depth, col, place),
         Mode::Open => open_of(alloc, depth, frame, place),
-        Mode::AfterKey(quoted, continues) => after_key_of(alloc, depth, quoted, continues, place),
-        Mode::Done(continues) => done_of(alloc, depth, continues, frame, place),
+        Mode::AfterKey {
+            is_quoted,
+            continues,
+        } => after_key_of(alloc, depth, is_quoted, continues, place),
+        Mode::Done { continues } => done_of(alloc, depth, continues, frame, place),
         Mode::Trailing => Err(ScanError::Form(fault_mark(place))),
         Mode::Last => last_of(place),
         Mode::Ended => Ok(plain_step(Event::StreamEnd, place.mark, place, Mode::Ended)),

@@ -28,10 +28,10 @@ fn closes_value(line: &[u8]) -> bool
 }
 
 /// Whether the colon behind a key stands here.
-fn is_flow_colon(quoted: bool, line: &[u8]) -> bool
-    ensures { result ≡ grammar.is_flow_colon quoted line.now }
+fn is_flow_colon(is_quoted: bool, line: &[u8]) -> bool
+    ensures { result ≡ grammar.is_flow_colon is_quoted line.now }
 {
-    begins(b':', line) && (quoted || parts(&line[1..]))
+    begins(b':', line) && (is_quoted || parts(&line[1..]))
 }
 
 /// Whether what follows makes a colon in a flow a mark.
@@ -96,7 +96,10 @@ fn key_step<'a>(
         event,
         mark,
         place: end,
-        mode: Mode::AfterKey(!is_plain(style), continues_below(style, end)),
+        mode: Mode::AfterKey {
+            is_quoted: !is_plain(style),
+            continues: continues_below(style, end),
+        },
         change: Change::Keep,
     })
 }
@@ -156,14 +159,14 @@ fn flow_value(alloc: Global, depth: usize, place: Place<'_>) -> Result<Step<'_>,
 pub fn after_key_of(
     alloc: Global,
     depth: usize,
-    quoted: bool,
+    is_quoted: bool,
     continues: bool,
     place: Place<'_>,
 ) -> Result<Step<'_>, ScanError>
-    ensures { ScanGives step_view result (spec.after_key_at depth quoted continues (place_at place.entry)) }
+    ensures { ScanGives step_view result (spec.after_key_at depth is_quoted continues (place_at place.entry)) }
 {
     let token = flow_next(place);
-    if is_flow_colon(quoted, token.line) {
+    if is_flow_colon(is_quoted, token.line) {
         return flow_value(alloc, depth, past(token, 1));
     }
     if closes_value(token.line) {

@@ -4,14 +4,15 @@ ghost use Rattle.std.specs.Prelude.{◌≡◌, ◌≤◌, length, IfErr, IfOk};
 ghost use Rattle.yaml_small.specs.Step as spec;
 ghost use Rattle.yaml_small.specs.Answers.{place_at, ScanGives};
 ghost use Rattle.yaml_small.specs.ScalarTokens.{scalar_token_view};
-ghost use Rattle.yaml_small.specs.Steps.{step_view};
+ghost use Rattle.yaml_small.specs.Steps.{step_view, key_or_scalar};
 
-use crate::cursor::{at_dash, begins, is_dash, is_within, next_content, over, past};
+use crate::cursor::{at_dash, begins, is_colon, is_dash, is_within, next_content, over, past};
 use crate::error::ScanError;
 use crate::event::{Event, Marker};
 use crate::place::Place;
 use crate::scalar::{
-    ScalarToken, begins_block, block_of, continues_below, is_key, scalar_event, scalar_token_of,
+    ScalarToken, begins_block, block_of, continues_below, is_key, scalar_event, scalar_if_any,
+    scalar_token_of,
 };
 use crate::state::{Change, Frame, Mode};
 use std::alloc::Global;
@@ -110,7 +111,7 @@ pub fn settled(
             event,
             mark,
             place,
-            mode: Mode::Done(continues),
+            mode: Mode::Done { continues },
             change,
         };
     }
@@ -124,7 +125,7 @@ pub fn settled(
             over(place)
         },
         mode: if over_line {
-            Mode::Done(continues)
+            Mode::Done { continues }
         } else {
             Mode::Trailing
         },
@@ -178,7 +179,8 @@ fn scalar_token_step<'a>(
     mark: Marker,
     scalar_token: ScalarToken<'a>,
 ) -> Result<Step<'a>, ScanError>
-    ensures value { IfOk result (λ step. step_view step ≡ spec.scalar_token_transition flow (scalar_token_view scalar_token.entry)) }
+    ensures value { IfOk result
+        (λ step. step_view step ≡ spec.scalar_token_transition flow (scalar_token_view scalar_token.entry)) }
     ensures only { IfErr result (λ e. e ≡ ScanError.Memory) }
 {
     let ScalarToken {
@@ -203,7 +205,8 @@ fn block_step<'a>(
     mark: Marker,
     scalar_token: ScalarToken<'a>,
 ) -> Result<Step<'a>, ScanError>
-    ensures value { IfOk result (λ step. step_view step ≡ spec.block_transition (scalar_token_view scalar_token.entry)) }
+    ensures value { IfOk result
+        (λ step. step_view step ≡ spec.block_transition (scalar_token_view scalar_token.entry)) }
     ensures only { IfErr result (λ e. e ≡ ScanError.Memory) }
 {
     let ScalarToken {
@@ -216,7 +219,7 @@ fn block_step<'a>(
         event,
         mark,
         place: end,
-        mode: Mode::Done(false),
+        mode: Mode::Done { continues: false },
         change: Change::Keep,
     })
 }
@@ -231,13 +234,12 @@ pub fn missing_step(alloc: Global, mark: Marker, place: Place<'_>) -> Result<Ste
         event: Event::Scalar(text, crate::event::Style::Plain),
         mark,
         place,
-        mode: Mode::Done(false),
+        mode: Mode::Done { continues: false },
         change: Change::Keep,
     })
 }
 
 /// A node under a parent's column, where its line's content begins.
-#[tactic(auto, unfolding(crate::specs::Step::node_at))]
 pub fn node_of(
     alloc: Global,
     depth: usize,
@@ -249,10 +251,26 @@ pub fn node_of(
     if is_dash(place.line) {
         return list_start(depth, place);
     }
-    if is_key(alloc, place)? {
+    match scalar_if_any(alloc, place)? {
+        Some(scalar_token) => key_or_scalar(alloc, depth, place, scalar_token),
+        None => inline_of(alloc, false, depth, parent, place),
+    }
+}
+
+/// The map whose first key is this scalar, or the scalar's own step. It is scanned once for both.
+fn key_or_scalar<'a>(
+    alloc: Global,
+    depth: usize,
+    place: Place<'a>,
+    scalar_token: ScalarToken<'a>,
+) -> Result<Step<'a>, ScanError>
+    ensures { ScanGives step_view result
+        (key_or_scalar depth (place_at place.entry) (scalar_token_view scalar_token.entry)) }
+{
+    if is_colon(over(scalar_token.end).line) {
         return map_start(depth, place);
     }
-    inline_of(alloc, false, depth, parent, place)
+    scalar_token_step(alloc, false, place.mark, scalar_token)
 }
 
 /// A node on deeper lines, or none; `mark` is where a missing one would stand.

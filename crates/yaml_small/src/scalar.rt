@@ -1,10 +1,10 @@
 //! Scalars where they stand: on one line, as keys, and as blocks (YAML 1.2.2, sections 7.3, 7.4.2 and 8.1).
 
-ghost use Rattle.std.specs.Prelude.{◌≡◌, true, option_copied, IfOk, IfErr};
+ghost use Rattle.std.specs.Prelude.{◌≡◌, true, false, option_copied, option_map, IfOk, IfErr};
 ghost use Rattle.yaml_scan.specs.Lines.{lines_behind};
 ghost use Rattle.yaml_small.specs.Scalars as spec;
 ghost use Rattle.yaml_small.specs.Answers.{place_at, ScanGives};
-ghost use Rattle.yaml_small.specs.ScalarTokens.{content_bytes, scalar_token_view, FoundIn, FailsAs};
+ghost use Rattle.yaml_small.specs.ScalarTokens.{content_bytes, scalar_token_view, if_read, FoundIn, FailsAs};
 
 use crate::cursor::{
     at_dashes, at_dots, at_mark, begins, content_in, is_colon, is_end, mark_below, over, past,
@@ -209,6 +209,21 @@ pub fn scalar_token_of(
         );
     }
     plain_of(flow, place)
+}
+
+/// The plain or quoted scalar that stands here outside of a flow, where one does.
+pub fn scalar_if_any(alloc: Global, place: Place<'_>) -> Result<Option<ScalarToken<'_>>, ScanError>
+    ensures value { IfOk result
+        (λ o. option_map scalar_token_view o ≡ if_read (spec.scalar_token_at false (place_at place.entry))) }
+    ensures only { IfErr result (λ e. e ≡ ScanError.Memory) }
+{
+    match scalar_token_of(alloc, false, place) {
+        Ok(scalar_token) => Ok(Some(scalar_token)),
+        Err(ScanError::Memory) => Err(ScanError::Memory),
+        Err(ScanError::Form(_)) => Ok(None),
+        Err(ScanError::NotCarried(_)) => Ok(None),
+        Err(ScanError::TooDeep(_)) => Ok(None),
+    }
 }
 
 /// A key of a block map, and the place behind its colon.

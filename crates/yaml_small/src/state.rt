@@ -17,11 +17,18 @@ pub enum Mode {
     Value(usize),
     /// An entry or the end of a flow list or map, behind its opening bracket.
     Open,
-    /// What stands behind a key of a flow map: whether the key was quoted, and whether it was plain and would
-    /// go on in the next line.
-    AfterKey(bool, bool),
-    /// What stands behind a node: whether it was a plain scalar that would go on in the next line.
-    Done(bool),
+    /// What stands behind a key of a flow map.
+    AfterKey {
+        /// Whether the key was quoted.
+        is_quoted: bool,
+        /// Whether the key is a plain scalar that would go on in the next line.
+        continues: bool,
+    },
+    /// What stands behind a node.
+    Done {
+        /// Whether the node is a plain scalar that would go on in the next line.
+        continues: bool,
+    },
     /// Nothing: more stands on a line than may.
     Trailing,
     /// The stream's end, behind the document.

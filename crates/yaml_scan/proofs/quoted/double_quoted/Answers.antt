@@ -1,10 +1,5 @@
-use Rattle.std.proofs.Common.{◌∙◌, sym}
-use Rattle.std.proofs.lemmas.List.{take_rest}
-use Rattle.yaml_scan.proofs.Quotes.{double_at-byte}
+use Rattle.yaml_scan.proofs.Quotes.{each_double}
 use Rattle.yaml_scan.proofs.quoted.double_quoted.Goals as goal
 
-pub scalar-preserved : goal.scalar-preserved
-scalar-preserved c =
-    double_at-byte c.scalar.text.items _ c.scalar.rest.now _ c.scalar.inside _ (take_rest c.scalar.rest.now 1) c.in-len1-up.len_at_least (sym c.closes.ensures ∙ c.if-closes.false)
-    (sym c.in-Some.is ∙ c.in_ok-next.ensures.next) c.in_ok-next.ensures.text
-    ∙ c.scalar.invariant
+pub returns-clause-each : goal.returns-clause-each
+returns-clause-each c = each_double c.args.line.now c.double_scan.result c.double_scan.ensures
