@@ -1,9 +1,9 @@
 -- How many items each index space numbers.
-use Rattle.std.proofs.Common.{◌≡◌, ◌≢◌, ℕ, ◌+◌, ◌<◌, ◌≤◌, ◌^◌, cond, eqb, List, [], ◌∷◌, ◌++◌, length, refl, sym, ap, subst, ◌∙◌, append_assoc, inl, inr, arith}
+use Rattle.std.proofs.Common.{◌≡◌, ◌≢◌, ℕ, ◌+◌, ◌<◌, ◌≤◌, ◌^◌, cond, eqb, List, [], ◌∷◌, ◌++◌, length, refl, sym, ap, ◌∙◌, append_assoc, inl, inr, arith}
 use Rattle.std.specs.Prelude.{Some, count_by, slice_index, slice_set}
 use Rattle.std.specs.List.{AllByRecursion}
 use Rattle.std.proofs.lemmas.Bool.{cases_Bool, eqb-true, eqb-false}
-use Rattle.std.proofs.lemmas.List.{append-nil, length-append}
+use Rattle.std.proofs.lemmas.List.{append-nil}
 use Rattle.std.proofs.lemmas.List.Sums.{sum_by-append}
 use Rattle.std.proofs.Common.{get_or-set_same, get_or-set_other}
 use Rattle.comp_format.specs.declared.types.CoreSort.{CoreSort}
@@ -13,12 +13,9 @@ use Rattle.comp_format.specs.declared.types.Sort.TheVariants as sort
 use Rattle.comp_format.specs.Items.{ItemTree}
 use Rattle.comp_format.specs.Sections.{Section, ContentForm, section_id, section_items}
 use Rattle.comp_format.specs.Spaces.{core_space, space_of}
-use Rattle.comp_encoder.specs.declared.built.Kind.{Kind}
-use Rattle.comp_encoder.specs.declared.built.Place.{Place}
-use Rattle.comp_encoder.specs.Builder.{Kept, Item, Whole, IsKept, IsBuilt, IsHeld, IsBytesOf, kept, total_len, kepts_of, item_of, entry_of, entries_of}
+use Rattle.comp_encoder.specs.Builder.{Kept, Item, Whole, IsKept, IsBuilt, IsBytesOf, item_of, entry_of, entries_of}
 use Rattle.comp_encoder.specs.Writing.{Entry, Single, GivenSection, items_of, item_sort, numbers, numbered, next_index}
 use Rattle.comp_encoder.proofs.SectionLaws.{entries_append}
-use Rattle.comp_encoder.proofs.PlaceLaws.{kepts_push, total_push}
 use Rattle.comp_encoder.proofs.RawLaws.{section_read, section_kept}
 
 pub items_append : (front back : List Entry) → items_of (front ++ back) ≡ items_of front ++ items_of back
@@ -145,21 +142,3 @@ none_entries = refl
 pub entries_section : (ks : List Kept) (id : ℕ) (content : List ℕ) (s : Section) → section_id s ≡ id → ContentForm s content → entries_of (ks ++ Whole id content ∷ []) ≡ entries_of ks ++ GivenSection id content (section_items s) ∷ []
 unfolding entries_of entry_of
 entries_section ks id content s id_is form = entries_append ks (Whole id content ∷ []) ∙ ap (λ (items : List ItemTree). entries_of ks ++ GivenSection id content items ∷ []) (section_read id content s id_is form)
-
--- ---- at their places
-
-pub none_held : IsHeld [] [] (0 ∷ 0 ∷ 0 ∷ 0 ∷ 0 ∷ 0 ∷ 0 ∷ 0 ∷ 0 ∷ 0 ∷ 0 ∷ [])
-none_held = record { whole = refl; built = none_built }
-
--- a place and its bytes more
-pub held_push : (places new : List Place) (bytes text : List ℕ) (k : Kind) (added counts : List ℕ) → total_len places ≡ length bytes → new ≡ places ++ (record { kind = k; len = length added }) ∷ [] → text ≡ bytes ++ added
-    → IsBuilt (kepts_of places bytes ++ kept k added ∷ []) counts → IsHeld new text counts
-held_push places new bytes text k added counts whole new_is text_is built =
-    let place : Place = record { kind = k; len = length added } in
-    subst (λ (ps : List Place). IsHeld ps text counts) (sym new_is)
-    (
-    subst (λ (t : List ℕ). IsHeld (places ++ place ∷ []) t counts) (sym text_is) (record {
-      whole = omega (arith, total_push places place, whole, length-append bytes added);
-      built = subst (λ (ks : List Kept). IsBuilt ks counts) (sym (kepts_push places bytes k added whole)) built;
-    })
-    )

@@ -3,10 +3,9 @@ pub mod LargestLaws
 pub mod TypeLaws
 pub mod DeclLaws
 pub mod WritingLaws
-pub mod PlaceLaws
 pub mod SectionLaws
 pub mod KeepLaws
 pub mod RawLaws
 pub mod CountLaws
 pub mod SizeLaws
-pub mod FinishLaws
+pub mod RunLaws

@@ -1,20 +1,23 @@
--- What the builder keeps: the bytes of all items with the place of each, and how many items each index space numbers.
-use Rattle.std.specs.Prelude.{◌≡◌, ℕ, ◌<◌, ◌^◌, false, List, [], ◌∷◌, length, map, take, drop, ◌+◌, slice_index, Result, Ok, Err, Some, None, ◌==◌, if◌then◌else◌}
-use Rattle.std.specs.List.{AllByRecursion}
+-- What the builder keeps: the component as far as it is written, the items of the section that is open, and how many
+-- items each index space numbers.
+use Rattle.std.specs.Prelude.{◌≡◌, ◌⊎◌, ℕ, zero, suc, ◌<◌, ◌≤◌, ◌-◌, ◌^◌, true, List, [], ◌∷◌, ◌++◌, length, map, drop, slice_index, Result, Ok, Err, Option, Some, None, Vec, ◌==◌, if◌then◌else◌}
+use Rattle.std.specs.Global.{Global}
+use Rattle.std.specs.List.{AllByRecursion, flat_map}
 use Rattle.comp_encoder.specs.declared.built.Kind.{Kind}
 use Rattle.comp_encoder.specs.declared.built.Kind.TheVariants as kind
 use Rattle.comp_encoder.specs.declared.built.Place.{Place}
 use Rattle.comp_format.specs.declared.types.Sort.{Sort}
 use Rattle.comp_format.specs.SectionIds as ids
 use Rattle.comp_format.specs.Fault.{Fault}
+use Rattle.comp_format.specs.Numbers.{number_text}
 use Rattle.comp_format.specs.CoreTypes.{core_at}
 use Rattle.comp_format.specs.Definitions.{definition_at}
 use Rattle.comp_format.specs.Parts.{instance_at, alias_at}
 use Rattle.comp_format.specs.Items.{ItemTree, Custom, CoreTy, Component, Instance, Aliased, Ty, Import, Export, import_at, export_at}
-use Rattle.comp_format.specs.Sections.{Section, ContentForm, section_id, section_items, content_at}
+use Rattle.comp_format.specs.Sections.{Section, ContentForm, section_id, section_items, content_at, header}
 use Rattle.comp_format.specs.Fits.{FitsItem}
 use Rattle.comp_format.specs.Spaces.{space_of}
-use Rattle.comp_encoder.specs.Writing.{Entry, Single, GivenSection, WrittenSection, item_id, item_text, is_shared, next_index}
+use Rattle.comp_encoder.specs.Writing.{Entry, Single, GivenSection, WrittenSection, IsShort, IsTooLongAmong, item_id, item_text, is_shared, is_plain, next_index, sections_of, section_text}
 
 -- what was added, as its bytes: an item with the id of its section, or a section
 pub data Kept : Type 0 where
@@ -25,15 +28,21 @@ abbrev pub kept : Kind → List ℕ → Kept
 kept (kind.Item id) bytes = Item id bytes
 kept (kind.Section id) content = Whole id content
 
--- how many bytes some places have
-abbrev pub total_len : List Place → ℕ
-total_len [] = 0
-total_len (p ∷ places) = p.len + total_len places
+abbrev pub kind_id : Kind → ℕ
+kind_id (kind.Item id) = id
+kind_id (kind.Section id) = id
 
--- the bytes, cut at the places
-abbrev pub kepts_of : List Place → List ℕ → List Kept
-kepts_of [] bytes = []
-kepts_of (p ∷ places) bytes = kept p.kind (take p.len bytes) ∷ kepts_of places (drop p.len bytes)
+-- what shares its section with nothing: an item that is no vector's, or a section
+abbrev pub IsAlone : Kind → Type 0
+IsAlone (kind.Item id) = is_plain id ≡ true
+IsAlone (kind.Section id) = Unit {0}
+
+-- what a pair of the history tells: so many of the last bytes, and what they are
+abbrev pub seen : Place × Vec ℕ Global → Kept
+seen p = kept p.0.kind (drop (length p.1.items - p.0.len) p.1.items)
+
+abbrev pub kepts_of : List (Place × Vec ℕ Global) → List Kept
+kepts_of history = map seen history
 
 -- the item that was read
 abbrev pub read_as : {X : Type 0} → (X → ItemTree) → Result (X × List ℕ) Fault → ItemTree
@@ -95,11 +104,6 @@ pub record IsBuilt (kepts : List Kept) (counts : List ℕ) : Type 0 where
   pub counted : (kind : Sort) → slice_index counts (space_of kind) ≡ next_index kind (entries_of kepts)
   pub small : (kind : Sort) → slice_index counts (space_of kind) < 2 ^ 32
 
--- the places are those of the bytes, and each index space is counted
-pub record IsHeld (places : List Place) (bytes counts : List ℕ) : Type 0 where
-  pub whole : total_len places ≡ length bytes
-  pub built : IsBuilt (kepts_of places bytes) counts
-
 -- the bytes that stand in a section
 abbrev pub kept_bytes : Kept → List ℕ
 kept_bytes (Item id bytes) = bytes
@@ -125,20 +129,57 @@ abbrev pub EndsRun : ℕ → List Kept → Type 0
 EndsRun id [] = Unit {0}
 EndsRun id (k ∷ kepts) = ¬ IsItem id k
 
--- the same of places
-abbrev pub IsItemKind : ℕ → Kind → Type 0
-IsItemKind id (kind.Item i) = i ≡ id
-IsItemKind id (kind.Section i) = ⊥
+-- ---- what is written
 
-abbrev pub IsOfItem : ℕ → Place → Type 0
-IsOfItem id p = IsItemKind id p.kind
+-- the component, where nothing of it may be written yet
+abbrev pub begun : List ℕ → List ℕ
+begun [] = header
+begun (b ∷ bytes) = b ∷ bytes
 
-abbrev pub EndsItems : ℕ → List Place → Type 0
-EndsItems id [] = Unit {0}
-EndsItems id (p ∷ places) = ¬ IsOfItem id p
+-- the content of the section of so many items, which have these bytes
+abbrev pub run_content : ℕ → List ℕ → List ℕ
+run_content count bytes = number_text count ++ bytes
 
--- all of these stand in one section
-abbrev pub IsRun : List Kept → Type 0
-IsRun [] = ⊥
-IsRun (Item id bytes ∷ kepts) = AllByRecursion (IsItem id) kepts × (is_shared id ≡ false → kepts ≡ [])
-IsRun (Whole id content ∷ kepts) = kepts ≡ []
+-- that section, where there are any
+abbrev pub run_text : ℕ → ℕ → List ℕ → List ℕ
+run_text id zero bytes = []
+run_text id (suc more) bytes = id ∷ (number_text (length (run_content (suc more) bytes)) ++ run_content (suc more) bytes)
+
+abbrev pub run_sections : ℕ → List Kept → List WrittenSection
+run_sections id [] = []
+run_sections id (k ∷ kepts) = shared_section id (k ∷ kepts) ∷ []
+
+-- the section can be written
+pub record IsRunShort (count : ℕ) (bytes : List ℕ) : Type 0 where
+  pub few : count < 2 ^ 32
+  pub short : length (run_content count bytes) < 2 ^ 32
+
+-- the number is its count or length, and can't be written
+pub record IsRunLong (n count : ℕ) (bytes : List ℕ) : Type 0 where
+  pub some : 0 < count
+  pub above : 2 ^ 32 ≤ n
+  pub which : (n ≡ count) ⊎ (n ≡ length (run_content count bytes))
+
+-- The section was written behind the others, or a number of it is too large.
+abbrev pub IsEnded : ℕ → ℕ → List ℕ → List ℕ → Option ℕ → List ℕ → Option ℕ → Type 0
+IsEnded id count bytes out told new fault =
+    ((fault ≡ told) × (new ≡ begun out ++ run_text id count bytes) × (0 < count → IsRunShort count bytes)) ⊎ ((n : ℕ) × (fault ≡ Some n) × IsRunLong n count bytes)
+
+-- Sections were written, and neighbouring items of a kind are to share the next, so many of these bytes. Where a section
+-- can't be written, its count or length is told, and nothing is known of what was written.
+pub record IsLaid (kepts : List Kept) (out : List ℕ) (id count : ℕ) (bytes : List ℕ) (fault : Option ℕ) : Type 0 where
+  pub before : List WrittenSection
+  pub run : List Kept
+  pub cut : (rest : List Kept) → AllByRecursion IsKept rest → sections_of (entries_of (kepts ++ rest)) ≡ before ++ sections_of (entries_of (run ++ rest))
+  pub fit : AllByRecursion IsKept run
+  pub alike : AllByRecursion (IsItem id) run
+  pub shared : is_shared id ≡ true
+  pub counted : length run ≡ count
+  pub bytes_are : flat_map kept_bytes run ≡ bytes
+  pub text : fault ≡ None → begun out ≡ header ++ flat_map section_text before
+  pub short : fault ≡ None → AllByRecursion IsShort before
+  pub long : (n : ℕ) → fault ≡ Some n → IsTooLongAmong n before
+
+-- what was written before still stands first
+abbrev pub BeginsWith : List ℕ → List ℕ → Type 0
+BeginsWith old new = (more : List ℕ) × (new ≡ old ++ more)

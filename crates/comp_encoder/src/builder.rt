@@ -17,7 +17,7 @@ ghost use Rattle.comp_format.specs.Fits.{IsComponent};
 ghost use Rattle.comp_format.specs.Forms.{IsDefined, IsFunc, AreDecls, AreModuleDecls};
 ghost use Rattle.comp_format.specs.Spaces.{space_of};
 ghost use Rattle.comp_encoder.specs.Largest.{vector_largest, arg_largest, defined_largest, func_largest, core_largest, definition_largest};
-ghost use Rattle.comp_encoder.specs.Writing.{Single, GivenSection, numbered, IsTooLongAmong, IsShort, items_of, described_sort, item_sort, sections_of, component_text, next_index};
+ghost use Rattle.comp_encoder.specs.Writing.{Single, GivenSection, numbered, IsTooLongAmong, IsShort, items_of, described_sort, is_shared, is_plain, item_sort, sections_of, component_text, next_index};
 ghost use Rattle.comp_encoder.specs.Builder.{IsBytesOf, IsContent, IsContentOf, item_of, entries_of};
 
 use crate::built::{Built, Kind};
@@ -27,12 +27,10 @@ use crate::items::{
     encode_instance, encode_instance_type, encode_resource,
 };
 use crate::raw::count_section;
-use crate::sections::{component_len, write_sections};
 use crate::spaces::{described_sort, space_of};
-use comp_format::section::{self, HEADER};
 use comp_format::{
     Arg, ComponentType, CoreSort, DefinedType, EncodeError, FuncType, InstanceType, ModuleType,
-    Sort, TypeRef,
+    Sort, TypeRef, section,
 };
 use std::alloc::Global;
 use std::marker::Model;
@@ -41,10 +39,9 @@ use std::mem;
 /// Builds a component, item by item, and writes it.
 ///
 /// A clause sees what was added, in order, by the word `entries_of`. Each adder gives the new item's index in the
-/// index space of its sort, and a refusal adds nothing. An item of 2^32 bytes or more, which no section can hold, is
-/// refused by `Memory`.
+/// index space of its sort, and a refusal adds nothing.
 ///
-/// The bytes of all items stand in one buffer, with eight bytes for the place of each.
+/// A section is written as soon as it is whole, so what was added takes about the memory that the component takes.
 #[derive(Drop)]
 pub struct ComponentBuilder {
     /// What was added, in order.
@@ -61,11 +58,11 @@ impl Model for ComponentBuilder {
 
     ghost Value = { List Kept };
 
-    ghost use Rattle.comp_encoder.specs.Builder.{kepts_of, IsHeld};
+    ghost use Rattle.comp_encoder.specs.Builder.{IsBuilt};
 
-    ghost view = { λ b. kepts_of b.built.places.items b.built.bytes.items };
+    ghost view = { λ b. b.built };
 
-    ghost invariant = { λ b. IsHeld b.built.places.items b.built.bytes.items b.counts };
+    ghost invariant = { λ b. IsBuilt b.built b.counts };
 }
 
 impl ComponentBuilder {
@@ -100,30 +97,10 @@ impl ComponentBuilder {
         mem::replace(&mut self.buffer, Vec::new(alloc))
     }
 
-    /// Adds an item as its bytes, and counts it in the index space of its sort.
-    fn add(&mut self, id: u8, bytes: &[u8], sort: Sort, size: u32) -> Result<(), EncodeError>
-        requires bytes { IsBytesOf (item_of id bytes.now) id bytes.now }
-        requires kind { item_sort (item_of id bytes.now) ≡ Some sort }
-        requires next { size ≡ next_index sort (entries_of self.old) + 1 }
-        ensures added { OnOk result
-            (entries_of self.new ≡ entries_of self.old ++ Single (item_of id bytes.now) ∷ []) }
-        ensures unchanged { OnErr result (self.new ≡ self.old) }
-        ensures err { IfErr result (λ e. e ≡ EncodeError.Memory) }
-    {
-        self.built.push(Kind::Item(id), bytes)?;
-        self.counts[space_of(sort)] = size;
-        Ok(())
-    }
-
-    /// Adds an item that was written into the buffer.
-    fn add_written(
-        &mut self,
-        id: u8,
-        bytes: Vec<u8>,
-        sort: Sort,
-        size: u32,
-    ) -> Result<(), EncodeError>
+    /// Adds an item that was written into the buffer, and counts it in the index space of its sort.
+    fn add(&mut self, id: u8, bytes: Vec<u8>, sort: Sort, size: u32) -> Result<(), EncodeError>
         requires bytes { IsBytesOf (item_of id bytes.items) id bytes.items }
+        requires shared { is_shared id ≡ true }
         requires kind { item_sort (item_of id bytes.items) ≡ Some sort }
         requires next { size ≡ next_index sort (entries_of self.old) + 1 }
         ensures added { OnOk result
@@ -131,8 +108,24 @@ impl ComponentBuilder {
         ensures unchanged { OnErr result (self.new ≡ self.old) }
         ensures err { IfErr result (λ e. e ≡ EncodeError.Memory) }
     {
-        self.add(id, &bytes, sort, size)?;
-        self.buffer = bytes;
+        self.buffer = self.built.push_item(id, bytes)?;
+        self.counts[space_of(sort)] = size;
+        Ok(())
+    }
+
+    /// Adds an item that has a section of its own, and counts it in the index space of its sort.
+    fn add_alone(&mut self, id: u8, bytes: &[u8], sort: Sort, size: u32) -> Result<(), EncodeError>
+        requires bytes { IsBytesOf (item_of id bytes.now) id bytes.now }
+        requires plain { is_plain id ≡ true }
+        requires kind { item_sort (item_of id bytes.now) ≡ Some sort }
+        requires next { size ≡ next_index sort (entries_of self.old) + 1 }
+        ensures added { OnOk result
+            (entries_of self.new ≡ entries_of self.old ++ Single (item_of id bytes.now) ∷ []) }
+        ensures unchanged { OnErr result (self.new ≡ self.old) }
+        ensures too_large { (n : ℕ) → result ≡ Err (EncodeError.TooLarge n) → (n ≡ length bytes.now) × (2 ^ 32 ≤ n) }
+    {
+        self.built.push_section(Kind::Item(id), bytes)?;
+        self.counts[space_of(sort)] = size;
         Ok(())
     }
 
@@ -166,7 +159,7 @@ impl ComponentBuilder {
     {
         let (index, size) = self.next_of(Sort::Component)?;
         let bytes = encode_component(bytes)?;
-        self.add(section::COMPONENT, bytes, Sort::Component, size)?;
+        self.add_alone(section::COMPONENT, bytes, Sort::Component, size)?;
         Ok(index)
     }
 
@@ -196,7 +189,7 @@ impl ComponentBuilder {
     {
         let (index, size) = self.next_of(Sort::Instance)?;
         let bytes = encode_instance(self.take_buffer(alloc), component, args)?;
-        self.add_written(section::INSTANCE, bytes, Sort::Instance, size)?;
+        self.add(section::INSTANCE, bytes, Sort::Instance, size)?;
         Ok(index)
     }
 
@@ -222,7 +215,7 @@ impl ComponentBuilder {
     {
         let (index, size) = self.next_of(sort)?;
         let bytes = encode_alias_export(self.take_buffer(alloc), instance, name, sort)?;
-        self.add_written(section::ALIAS, bytes, sort, size)?;
+        self.add(section::ALIAS, bytes, sort, size)?;
         Ok(index)
     }
 
@@ -248,7 +241,7 @@ impl ComponentBuilder {
     {
         let (place, size) = self.next_of(sort)?;
         let bytes = encode_alias_outer(self.take_buffer(alloc), count, index, sort)?;
-        self.add_written(section::ALIAS, bytes, sort, size)?;
+        self.add(section::ALIAS, bytes, sort, size)?;
         Ok(place)
     }
 
@@ -272,7 +265,7 @@ impl ComponentBuilder {
         let sort = described_sort(*ty);
         let (index, size) = self.next_of(sort)?;
         let bytes = encode_import(self.take_buffer(alloc), name, *ty)?;
-        self.add_written(section::IMPORT, bytes, sort, size)?;
+        self.add(section::IMPORT, bytes, sort, size)?;
         Ok(index)
     }
 
@@ -305,7 +298,7 @@ impl ComponentBuilder {
     {
         let (place, size) = self.next_of(sort)?;
         let bytes = encode_export(self.take_buffer(alloc), name, sort, index, ty.copied())?;
-        self.add_written(section::EXPORT, bytes, sort, size)?;
+        self.add(section::EXPORT, bytes, sort, size)?;
         Ok(place)
     }
 
@@ -326,7 +319,7 @@ impl ComponentBuilder {
     {
         let (index, size) = self.next_of(Sort::Ty)?;
         let bytes = encode_defined(self.take_buffer(alloc), ty)?;
-        self.add_written(section::TYPE, bytes, Sort::Ty, size)?;
+        self.add(section::TYPE, bytes, Sort::Ty, size)?;
         Ok(index)
     }
 
@@ -346,7 +339,7 @@ impl ComponentBuilder {
     {
         let (index, size) = self.next_of(Sort::Ty)?;
         let bytes = encode_function(self.take_buffer(alloc), ty)?;
-        self.add_written(section::TYPE, bytes, Sort::Ty, size)?;
+        self.add(section::TYPE, bytes, Sort::Ty, size)?;
         Ok(index)
     }
 
@@ -371,7 +364,7 @@ impl ComponentBuilder {
     {
         let (index, size) = self.next_of(Sort::Ty)?;
         let bytes = encode_instance_type(self.take_buffer(alloc), ty)?;
-        self.add_written(section::TYPE, bytes, Sort::Ty, size)?;
+        self.add(section::TYPE, bytes, Sort::Ty, size)?;
         Ok(index)
     }
 
@@ -396,7 +389,7 @@ impl ComponentBuilder {
     {
         let (index, size) = self.next_of(Sort::Ty)?;
         let bytes = encode_component_type(self.take_buffer(alloc), ty)?;
-        self.add_written(section::TYPE, bytes, Sort::Ty, size)?;
+        self.add(section::TYPE, bytes, Sort::Ty, size)?;
         Ok(index)
     }
 
@@ -414,7 +407,7 @@ impl ComponentBuilder {
     {
         let (index, size) = self.next_of(Sort::Ty)?;
         let bytes = encode_resource(self.take_buffer(alloc))?;
-        self.add_written(section::TYPE, bytes, Sort::Ty, size)?;
+        self.add(section::TYPE, bytes, Sort::Ty, size)?;
         Ok(index)
     }
 
@@ -439,7 +432,7 @@ impl ComponentBuilder {
     {
         let (index, size) = self.next_of(Sort::Core(CoreSort::Ty))?;
         let bytes = encode_core_module(self.take_buffer(alloc), ty)?;
-        self.add_written(section::CORE_TYPE, bytes, Sort::Core(CoreSort::Ty), size)?;
+        self.add(section::CORE_TYPE, bytes, Sort::Core(CoreSort::Ty), size)?;
         Ok(index)
     }
 
@@ -463,7 +456,7 @@ impl ComponentBuilder {
             ⊎ ((kind : sort_of_item) × (n ≡ next_index kind (entries_of self.old) + numbered kind items))) }
     {
         let counts = count_section(alloc, self.counts, id, content)?;
-        self.built.push(Kind::Section(id), content)?;
+        self.built.push_section(Kind::Section(id), content)?;
         self.counts = counts;
         Ok(())
     }
@@ -483,9 +476,6 @@ impl ComponentBuilder {
         ensures too_large { (n : ℕ) → result ≡ Err (EncodeError.TooLarge n)
             → IsTooLongAmong n (sections_of (entries_of self)) }
     {
-        let mut out = Vec::with_capacity(alloc, component_len(&self.built.places))?;
-        out.extend_from_slice(&HEADER)?;
-        write_sections(&mut out, &self.built.places, &self.built.bytes)?;
-        Ok(out)
+        self.built.finish()
     }
 }

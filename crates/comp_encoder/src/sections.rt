@@ -1,15 +1,13 @@
-//! What was added, cut into sections, and the sections as bytes.
+//! Sections as bytes, and the items of one that is not whole yet.
 
-ghost use Rattle.std.specs.Prelude.{◌≡◌, ◌<◌, ◌≤◌, ◌+◌, ◌^◌, ◌++◌, ◌∷◌, ◌⊎◌, ℕ, List, length, take, drop, OnOk, IfOk, Err, false};
-ghost use Rattle.std.specs.List.{flat_map, AllByRecursion};
-ghost use Rattle.comp_format.specs.Numbers.{leb_text, number_text};
-ghost use Rattle.comp_encoder.specs.Builder.{IsKept, IsRun, IsOfItem, EndsItems, total_len, kepts_of, entries_of, first_section};
-ghost use Rattle.comp_encoder.specs.Writing.{IsTooLong, IsTooLongAmong, IsShort, is_shared, is_plain, section_text, sections_of};
+ghost use Rattle.std.specs.Prelude.{◌≡◌, ◌<◌, ◌≤◌, ◌+◌, ◌^◌, ◌++◌, ◌∷◌, ◌⊎◌, [], ℕ, length, OnOk, OnErr, IfOk, Err};
+ghost use Rattle.comp_format.specs.Numbers.{number_text};
+ghost use Rattle.comp_encoder.specs.Builder.{IsEnded, BeginsWith, begun};
 
-use crate::built::{Kind, Place};
 use crate::sink::{number_len, write_number};
 use comp_format::EncodeError;
-use comp_format::section::{self, HEADER};
+use comp_format::section::HEADER;
+use warg_values::Memory;
 
 /// A length as the format writes it.
 pub fn short(length: usize) -> Result<u32, EncodeError>
@@ -23,75 +21,11 @@ pub fn short(length: usize) -> Result<u32, EncodeError>
     }
 }
 
-/// Whether items share the sections of this id.
-fn is_shared(id: u8) -> bool
-    ensures { result ≡ is_shared id }
-{
-    id == section::CORE_TYPE
-        || id == section::INSTANCE
-        || id == section::ALIAS
-        || id == section::TYPE
-        || id == section::IMPORT
-        || id == section::EXPORT
-}
-
-/// Whether the sections of this id are no vectors.
-fn is_plain(id: u8) -> bool
-    ensures { result ≡ is_plain id }
-{
-    id == section::CUSTOM || id == section::CORE_MODULE || id == section::COMPONENT
-}
-
-/// How many items of this id stand first.
-fn run_len(places: &[Place], id: u8) -> usize
-    ensures bound { result ≤ length places.now }
-    ensures alike { AllByRecursion (IsOfItem id) (take result places.now) }
-    ensures ends { EndsItems id (drop result places.now) }
-{
-    let mut len = 0;
-    for place in places {
-        match place.kind {
-            Kind::Item(other) if other == id => len += 1,
-            _ => return len,
-        }
-    }
-    len
-}
-
-/// How much of what was added, from the first on, stands in one section.
-fn section_len(places: &[Place]) -> usize
-    requires some { 0 < length places.now }
-    ensures bound { result ≤ length places.now }
-    ensures some { 0 < result }
-    ensures run { (bytes : List ℕ) → IsRun (kepts_of (take result places.now) bytes) }
-    ensures first { (bytes : List ℕ) → AllByRecursion IsKept (kepts_of places.now bytes)
-        → sections_of (entries_of (kepts_of places.now bytes))
-        ≡ first_section (kepts_of (take result places.now) bytes)
-        ∷ sections_of
-        (entries_of (kepts_of (drop result places.now) (drop (total_len (take result places.now)) bytes))) }
-{
-    let first = &places[0];
-    match first.kind {
-        Kind::Item(id) if is_shared(id) => run_len(places, id),
-        _ => 1,
-    }
-}
-
-/// How many bytes these have together.
-fn total_len(places: &[Place]) -> usize
-    ensures { total_len places.now < 2 ^ 64 → result ≡ total_len places.now }
-{
-    let mut total: usize = 0;
-    for place in places {
-        total = total.saturating_add(place.len as usize);
-    }
-    total
-}
-
 /// Writes a section: its id, the length of its content, and the content.
 pub fn write_section(out: &mut Vec<u8>, id: u8, content: &[u8]) -> Result<(), EncodeError>
     ensures text { OnOk result
         (out.new.items ≡ out.old.items ++ (id ∷ (number_text (length content.now) ++ content.now))) }
+    ensures front { BeginsWith out.old.items out.new.items }
     ensures fits { OnOk result (length content.now < 2 ^ 32) }
     ensures too_large { (n : ℕ) → result ≡ Err (EncodeError.TooLarge n) → (n ≡ length content.now) × (2 ^ 32 ≤ n) }
 {
@@ -102,91 +36,150 @@ pub fn write_section(out: &mut Vec<u8>, id: u8, content: &[u8]) -> Result<(), En
     Ok(())
 }
 
+/// Writes what stands in front of so many items in their section: its id, the length of its content, and the count. The
+/// items have so many bytes.
+fn write_head(out: &mut Vec<u8>, id: u8, count: usize, items_len: usize) -> Result<(), EncodeError>
+    requires { items_len < 2 ^ 63 }
+    ensures text { OnOk result
+        (out.new.items
+        ≡ out.old.items ++ (id ∷ (number_text (length (number_text count) + items_len) ++ number_text count))) }
+    ensures front { BeginsWith out.old.items out.new.items }
+    ensures count { OnOk result (count < 2 ^ 32) }
+    ensures fits { OnOk result (length (number_text count) + items_len < 2 ^ 32) }
+    ensures too_large { (n : ℕ) → result ≡ Err (EncodeError.TooLarge n)
+        → (2 ^ 32 ≤ n) × ((n ≡ count) ⊎ (n ≡ length (number_text count) + items_len)) }
+{
+    let count = short(count)? as u64;
+    let length = short(number_len(count) + items_len)?;
+    out.push(id)?;
+    write_number(out, length as u64)?;
+    write_number(out, count)?;
+    Ok(())
+}
+
 /// Writes the section of this many items, which have these bytes.
 fn write_vector(out: &mut Vec<u8>, id: u8, count: usize, items: &[u8]) -> Result<(), EncodeError>
     ensures text { OnOk result
         (out.new.items
         ≡ out.old.items
         ++ (id ∷ (number_text (length (number_text count ++ items.now)) ++ (number_text count ++ items.now)))) }
+    ensures front { BeginsWith out.old.items out.new.items }
     ensures count { OnOk result (count < 2 ^ 32) }
     ensures fits { OnOk result (length (number_text count ++ items.now) < 2 ^ 32) }
     ensures too_large { (n : ℕ) → result ≡ Err (EncodeError.TooLarge n)
         → (2 ^ 32 ≤ n) × ((n ≡ count) ⊎ (n ≡ length (number_text count ++ items.now))) }
 {
-    let count = short(count)? as u64;
-    let length = short(number_len(count) + items.len())?;
-    out.push(id)?;
-    write_number(out, length as u64)?;
-    write_number(out, count)?;
+    write_head(out, id, count, items.len())?;
     out.extend_from_slice(items)?;
     Ok(())
 }
 
-/// Writes the section of all of these, which have these bytes.
-fn write_first_section(out: &mut Vec<u8>, places: &[Place], bytes: &[u8]) -> Result<(), EncodeError>
-    requires fit { AllByRecursion IsKept (kepts_of places.now bytes.now) }
-    requires run { IsRun (kepts_of places.now bytes.now) }
-    requires some { 0 < length places.now }
-    requires whole { total_len places.now ≡ length bytes.now }
-    ensures text { OnOk result
-        (out.new.items ≡ out.old.items ++ section_text (first_section (kepts_of places.now bytes.now))) }
-    ensures fits { OnOk result (IsShort (first_section (kepts_of places.now bytes.now))) }
-    ensures too_large { (n : ℕ) → result ≡ Err (EncodeError.TooLarge n)
-        → IsTooLong n (first_section (kepts_of places.now bytes.now)) }
-{
-    let first = &places[0];
-    match first.kind {
-        Kind::Section(id) => write_section(out, id, bytes),
-        Kind::Item(id) if is_plain(id) => write_section(out, id, bytes),
-        Kind::Item(id) => write_vector(out, id, places.len(), bytes),
+/// Neighbouring items that share a section.
+#[derive(Debug, Drop)]
+pub struct Run {
+    /// The id of the section.
+    pub id: u8,
+    /// How many items there are.
+    pub count: usize,
+    /// Their bytes, in order.
+    pub bytes: Vec<u8>,
+}
+
+impl Run {
+    /// One item more. As each has a byte at least, there is no memory for more than can be counted.
+    pub fn push(&mut self, item: &[u8]) -> Result<(), Memory>
+        ensures bytes { OnOk result (self.new.bytes.items ≡ self.old.bytes.items ++ item.now) }
+        ensures count { OnOk result (self.new.count ≡ self.old.count + 1) }
+        ensures same_bytes { OnErr result (self.new.bytes.items ≡ self.old.bytes.items) }
+        ensures same_count { OnErr result (self.new.count ≡ self.old.count) }
+        ensures id { self.new.id ≡ self.old.id }
+    {
+        let Some(count) = self.count.checked_add(1) else {
+            return Err(Memory);
+        };
+        self.bytes.extend_from_slice(item)?;
+        self.count = count;
+        Ok(())
+    }
+
+    /// Without its items.
+    pub fn clear(&mut self)
+        ensures bytes { self.new.bytes.items ≡ [] }
+        ensures count { self.new.count ≡ 0 }
+        ensures id { self.new.id ≡ self.old.id }
+    {
+        self.count = 0;
+        self.bytes.clear();
     }
 }
 
-/// Writes what was added, section by section.
-pub fn write_sections(out: &mut Vec<u8>, places: &[Place], bytes: &[u8]) -> Result<(), EncodeError>
-    requires fit { AllByRecursion IsKept (kepts_of places.now bytes.now) }
-    requires whole { total_len places.now ≡ length bytes.now }
-    ensures text { OnOk result
-        (out.new.items
-        ≡ out.old.items ++ flat_map section_text (sections_of (entries_of (kepts_of places.now bytes.now)))) }
-    ensures fits { OnOk result (AllByRecursion IsShort (sections_of (entries_of (kepts_of places.now bytes.now)))) }
-    ensures too_large { (n : ℕ) → result ≡ Err (EncodeError.TooLarge n)
-        → IsTooLongAmong n (sections_of (entries_of (kepts_of places.now bytes.now))) }
+/// Begins a component, where nothing was written.
+fn begin(out: &mut Vec<u8>) -> Result<(), Memory>
+    ensures begun { OnOk result (out.new.items ≡ begun out.old.items) }
+    ensures unchanged { OnErr result (out.new.items ≡ out.old.items) }
 {
-    let mut rest = places;
-    let mut left = bytes;
-    while !rest.is_empty() {
-        let (first, after) = rest.split_at(section_len(rest));
-        let (front, back) = left.split_at(total_len(first));
-        write_first_section(out, first, front)?;
-        rest = after;
-        left = back;
+    if out.is_empty() {
+        out.extend_from_slice(&HEADER)?;
     }
     Ok(())
 }
 
-/// How many bytes the section of all of these takes.
-fn written_len(places: &[Place]) -> usize
-    requires { 0 < length places.now }
+/// Ends the section of a run, if it has items, and gives the length or count that can't be written: one of this section,
+/// or what was told before.
+pub fn end_run(out: &mut Vec<u8>, run: &Run, told: Option<u64>) -> Result<Option<u64>, Memory>
+    ensures ended { IfOk result
+        (λ fault. IsEnded run.now.id run.now.count run.now.bytes.items out.old.items told out.new.items fault) }
+    ensures front { BeginsWith out.old.items out.new.items }
 {
-    let len = total_len(places);
-    let content = match places[0].kind {
-        Kind::Item(id) if !is_plain(id) => number_len(places.len() as u64).saturating_add(len),
-        _ => len,
-    };
-    number_len(content as u64)
-        .saturating_add(content)
-        .saturating_add(1)
+    begin(out)?;
+    if run.count == 0 {
+        return Ok(told);
+    }
+    match write_vector(out, run.id, run.count, &run.bytes) {
+        Ok(()) => Ok(told),
+        Err(EncodeError::TooLarge(large)) => Ok(Some(large)),
+        Err(EncodeError::Memory) => Err(Memory),
+    }
 }
 
-/// How many bytes the component takes, so that the output is made at its full size.
-pub fn component_len(places: &[Place]) -> usize {
-    let mut total = HEADER.len();
-    let mut rest = places;
-    while !rest.is_empty() {
-        let (first, after) = rest.split_at(section_len(rest));
-        total = total.saturating_add(written_len(first));
-        rest = after;
+/// Puts bytes in front of others.
+fn put_in_front(bytes: &mut Vec<u8>, front: &[u8]) -> Result<(), Memory>
+    ensures { OnOk result (bytes.new.items ≡ front.now ++ bytes.old.items) }
+{
+    bytes.extend_from_slice(front)?;
+    bytes.rotate_right(front.len());
+    Ok(())
+}
+
+/// Ends the section of a run that has items, in its own buffer.
+fn end_in_place(out: Vec<u8>, run: Run, told: Option<u64>) -> Result<(Vec<u8>, Option<u64>), Memory>
+    requires { 0 < run.count }
+    ensures { IfOk result (λ r. IsEnded run.id run.count run.bytes.items out.items told r.0.items r.1) }
+{
+    let mut front = out;
+    begin(&mut front)?;
+    let Run {
+        id,
+        count,
+        mut bytes,
+    } = run;
+    match write_head(&mut front, id, count, bytes.len()) {
+        Ok(()) => {}
+        Err(EncodeError::TooLarge(large)) => return Ok((front, Some(large))),
+        Err(EncodeError::Memory) => return Err(Memory),
     }
-    total
+    put_in_front(&mut bytes, &front)?;
+    Ok((bytes, told))
+}
+
+/// Ends the last section, in the longer of the two buffers, so that no more is moved than has to be.
+pub fn end_last(out: Vec<u8>, run: Run, told: Option<u64>) -> Result<(Vec<u8>, Option<u64>), Memory>
+    ensures { IfOk result (λ r. IsEnded run.id run.count run.bytes.items out.items told r.0.items r.1) }
+{
+    if run.count > 0 && run.bytes.len() > out.len() {
+        return end_in_place(out, run, told);
+    }
+    let mut whole = out;
+    let told = end_run(&mut whole, &run, told)?;
+    Ok((whole, told))
 }

@@ -4,6 +4,7 @@ ghost use Rattle.std.specs.Prelude.{◌≡◌, ◌++◌, ◌<◌, ◌≤◌, ◌
 ghost use Rattle.std.specs.Str.{IsUtf8};
 ghost use Rattle.comp_format.specs.Numbers.{leb_text, number_text, signed_leb_text, signed_index_text};
 ghost use Rattle.comp_format.specs.Vectors.{name_text};
+ghost use Rattle.comp_encoder.specs.Builder.{BeginsWith};
 
 use comp_format::EncodeError;
 use warg_values::Memory;
@@ -22,7 +23,8 @@ pub struct Sink {
 /// LEB128 in at most so many bytes.
 #[tactic(auto, using(crate::proofs::WriteLaws::leb_text_last, crate::proofs::WriteLaws::leb_text_next), unfolding(comp_format::specs::Numbers::leb_text))]
 fn write_leb(out: &mut Vec<u8>, most: u8, number: u64) -> Result<(), Memory>
-    ensures { OnOk result (out.new.items ≡ out.old.items ++ leb_text most number) }
+    ensures text { OnOk result (out.new.items ≡ out.old.items ++ leb_text most number) }
+    ensures front { BeginsWith out.old.items out.new.items }
 {
     if most == 0 {
         return Ok(());
@@ -39,7 +41,8 @@ fn write_leb(out: &mut Vec<u8>, most: u8, number: u64) -> Result<(), Memory>
 /// A number in its shortest spelling.
 #[tactic(auto, unfolding(comp_format::specs::Numbers::number_text))]
 pub fn write_number(out: &mut Vec<u8>, number: u64) -> Result<(), Memory>
-    ensures { OnOk result (out.new.items ≡ out.old.items ++ number_text number) }
+    ensures text { OnOk result (out.new.items ≡ out.old.items ++ number_text number) }
+    ensures front { BeginsWith out.old.items out.new.items }
 {
     write_leb(out, 5, number)?;
     Ok(())

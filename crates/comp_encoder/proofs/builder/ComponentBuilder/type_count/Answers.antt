@@ -7,4 +7,4 @@ use Rattle.comp_encoder.proofs.builder.ComponentBuilder.type_count.Goals as goal
 
 pub returns : goal.returns
 returns c =
-    ap (slice_index c.self.inside.counts) c.space_of.ensures.value ∙ c.self.invariant.built.counted sort.Ty ∙ ap (λ (ks : List Kept). next_index sort.Ty (entries_of ks)) c.self.view_is
+    ap (slice_index c.self.inside.counts) c.space_of.ensures.value ∙ c.self.invariant.counted sort.Ty ∙ ap (λ (ks : List Kept). next_index sort.Ty (entries_of ks)) c.self.view_is
