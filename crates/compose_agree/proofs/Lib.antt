@@ -2,3 +2,4 @@ pub mod OrderLaws
 pub mod LeftLaws
 pub mod TurnLaws
 pub mod CaseLaws
+mod ClashLaws

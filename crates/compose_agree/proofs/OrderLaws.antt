@@ -64,6 +64,9 @@ module _ {X : Type 0} where
   pub not_stuck : (ready : List X → X → Bool) (all xs : List X) (x : X) → IsOrder ready all xs → IsStuck ready all x → ⊥
   not_stuck ready all xs x a b = nothing_is_left x b.rest (one_turn ready [] all xs b.taken [] (x ∷ b.rest) a tt b.takes b.none).1
 
+  pub one_stuck : (ready : List X → X → Bool) (all : List X) (x y : X) → IsStuck ready all x → IsStuck ready all y → x ≡ y
+  one_stuck ready all x y a b = head_is x y a.rest b.rest (one_turn ready [] all a.taken b.taken (x ∷ a.rest) (y ∷ b.rest) a.takes a.none b.takes b.none).1
+
 -- ---- without a circle
 
 has_append : (xs ys : List ℕ) (m : ℕ) → has (xs ++ ys) m ≡ (has xs m || has ys m)

@@ -4,8 +4,8 @@ use Rattle.std.proofs.lemmas.List.{map-append, take_more}
 use Rattle.comp_entity.specs.declared.entity.Entity.{Entity}
 use Rattle.comp_entity.specs.Views.{entity_tree, named_entities}
 use Rattle.compose_left.specs.declared.spots.Thing.{Thing}
-use Rattle.compose_needs.specs.Agreed.{Bytes, NamedEntity, export_hides, given_places, is_side_tied, own_places, side_hides, sides_named}
-use Rattle.compose_needs.specs.Needs.{Lefts}
+use Rattle.compose_needs.specs.Exports.{NamedEntity, export_hides, given_places, is_side_tied, own_places, side_hides, sides_named}
+use Rattle.compose_needs.specs.Lefts.{Lefts}
 use Rattle.compose_needs.specs.Tied.{are_tied, named_in}
 use Rattle.compose_needs.proofs.SeenLaws.{left}
 
@@ -24,20 +24,20 @@ module _ (s : List Thing) (xs : List (List ℕ × Entity)) (i : ℕ) (x : List �
       ∙ ap (λ es. s ++ sides_named es) (map-append (λ (e : List ℕ × Entity). (e.0, entity_tree e.1)) (take i xs) (x ∷ []))
       ∙ ap (λ ts. s ++ ts) (named_push (named_entities (take i xs)) (x.0, entity_tree x.1)) ∙ sym (append_assoc s (sides_named (named_entities (take i xs))) (named_in (own_places (entity_tree x.1))))
 
-  pub side_passes : (all : Option Bytes) → is_side_tied s (entity_tree x.1) ≡ true → side_hides s (named_entities (drop i xs)) ≡ all → side_hides (s ++ named_in (own_places (entity_tree x.1))) (named_entities (drop (i + 1) xs)) ≡ all
+  pub side_passes : (all : Option (List ℕ)) → is_side_tied s (entity_tree x.1) ≡ true → side_hides s (named_entities (drop i xs)) ≡ all → side_hides (s ++ named_in (own_places (entity_tree x.1))) (named_entities (drop (i + 1) xs)) ≡ all
   side_passes all passes h = sym (ap (λ ys. side_hides s (named_entities ys)) (left xs i x lt is) ∙ ap (λ b. cond b (side_hides (s ++ named_in (own_places (entity_tree x.1))) (named_entities (drop (i + 1) xs))) (Some x.0)) passes) ∙ h
 
-  pub side_fails : (all : Option Bytes) → is_side_tied s (entity_tree x.1) ≡ false → side_hides s (named_entities (drop i xs)) ≡ all → Some x.0 ≡ all
+  pub side_fails : (all : Option (List ℕ)) → is_side_tied s (entity_tree x.1) ≡ false → side_hides s (named_entities (drop i xs)) ≡ all → Some x.0 ≡ all
   side_fails all fails h = sym (ap (λ ys. side_hides s (named_entities ys)) (left xs i x lt is) ∙ ap (λ b. cond b (side_hides (s ++ named_in (own_places (entity_tree x.1))) (named_entities (drop (i + 1) xs))) (Some x.0)) fails) ∙ h
 
-  pub export_passes : (from : Lefts) (all : Option Bytes) → are_tied s (given_places from (entity_tree x.1)) ≡ true → export_hides from s (named_entities (drop i xs)) ≡ all → export_hides from (s ++ named_in (given_places from (entity_tree x.1))) (named_entities (drop (i + 1) xs)) ≡ all
+  pub export_passes : (from : Lefts) (all : Option (List ℕ)) → are_tied s (given_places from (entity_tree x.1)) ≡ true → export_hides from s (named_entities (drop i xs)) ≡ all → export_hides from (s ++ named_in (given_places from (entity_tree x.1))) (named_entities (drop (i + 1) xs)) ≡ all
   export_passes from all passes h = sym (ap (λ ys. export_hides from s (named_entities ys)) (left xs i x lt is) ∙ ap (λ b. cond b (export_hides from (s ++ named_in (given_places from (entity_tree x.1))) (named_entities (drop (i + 1) xs))) (Some x.0)) passes) ∙ h
 
-  pub export_fails : (from : Lefts) (all : Option Bytes) → are_tied s (given_places from (entity_tree x.1)) ≡ false → export_hides from s (named_entities (drop i xs)) ≡ all → Some x.0 ≡ all
+  pub export_fails : (from : Lefts) (all : Option (List ℕ)) → are_tied s (given_places from (entity_tree x.1)) ≡ false → export_hides from s (named_entities (drop i xs)) ≡ all → Some x.0 ≡ all
   export_fails from all fails h = sym (ap (λ ys. export_hides from s (named_entities ys)) (left xs i x lt is) ∙ ap (λ b. cond b (export_hides from (s ++ named_in (given_places from (entity_tree x.1))) (named_entities (drop (i + 1) xs))) (Some x.0)) fails) ∙ h
 
 -- imports, and then exports
-pub sides_some : (s : List Thing) (is es : List NamedEntity) (n : Bytes) → side_hides s is ≡ Some n → side_hides s (is ++ es) ≡ Some n
+pub sides_some : (s : List Thing) (is es : List NamedEntity) (n : List ℕ) → side_hides s is ≡ Some n → side_hides s (is ++ es) ≡ Some n
 sides_some s [] es n h = absurd cc
 sides_some s (e ∷ is) es n h = one (is_side_tied s e.1) h (sides_some (s ++ named_in (own_places e.1)) is es n)
   where

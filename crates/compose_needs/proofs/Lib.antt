@@ -1,10 +1,8 @@
 mod ViewLaws
 mod SeenLaws
-mod CallLaws
 mod ExportLaws
-mod OrderLaws
-mod OutcomeLaws
 mod Rows
-mod ListLaws
 mod SideLaws
 mod TiedLaws
+mod ComponentLaws
+mod HidingLaws

@@ -1,45 +1,16 @@
 -- Sets of things.
-use Rattle.std.proofs.Common.{◌≡◌, ℕ, zero, suc, ◌+◌, ◌<◌, Bool, true, false, cond, List, [], ◌∷◌, ◌++◌, length, take, drop, refl, sym, ap, subst, ◌∙◌, arith, slice_index_or, get_or, append_assoc}
-use Rattle.std.specs.Prelude.{◌||◌, ◌&&◌}
+use Rattle.std.proofs.Common.{◌≡◌, ℕ, zero, suc, ◌+◌, ◌<◌, Bool, true, false, List, [], ◌∷◌, ◌++◌, length, take, drop, refl, sym, ap, subst, ◌∙◌, arith, slice_index_or, get_or, append_assoc}
+use Rattle.std.specs.Prelude.{◌&&◌}
 use Rattle.std.specs.List.{list_all}
-use Rattle.std.specs.Ordering.{nat_cmp, bool_cmp, ordering_then, is_eq}
-use Rattle.std.specs.Cmp.{both_tied, unsigned_ties}
 use Rattle.std.specs.BTreeSet.{BTreeSet, Updates}
 use Rattle.std.proofs.lemmas.List.{take_more}
-use Rattle.std.proofs.lemmas.List.Folds.{list_any-append}
-use Rattle.comp_entity.specs.Fits.{same_truth}
 use Rattle.compose_left.specs.declared.spots.Thing.{Thing}
-use Rattle.compose_left.specs.Origins.{same_thing}
 use Rattle.compose_left.specs.Wired.{thing_cmp}
-use Rattle.compose_needs.specs.Known.{Holds}
+use Rattle.compose_needs.specs.Seen.{Holds}
+use Rattle.compose_needs.specs.ThingLaws.{holds_more}
 use Rattle.compose_needs.specs.Mentioned.{has}
 use Rattle.compose_needs.specs.Tied.{are_tied, named_in}
 use Rattle.compose_needs.specs.declared.place.Place.{Place}
-
-truth_ties : (a b : Bool) → same_truth a b ≡ is_eq (bool_cmp a b)
-truth_ties true true = refl
-truth_ties true false = refl
-truth_ties false true = refl
-truth_ties false false = refl
-
-pub thing_ties : (a b : Thing) → same_thing a b ≡ is_eq (thing_cmp a b)
-thing_ties a b =
-    both_tied _ _ (bool_cmp a.is_type b.is_type) (ordering_then (nat_cmp a.out b.out) (nat_cmp a.number b.number)) (truth_ties a.is_type b.is_type)
-    (both_tied _ _ (nat_cmp a.out b.out) (nat_cmp a.number b.number) (unsigned_ties a.out b.out) (unsigned_ties a.number b.number))
-
-or_last : (a b : Bool) → cond b true a ≡ (a || (b || false))
-or_last true true = refl
-or_last true false = refl
-or_last false true = refl
-or_last false false = refl
-
-pub has_push : (ts : List Thing) (x t : Thing) → has (ts ++ x ∷ []) t ≡ cond (same_thing x t) true (has ts t)
-has_push ts x t = list_any-append (λ m. same_thing m t) ts (x ∷ []) ∙ sym (or_last (has ts t) (same_thing x t))
-
--- one thing more
-pub holds_more : (old new : BTreeSet Thing) (ts : List Thing) (x : Thing) → Holds old ts → Updates thing_cmp old new x true → Holds new (ts ++ x ∷ [])
-holds_more old new ts x h u t =
-    u.0 t ∙ (λ i. cond (sym (thing_ties x t) i) true (h t i)) ∙ sym (has_push ts x t)
 
 pub holds_take : (old new : BTreeSet Thing) (s xs : List Thing) (i : ℕ) (d : Thing) → i < length xs → Holds old (s ++ take i xs) → Updates thing_cmp old new (get_or xs i d) true → Holds new (s ++ take (i + 1) xs)
 holds_take old new s xs i d lt h u =

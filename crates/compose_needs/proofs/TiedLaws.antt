@@ -1,16 +1,14 @@
 -- What is mentioned is named there or earlier.
 use Rattle.std.proofs.Common.{◌≡◌, Bool, true, false, List, [], ◌∷◌, ◌++◌, refl, sym, ap, subst, ◌∙◌, append_assoc}
-use Rattle.std.specs.Prelude.{◌&&◌, ◌||◌, ◌==◌, ◌↔◌}
+use Rattle.std.specs.Prelude.{◌||◌, ◌↔◌}
 use Rattle.std.specs.List.{list_all}
 use Rattle.std.proofs.lemmas.Bool.{and_parts}
-use Rattle.std.specs.Cmp.{nat_eq_equiv}
-use Rattle.comp_entity.specs.Fits.{same_truth}
 use Rattle.compose_left.specs.declared.spots.Thing.{Thing}
 use Rattle.compose_left.specs.Origins.{same_thing}
 use Rattle.compose_needs.specs.declared.place.Place.{Place}
 use Rattle.compose_needs.specs.Mentioned.{has}
 use Rattle.compose_needs.specs.Tied.{AreTied, are_tied, named_in}
-use Rattle.compose_needs.proofs.CallLaws.{same_things}
+use Rattle.compose_needs.specs.ThingLaws.{both, same_itself, same_things}
 
 -- behind what was seen, in the words of the rule
 TiedBehind : List Thing → List Place → Type 0
@@ -30,11 +28,6 @@ no_more : (ts : List Thing) → ts ++ [] ≡ ts
 no_more [] = refl
 no_more (t ∷ ts) = ap (λ us. t ∷ us) (no_more ts)
 
-both : (a b : Bool) → a ≡ true → b ≡ true → (a && b) ≡ true
-both true true p q = refl
-both true false p q = absurd cc
-both false b p q = absurd cc
-
 tied_sound : (seen : List Thing) (ps : List Place) → are_tied seen ps ≡ true → TiedBehind seen ps
 unfolding TiedBehind
 tied_sound seen [] h [] after p t e a = absurd cc
@@ -50,13 +43,6 @@ tied_sound seen (q ∷ ps) h (b ∷ before) after p t e a =
     let rest : ps ≡ before ++ p ∷ after = cc in
     subst (λ (r : Place). has (seen ++ (r.named ++ named_in (before ++ p ∷ []))) t ≡ true) same
     (ap (λ ts. has ts t) (sym (append_assoc seen q.named (named_in (before ++ p ∷ [])))) ∙ tied_sound (seen ++ q.named) ps parts.1 before after p t rest a)
-
-truth_itself : (b : Bool) → same_truth b b ≡ true
-truth_itself true = refl
-truth_itself false = refl
-
-same_itself : (t : Thing) → same_thing t t ≡ true
-same_itself t = both (same_truth t.is_type t.is_type) ((t.out == t.out) && (t.number == t.number)) (truth_itself t.is_type) (both (t.out == t.out) (t.number == t.number) (nat_eq_equiv.refl t.out) (nat_eq_equiv.refl t.number))
 
 or_left : (a b : Bool) → a ≡ true → (a || b) ≡ true
 or_left true b e = refl

@@ -2,8 +2,11 @@ pub mod Mentioned
 pub mod Payloads
 pub mod Bits
 pub mod Leaves
+pub mod Lefts
+pub mod Seen
+pub mod ThingLaws
 pub mod Tied
+pub mod Components
 pub mod Sides
-pub mod Needs
-pub mod Agreed
-pub mod Known
+pub mod Exports
+pub mod Hiding

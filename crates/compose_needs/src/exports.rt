@@ -4,14 +4,13 @@ ghost use Rattle.std.specs.Prelude.{◌≡◌, ◌++◌, [], None, true, filter,
 ghost use Rattle.comp_entity.specs.Views.{entity_tree, named_entities, shape_tree};
 ghost use Rattle.compose_left.specs.Numbers.{AreOrigins};
 ghost use Rattle.compose_left.specs.Wiring.{Wiring};
-ghost use Rattle.compose_needs.specs.Agreed.{component_hides, export_hides, given_place, is_made};
-ghost use Rattle.compose_needs.specs.Agreed.{is_side_tied, own_places, sides_named, side_hides};
-ghost use Rattle.compose_needs.specs.Known.{Holds, Things};
-ghost use Rattle.compose_needs.specs.Needs.{lefts_of};
+ghost use Rattle.compose_needs.specs.Exports.{component_hides, export_hides, given_place, is_made};
+ghost use Rattle.compose_needs.specs.Exports.{is_side_tied, own_places, sides_named, side_hides};
+ghost use Rattle.compose_needs.specs.Seen.{Holds, Things};
+ghost use Rattle.compose_needs.specs.Lefts.{lefts_of};
 ghost use Rattle.compose_needs.specs.Tied.{named_in};
 
 use crate::leaves::{Leaf, leaves_at};
-use crate::needs::is_nowhere;
 use crate::place::Place;
 use crate::tied::{are_tied, entity_holds_tied, named_list, near_places};
 use comp_entity::{Entity, Shape};
@@ -27,7 +26,7 @@ fn made(alloc: Global, origins: &Origins, things: &[Thing]) -> Result<Sequence<T
 {
     let mut made = Vec::new(alloc);
     for thing in things {
-        if !thing.is_type && is_nowhere(origins, thing.number) {
+        if !thing.is_type && origins.left_import(thing.number).is_none() {
             made.push(*thing)?;
         }
     }

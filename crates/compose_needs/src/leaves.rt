@@ -1,13 +1,12 @@
 //! What stands in entities, instances gone into.
 
 ghost use Rattle.std.specs.Prelude.{◌≡◌, ◌++◌, ◌∷◌, [], IfOk};
-ghost use Rattle.comp_entity.specs.Views.{entity_tree, entries_of, named_entities, value_tree};
-ghost use Rattle.compose_left.specs.Spots.{named_by, named_type, placed_thing, resource};
+ghost use Rattle.comp_entity.specs.Views.{entity_tree, entries_of, named_entities};
 ghost use Rattle.compose_needs.specs.Leaves.{leaf_of, leaves_among, leaves_at, leaves_from};
 
 use crate::bits::entity_bit;
 use crate::mentions::mentioned;
-use comp_entity::{Entity, ResourceNo, TypeNo, TypeShape, ValueShape};
+use comp_entity::Entity;
 use compose_left::{Path, Thing};
 use std::alloc::Global;
 use warg_values::{Memory, Sequence, Text};
@@ -25,52 +24,6 @@ pub struct Leaf {
     pub has_bit: bool,
 }
 
-/// The place that named a type as a thing.
-fn named_type(name: TypeNo) -> Thing
-    ensures { result ≡ named_type name }
-{
-    Thing {
-        is_type: true,
-        out: name.out(),
-        number: name.number(),
-    }
-}
-
-/// A resource as a thing.
-fn resource(name: ResourceNo) -> Thing
-    ensures { result ≡ resource name }
-{
-    Thing {
-        is_type: false,
-        out: name.out(),
-        number: name.number(),
-    }
-}
-
-/// The place that named a value type, where one did.
-fn placed_thing(ty: &ValueShape) -> Option<Thing>
-    ensures { result ≡ placed_thing (value_tree ty.now) }
-{
-    match ty {
-        ValueShape::RecordOf(Some(place), _) => Some(named_type(*place)),
-        ValueShape::VariantOf(Some(place), _) => Some(named_type(*place)),
-        ValueShape::FlagsOf(Some(place), _) => Some(named_type(*place)),
-        ValueShape::EnumOf(Some(place), _) => Some(named_type(*place)),
-        _ => None,
-    }
-}
-
-/// What an entity names as a type.
-fn named_by(entity: &Entity) -> Option<Thing>
-    ensures { result ≡ named_by (entity_tree entity.now) }
-{
-    match entity {
-        Entity::Ty(TypeShape::Resource(name)) => Some(resource(*name)),
-        Entity::Ty(TypeShape::Value(ty)) => placed_thing(ty),
-        _ => None,
-    }
-}
-
 /// Adds what stands at a path, which is no instance.
 fn push_leaf(
     alloc: Global,
@@ -83,7 +36,7 @@ fn push_leaf(
 {
     let leaf = Leaf {
         path: path.try_clone(alloc)?,
-        named: named_by(entity),
+        named: Thing::named_by(entity),
         mentioned: mentioned(alloc, entity)?,
         has_bit: entity_bit(entity),
     };

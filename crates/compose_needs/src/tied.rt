@@ -4,7 +4,7 @@ ghost use Rattle.std.specs.Prelude.{◌≡◌, ◌+◌, ◌++◌, [], true, filt
 ghost use Rattle.std.specs.List.{list_all};
 ghost use Rattle.comp_entity.specs.Views.{component_sides, entity_tree, entries_of, named_entities, type_tree};
 ghost use Rattle.compose_left.specs.declared.spots.Thing.{Thing};
-ghost use Rattle.compose_needs.specs.Known.{Holds, Things};
+ghost use Rattle.compose_needs.specs.Seen.{Holds, Things};
 ghost use Rattle.compose_needs.specs.Mentioned.{has};
 ghost use Rattle.compose_needs.specs.Sides.{sides_hold_tied};
 ghost use Rattle.compose_needs.specs.Tied.{are_sides_tied, are_tied, entity_holds_tied, entries_hold_tied};

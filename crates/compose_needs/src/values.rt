@@ -63,7 +63,7 @@ pub fn push_value(depth: usize, value: &ValueShape, things: &mut Vec<Thing>) -> 
             push_cases(depth, cases, things)?;
             Ok(())
         }
-        ValueShape::ListOf(part) => {
+        ValueShape::ListOf(part) | ValueShape::OptionOf(part) => {
             push_value(depth, part, things)?;
             Ok(())
         }
@@ -71,16 +71,8 @@ pub fn push_value(depth: usize, value: &ValueShape, things: &mut Vec<Thing>) -> 
             push_parts(depth, parts, things)?;
             Ok(())
         }
-        ValueShape::FlagsOf(place, _) => {
+        ValueShape::FlagsOf(place, _) | ValueShape::EnumOf(place, _) => {
             push_place(depth, *place, things)?;
-            Ok(())
-        }
-        ValueShape::EnumOf(place, _) => {
-            push_place(depth, *place, things)?;
-            Ok(())
-        }
-        ValueShape::OptionOf(part) => {
-            push_value(depth, part, things)?;
             Ok(())
         }
         ValueShape::ResultOf { ok, err } => {
@@ -88,11 +80,7 @@ pub fn push_value(depth: usize, value: &ValueShape, things: &mut Vec<Thing>) -> 
             push_boxed(depth, err, things)?;
             Ok(())
         }
-        ValueShape::Own(name) => {
-            push_resource(depth, *name, things)?;
-            Ok(())
-        }
-        ValueShape::Borrow(name) => {
+        ValueShape::Own(name) | ValueShape::Borrow(name) => {
             push_resource(depth, *name, things)?;
             Ok(())
         }

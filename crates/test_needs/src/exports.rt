@@ -1,8 +1,8 @@
 //! What exports may mention. The rows were worked by hand.
 
-use crate::graph::{Graph, graph_of, shape};
+use crate::graph::{Graph, graph_of, origins_of, shape};
 use comp_entity::Entity;
-use compose_left::{Origins, follows_order, origins};
+use compose_left::Origins;
 use compose_needs::{component_needs, export_needs};
 use std::alloc::Global;
 use std::test::Fail;
@@ -69,10 +69,7 @@ fn hidden(alloc: Global, origins: &Origins, graph: &Graph) -> Result<Option<Text
 /// What is found of the last instance of a row.
 fn export(alloc: Global, row: &str) -> Result<String, Fail> {
     let graph = graph_of(alloc, row)?;
-    if !follows_order(&graph.shapes, &graph.wires) {
-        return Err(Fail::new("a wire goes backward"));
-    }
-    let origins = origins(alloc, &graph.shapes, &graph.wires)?;
+    let origins = origins_of(alloc, &graph)?;
     let found = hidden(alloc, &origins, &graph)?;
     name_of(alloc, &found)
 }

@@ -5,8 +5,9 @@
 
 use crate::entities::instance;
 use comp_entity::{Entity, Shape};
-use compose_left::Wire;
+use compose_left::{Origins, Wire, follows_order, origins};
 use std::alloc::Global;
+use std::test::Fail;
 use warg_values::{Memory, Text};
 
 /// Instances, and the wires between them.
@@ -70,4 +71,16 @@ pub fn graph_of(alloc: Global, row: &str) -> Result<Graph, Memory> {
         add_wires(&mut wires, target, instance)?;
     }
     Ok(Graph { shapes, wires })
+}
+
+/// Where what the instances bring comes from. Their wires go forward.
+pub fn origins_of(alloc: Global, graph: &Graph) -> Result<Origins, Fail> {
+    let mut shapes = Vec::new(alloc);
+    for shape in &graph.shapes {
+        shapes.push(shape)?;
+    }
+    if !follows_order(&shapes, &graph.wires) {
+        return Err(Fail::new("a wire goes backward"));
+    }
+    Ok(origins(alloc, &shapes, &graph.wires)?)
 }

@@ -1,4 +1,4 @@
-//! Tests of `compose_needs`.
+//! Tests of `compose_needs` and `compose_order`.
 #![tactic(auto)]
 
 #[cfg(test)]

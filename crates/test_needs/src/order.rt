@@ -1,9 +1,8 @@
 //! The order in which left imports are written, and what refuses them. The rows were worked by hand.
 
-use crate::graph::graph_of;
+use crate::graph::{graph_of, origins_of};
 use crate::imports::left_open;
-use compose_left::{follows_order, origins};
-use compose_needs::{LeftImport, OrderError, ordered};
+use compose_order::{LeftImport, OrderError, ordered};
 use std::alloc::Global;
 use std::test::Fail;
 use test_check::is_row;
@@ -83,10 +82,7 @@ fn told(alloc: Global, answer: Result<Vec<LeftImport>, OrderError>) -> Result<St
 /// The order of what is left open in a row, in its words.
 fn order(alloc: Global, row: &str) -> Result<String, Fail> {
     let graph = graph_of(alloc, row)?;
-    if !follows_order(&graph.shapes, &graph.wires) {
-        return Err(Fail::new("a wire goes backward"));
-    }
-    let origins = origins(alloc, &graph.shapes, &graph.wires)?;
+    let origins = origins_of(alloc, &graph)?;
     let list = left_open(alloc, &origins, &graph)?;
     told(alloc, ordered(alloc, &origins, list))
 }

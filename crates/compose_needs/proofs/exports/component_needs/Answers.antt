@@ -3,7 +3,7 @@ use Rattle.std.specs.BTreeSet.{contains}
 use Rattle.comp_entity.specs.Views.{named_entities}
 use Rattle.compose_left.specs.declared.spots.Thing.{Thing}
 use Rattle.compose_left.specs.Wired.{thing_cmp}
-use Rattle.compose_needs.specs.Agreed.{side_hides, sides_named}
+use Rattle.compose_needs.specs.Exports.{side_hides, sides_named}
 use Rattle.compose_needs.proofs.ExportLaws.{sides_none, sides_some}
 use Rattle.compose_needs.proofs.exports.component_needs.Goals as goal
 

@@ -1,7 +1,7 @@
 use Rattle.std.proofs.Common.{◌++◌, sym, ap, subst, ◌∙◌, take}
 use Rattle.comp_entity.specs.Views.{named_entities}
-use Rattle.compose_needs.specs.Agreed.{side_hides, sides_named}
-use Rattle.compose_needs.specs.Known.{Holds}
+use Rattle.compose_needs.specs.Exports.{side_hides, sides_named}
+use Rattle.compose_needs.specs.Seen.{Holds}
 use Rattle.compose_needs.proofs.ExportLaws.{side_passes, sides_more}
 use Rattle.std.proofs.Common.{drop, ◌+◌}
 use Rattle.compose_needs.proofs.exports.first_untied.Goals as goal

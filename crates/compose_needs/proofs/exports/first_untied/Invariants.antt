@@ -1,7 +1,7 @@
 use Rattle.std.proofs.Common.{◌≡◌, ◌++◌, drop, take}
 use Rattle.comp_entity.specs.Views.{named_entities}
-use Rattle.compose_needs.specs.Agreed.{side_hides, sides_named}
-use Rattle.compose_needs.specs.Known.{Holds, Things}
+use Rattle.compose_needs.specs.Exports.{side_hides, sides_named}
+use Rattle.compose_needs.specs.Seen.{Holds, Things}
 use Rattle.compose_needs.proofs.exports.first_untied.Given as goal
 
 abbrev pub invariant-loop-entry : goal.invariant-loop-entry

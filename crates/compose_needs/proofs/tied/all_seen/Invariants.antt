@@ -1,6 +1,6 @@
 use Rattle.std.proofs.Common.{◌≡◌, drop}
 use Rattle.std.specs.List.{list_all}
-use Rattle.compose_needs.specs.Known.{Holds, Things}
+use Rattle.compose_needs.specs.Seen.{Holds, Things}
 use Rattle.compose_needs.specs.Mentioned.{has}
 use Rattle.compose_needs.proofs.tied.all_seen.Given as goal
 

@@ -1,6 +1,6 @@
 use Rattle.std.proofs.Common.{◌++◌, sym, ap, subst, ◌∙◌, take}
 use Rattle.std.specs.List.{list_all}
-use Rattle.compose_needs.specs.Known.{Holds}
+use Rattle.compose_needs.specs.Seen.{Holds}
 use Rattle.compose_needs.specs.Mentioned.{has}
 use Rattle.compose_needs.specs.Tied.{named_in}
 use Rattle.compose_needs.proofs.SeenLaws.{named_more, tied_fails, tied_passes}

@@ -1,5 +1,5 @@
 use Rattle.std.proofs.Common.{◌≡◌, ◌++◌, drop, take}
-use Rattle.compose_needs.specs.Known.{Holds, Things}
+use Rattle.compose_needs.specs.Seen.{Holds, Things}
 use Rattle.compose_needs.specs.Tied.{are_tied, named_in}
 use Rattle.compose_needs.proofs.tied.are_tied.Given as goal
 

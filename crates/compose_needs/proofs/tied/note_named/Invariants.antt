@@ -1,5 +1,5 @@
 use Rattle.std.proofs.Common.{◌++◌, take}
-use Rattle.compose_needs.specs.Known.{Holds, Things}
+use Rattle.compose_needs.specs.Seen.{Holds, Things}
 use Rattle.compose_needs.proofs.tied.note_named.Given as goal
 
 abbrev pub invariant-loop-thing : goal.invariant-loop-thing

@@ -1,5 +1,0 @@
-use Rattle.compose_needs.proofs.CallLaws.{calls_more}
-use Rattle.compose_needs.proofs.calls.add_call.Goals as goal
-
-pub returns : goal.returns
-returns c = λ xs h. calls_more c.args.calls.now _ xs c.args.spot.now h c.in_ok-insert.ensures.updates c.in_ok-add_thing.ensures

@@ -1,6 +1,0 @@
-use Rattle.std.proofs.Common.{take}
-use Rattle.compose_needs.specs.Known.{AreCalls}
-use Rattle.compose_needs.proofs.calls.calls_of.Given as goal
-
-abbrev pub invariant-loop-spot : goal.invariant-loop-spot
-invariant-loop-spot l = AreCalls l.calls (take l.spot-index l.spots)

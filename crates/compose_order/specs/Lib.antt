@@ -1,0 +1,4 @@
+pub mod Needs
+pub mod Agreed
+pub mod Known
+pub mod Brought
