@@ -1,13 +1,13 @@
 -- Resources that are known are told apart by what they are called.
-use Rattle.std.proofs.Common.{◌≡◌, ℕ, ◌+◌, ◌-◌, Bool, true, false, ◌&&◌, ◌||◌, List, [], ◌∷◌, ◌++◌, Option, Some, None, refl, sym, ap, subst, ◌∙◌, arith, true≢false, append-nil, append_assoc}
-use Rattle.std.specs.Prelude.{nat_le, flat_map, ◌==◌}
+use Rattle.std.proofs.Common.{◌≡◌, ℕ, ◌+◌, ◌-◌, Bool, true, false, ◌&&◌, ◌||◌, List, [], ◌∷◌, ◌++◌, Option, Some, None, refl, sym, ap, subst, ◌∙◌, arith, true≢false}
+use Rattle.std.specs.Prelude.{nat_le, ◌==◌}
 use Rattle.std.specs.List.{list_any}
 use Rattle.comp_entity.specs.Entity.{Name, Value, Resource, Func, Instance, Component, EntityTree, IsType, IsFunc, IsInstance, IsComponent, IsModule, IsOwnModule, Entries, no_entry, entry}
 use Rattle.comp_entity.specs.Names.{deeper, Mention, OfResource, OfPlace, in_entries}
 use Rattle.comp_entity.specs.Fits.{place_of}
-use Rattle.comp_entity.specs.Places.{Path, same_mention, names_itself, named_value, leaves_of, leaves_in}
+use Rattle.comp_entity.specs.Places.{same_mention, named_value}
 use Rattle.compose_meaning.specs.Meaning.{Meaning, placing, placed_entries}
-use Rattle.compose_meaning.specs.Readable.{Side, Importing, Exporting, new_name, Spot, is_new, inside, within, first_spot, brought_keys, new_resources, behind, behind_all, IsOlder, AreApart, HasMeaning, HaveMeaning}
+use Rattle.compose_meaning.specs.Readable.{SpotKind, Importing, Exporting, new_name, Spot, is_new, inside, within, first_spot, brought_keys, keys_among, new_resources, behind, behind_all, IsOlder, AreApart, HasMeaning, HaveMeaning}
 use Rattle.compose_meaning.proofs.ListLaws.{or_none, or_both}
 use Rattle.compose_meaning.proofs.NoteLaws.{mention_is}
 use Rattle.compose_meaning.proofs.ShowsLaws.{IsOrderly}
@@ -22,51 +22,7 @@ pub record Told (mean : Meaning) (p : Spot) : Type 0 where
   pub older : OlderResources mean p
   pub apart : AreApart mean p.known
 
--- ---- what an entity brings, without paths
-
-mutual
-  keys_in : EntityTree → List Mention
-  keys_in (IsInstance es) = all_keys_in es
-  keys_in (IsType t) = names_itself (IsType t)
-  keys_in (IsFunc f) = []
-  keys_in (IsComponent is es) = []
-  keys_in (IsModule m) = []
-  keys_in IsOwnModule = []
-
-  pub all_keys_in : Entries → List Mention
-  all_keys_in no_entry = []
-  all_keys_in (entry name e mark es) = keys_in e ++ all_keys_in es
-
-abbrev leaf_keys : List (Path × EntityTree) → List Mention
-leaf_keys ls = flat_map (λ (leaf : Path × EntityTree). names_itself leaf.1) ls
-
-leaf_both : (xs ys : List (Path × EntityTree)) → leaf_keys (xs ++ ys) ≡ leaf_keys xs ++ leaf_keys ys
-leaf_both [] ys = refl
-leaf_both (x ∷ xs) ys = ap (λ keys. names_itself x.1 ++ keys) (leaf_both xs ys) ∙ sym (append_assoc (names_itself x.1) (leaf_keys xs) (leaf_keys ys))
-
-mutual
-  unfolding keys_in all_keys_in
-
-  keys_are : (e : EntityTree) (path : Path) → leaf_keys (leaves_of path e) ≡ keys_in e
-  keys_are (IsType t) path = append-nil (names_itself (IsType t))
-  keys_are (IsFunc f) path = refl
-  keys_are (IsInstance es) path = all_keys_are es path
-  keys_are (IsComponent is es) path = refl
-  keys_are (IsModule m) path = refl
-  keys_are IsOwnModule path = refl
-
-  pub all_keys_are : (es : Entries) (path : Path) → leaf_keys (leaves_in path es) ≡ all_keys_in es
-  all_keys_are no_entry path = refl
-  all_keys_are (entry name e mark es) path = leaf_both (leaves_of (path ++ name ∷ []) e) (leaves_in path es) ∙ (λ i. keys_are e (path ++ name ∷ []) i ++ all_keys_are es path i)
-
-brought_are : (e : EntityTree) → brought_keys e ≡ keys_in e
-unfolding keys_in
-brought_are (IsType t) = refl
-brought_are (IsFunc f) = refl
-brought_are (IsInstance es) = all_keys_are es []
-brought_are (IsComponent is es) = refl
-brought_are (IsModule m) = refl
-brought_are IsOwnModule = refl
+-- ---- what an entity brings
 
 abbrev any_is : Mention → List Mention → Bool
 any_is key keys = list_any (λ k. same_mention k key) keys
@@ -76,12 +32,12 @@ any_both key [] ys = refl
 any_both key (x ∷ xs) ys = ap (λ b. same_mention x key || b) (any_both key xs ys) ∙ sym (or_both (same_mention x key) (any_is key xs) (any_is key ys))
 
 -- behind entities just what they bring is known, beside what was
-pub known_behind : (mean : Meaning) (p : Spot) (es : Entries) (key : Mention) → (behind_all mean p es).known key ≡ (p.known key || any_is key (all_keys_in es))
-unfolding behind_all all_keys_in
+pub known_behind : (mean : Meaning) (p : Spot) (es : Entries) (key : Mention) → (behind_all mean p es).known key ≡ (p.known key || any_is key (keys_among es))
+unfolding behind_all
 known_behind mean p no_entry key = or_none (p.known key)
 known_behind mean p (entry name e mark es) key = known_behind mean (behind mean p name e) es key
-    ∙ or_both (p.known key) (any_is key (brought_keys e)) (any_is key (all_keys_in es))
-    ∙ ap (λ b. p.known key || b) (ap (λ keys. any_is key keys || any_is key (all_keys_in es)) (brought_are e) ∙ sym (any_both key (keys_in e) (all_keys_in es)))
+    ∙ or_both (p.known key) (any_is key (brought_keys e)) (any_is key (keys_among es))
+    ∙ ap (λ b. p.known key || b) (sym (any_both key (brought_keys e) (keys_among es)))
 
 -- ---- one more
 
@@ -102,7 +58,7 @@ told_on mean p name e told none = record {
 }
 
 -- a resource
-is_new_name : (side : Side) (n : ℕ) → (((new_name side n).out == (new_name side 0).out) && nat_le n (new_name side n).number) ≡ true
+is_new_name : (side : SpotKind) (n : ℕ) → (((new_name side n).out == (new_name side 0).out) && nat_le n (new_name side n).number) ≡ true
 is_new_name Importing n = grind arith
 is_new_name Exporting n = grind arith
 
@@ -160,7 +116,7 @@ instance_told mean p name es told orderly inner = record {
 }
   where
     in_end : (key : Mention) → (behind mean p name (IsInstance es)).known key ≡ true → (behind_all (within p mean) (first_spot Exporting p.known) es).known key ≡ true
-    in_end key h = known_behind (within p mean) (first_spot Exporting p.known) es key ∙ ap (λ keys. p.known key || any_is key keys) (sym (all_keys_are es [])) ∙ h
+    in_end key h = known_behind (within p mean) (first_spot Exporting p.known) es key ∙ h
 
 mutual
   unfolding behind_all

@@ -9,13 +9,13 @@ use Rattle.comp_entity.specs.Fits.{place_of}
 use Rattle.comp_entity.specs.NameLaws.{value_twice}
 use Rattle.comp_scope.specs.Spaces.{Spaces, Known, entity_is_named}
 use Rattle.comp_scope.specs.Descriptions.{described, described_func, described_resource, named_by, names_a_place, opened, opening}
-use Rattle.compose_writing.specs.Scopes.{Scope, wrote_as, knows, type_index}
+use Rattle.compose_writing.specs.Scopes.{WrittenScope, wrote_as, knows, type_index}
 use Rattle.compose_writing.specs.WriteValues.{write_func, write_own}
 use Rattle.compose_writing.specs.WriteEntities.{write_resource, write_place, write_named}
 use Rattle.compose_meaning.specs.Meaning.{Meaning, placing, placed_value, placed_func, placed_entries, meant, own_bit, func_bit, IsNamed, OneTree, OneTreeFunc}
 use Rattle.compose_meaning.specs.Stands.{Kept}
 use Rattle.compose_meaning.specs.Described.{Describing, count, new_of}
-use Rattle.compose_meaning.specs.Readable.{Side, Importing, Exporting, new_name, Spot, within, NewPlace}
+use Rattle.compose_meaning.specs.Readable.{SpotKind, Importing, Exporting, new_name, Spot, within, NewPlace}
 use Rattle.compose_meaning.specs.Shows.{HasBit, AllShow}
 use Rattle.compose_meaning.proofs.ListLaws.{wrote_some}
 use Rattle.compose_meaning.proofs.NameLaws.{here, placing_bare}
@@ -131,7 +131,7 @@ fresh_described mean p r known fresh ks h = on_top_then _ _ (λ s u same. record
     none_more : (m : ℕ) → m + 0 ≡ m
     none_more m = omega arith
 
-    one : (side : Side) (s : Spaces) → count side s ≡ p.resources → (new_of side s).resource 0 ≡ new_name side p.resources
+    one : (side : SpotKind) (s : Spaces) → count side s ≡ p.resources → (new_of side s).resource 0 ≡ new_name side p.resources
     one Importing s same = ap brought (none_more s.brought.resources ∙ same)
     one Exporting s same = ap made (none_more s.made.resources ∙ same)
 
@@ -204,13 +204,13 @@ one_tree_named mean (Own r) h = tt
 one_tree_named mean (Borrow r) h = tt
 
 -- the same of a value type that is known, and of one that is not
-module _ (mean : Meaning) (p : Spot) (ms : List Scope) (ks : List Known) (k : Kept 0 (meant mean) ms ks) (r : Ready mean ms ks) (same : (key : Mention) → knows ms key ≡ p.known key) where
-  own_described : (t : ValueTree) (i : List Scope × ℕ) → OneTree mean t → ((n : Name) → place_of t ≡ Some n → own_bit mean.bit t ≡ mean.bit n) → write_own t ms ≡ Some i → Written mean ks ms i.0 (Describes mean p (description.TyEqual i.1) (IsType (Value t)))
+module _ (mean : Meaning) (p : Spot) (ms : List WrittenScope) (ks : List Known) (k : Kept 0 (meant mean) ms ks) (r : Ready mean ms ks) (same : (key : Mention) → knows ms key ≡ p.known key) where
+  own_described : (t : ValueTree) (i : List WrittenScope × ℕ) → OneTree mean t → ((n : Name) → place_of t ≡ Some n → own_bit mean.bit t ≡ mean.bit n) → write_own t ms ≡ Some i → Written mean ks ms i.0 (Describes mean p (description.TyEqual i.1) (IsType (Value t)))
   own_described t i one bit h =
       let w = own_reads mean t ms ks i k r one h in
       so 0 (meant mean) ks ms i.0 _ _ w.3 (value_described mean p t i.1 w.0 (own_bit mean.bit t) w.1 bit)
 
-  known_described : (t : ValueTree) (n : Name) (i : List Scope × ℕ) → place_of t ≡ Some n → IsNamed mean t (Some n) → type_index (OfPlace n) ms ≡ Some i → Written mean ks ms i.0 (Describes mean p (description.TyEqual i.1) (IsType (Value t)))
+  known_described : (t : ValueTree) (n : Name) (i : List WrittenScope × ℕ) → place_of t ≡ Some n → IsNamed mean t (Some n) → type_index (OfPlace n) ms ≡ Some i → Written mean ks ms i.0 (Describes mean p (description.TyEqual i.1) (IsType (Value t)))
   known_described t n i place named h =
       let w = index_reads mean.may_mention (meant mean) (OfPlace n) ms ks i k r.brings named.0 h in
       let v = type_value (placed_value mean (mean.tree n)) w.0 w.1.ty w.1.is_type (means_here (meant mean (OfPlace n)) w.0 w.1) in
@@ -218,7 +218,7 @@ module _ (mean : Meaning) (p : Spot) (ms : List Scope) (ks : List Known) (k : Ke
       let at : (ls : List Known) → TypeAt i.1 w.0 ls → TypeAt i.1 (IsType (Value v.0), w.0.1) ls = λ ls. subst (λ e. TypeAt i.1 (e, w.0.1) ls) v.1 in
       so 0 (meant mean) ks ms i.0 _ _ w.2 (λ ls h. value_described mean p t i.1 v.0 w.0.1 is (λ m other. w.1.bit ∙ ap mean.bit (same_Some _ _ (sym place ∙ other))) ls (at ls h))
 
-  value_entity : (t : ValueTree) (o : Option Name) (x : List Scope × ℕ) → place_of t ≡ o → OneTree mean t → NewPlace mean p.known t o → write_named o t ms ≡ Some x → Written mean ks ms x.0 (Describes mean p (description.TyEqual x.1) (IsType (Value t)))
+  value_entity : (t : ValueTree) (o : Option Name) (x : List WrittenScope × ℕ) → place_of t ≡ o → OneTree mean t → NewPlace mean p.known t o → write_named o t ms ≡ Some x → Written mean ks ms x.0 (Describes mean p (description.TyEqual x.1) (IsType (Value t)))
   value_entity t None x place one new h = own_described t x one (λ n other. absurd (none_some (sym place ∙ other))) h
     where
       none_some : {X : Type 0} {y : X} → None ≡ Some y → ⊥
@@ -229,33 +229,33 @@ module _ (mean : Meaning) (p : Spot) (ms : List Scope) (ks : List Known) (k : Ke
       either true is h = known_described t n x place (subst (λ (o : Option Name). IsNamed mean t o) place (one_tree_named mean t one)) h
       either false is h = own_described t x one (λ m other. sym (new (sym (same (OfPlace n)) ∙ is)) ∙ ap mean.bit (same_Some _ _ (sym place ∙ other))) h
 
-  resource_entity : (n : Name) (b : Bool) (x : List Scope × TypeRef) → knows ms (OfResource n) ≡ b → mean.may_mention (OfResource n) ≡ true → (p.known (OfResource n) ≡ false → mean.resource n ≡ new_name p.side p.resources) → write_resource n b ms ≡ Some x
+  resource_entity : (n : Name) (b : Bool) (x : List WrittenScope × TypeRef) → knows ms (OfResource n) ≡ b → mean.may_mention (OfResource n) ≡ true → (p.known (OfResource n) ≡ false → mean.resource n ≡ new_name p.side p.resources) → write_resource n b ms ≡ Some x
       → Written mean ks ms x.0 (Describes mean p x.1 (IsType (Resource n)))
   resource_entity n true x known may fresh h = wrote_some description.TyEqual (type_index (OfResource n) ms) x h (λ y a b.
       let w = index_reads mean.may_mention (meant mean) (OfResource n) ms ks y k r.brings may a in
       let is = type_resource (outside mean.resource 0 n) w.0 w.1.ty w.1.is_type (means_here (meant mean (OfResource n)) w.0 w.1) in
       let at : (ls : List Known) → TypeAt y.1 w.0 ls → TypeAt y.1 (IsType (Resource (outside mean.resource 0 n)), w.0.1) ls = λ ls. subst (λ e. TypeAt y.1 (e, w.0.1) ls) is in
-      subst (λ (x : List Scope × TypeRef). Written mean ks ms x.0 (Describes mean p x.1 (IsType (Resource n)))) b
+      subst (λ (x : List WrittenScope × TypeRef). Written mean ks ms x.0 (Describes mean p x.1 (IsType (Resource n)))) b
       (so 0 (meant mean) ks ms y.0 _ _ w.2 (λ ls h. resource_described mean p n y.1 w.0.1 (sym (same (OfResource n)) ∙ known) ls (at ls h))))
-  resource_entity n false x known may fresh h = subst (λ (x : List Scope × TypeRef). Written mean ks ms x.0 (Describes mean p x.1 (IsType (Resource n)))) (same_Some _ _ h)
+  resource_entity n false x known may fresh h = subst (λ (x : List WrittenScope × TypeRef). Written mean ks ms x.0 (Describes mean p x.1 (IsType (Resource n)))) (same_Some _ _ h)
       (at_once 0 (meant mean) ks ms _ k (fresh_described mean p n (sym (same (OfResource n)) ∙ known) (fresh (sym (same (OfResource n)) ∙ known)) ks r.is_open))
 
-  pub value_type_reads : (t : ValueTree) (x : List Scope × TypeRef) → OneTree mean t → NewPlace mean p.known t (place_of t) → wrote_as description.TyEqual (write_named (place_of t) t ms) ≡ Some x → Written mean ks ms x.0 (Describes mean p x.1 (IsType (Value t)))
+  pub value_type_reads : (t : ValueTree) (x : List WrittenScope × TypeRef) → OneTree mean t → NewPlace mean p.known t (place_of t) → wrote_as description.TyEqual (write_named (place_of t) t ms) ≡ Some x → Written mean ks ms x.0 (Describes mean p x.1 (IsType (Value t)))
   value_type_reads t x one new h = wrote_some description.TyEqual (write_named (place_of t) t ms) x h (λ y a b.
-      subst (λ (x : List Scope × TypeRef). Written mean ks ms x.0 (Describes mean p x.1 (IsType (Value t)))) b (value_entity t (place_of t) y refl one new a))
+      subst (λ (x : List WrittenScope × TypeRef). Written mean ks ms x.0 (Describes mean p x.1 (IsType (Value t)))) b (value_entity t (place_of t) y refl one new a))
 
-  pub resource_type_reads : (n : Name) (x : List Scope × TypeRef) → mean.may_mention (OfResource n) ≡ true → (p.known (OfResource n) ≡ false → mean.resource n ≡ new_name p.side p.resources) → write_resource n (knows ms (OfResource n)) ms ≡ Some x
+  pub resource_type_reads : (n : Name) (x : List WrittenScope × TypeRef) → mean.may_mention (OfResource n) ≡ true → (p.known (OfResource n) ≡ false → mean.resource n ≡ new_name p.side p.resources) → write_resource n (knows ms (OfResource n)) ms ≡ Some x
       → Written mean ks ms x.0 (Describes mean p x.1 (IsType (Resource n)))
   resource_type_reads n x may fresh h = resource_entity n (knows ms (OfResource n)) x refl may fresh h
 
-  pub func_type_reads : (f : FuncTree) (x : List Scope × TypeRef) → OneTreeFunc mean f → wrote_as description.TyEqual (write_func f ms) ≡ Some x → Written mean ks ms x.0 (Describes mean p x.1 (IsType (Func f)))
+  pub func_type_reads : (f : FuncTree) (x : List WrittenScope × TypeRef) → OneTreeFunc mean f → wrote_as description.TyEqual (write_func f ms) ≡ Some x → Written mean ks ms x.0 (Describes mean p x.1 (IsType (Func f)))
   func_type_reads f x one h = wrote_some description.TyEqual (write_func f ms) x h (λ y a b.
       let w = func_reads mean f ms ks y k r one a in
-      subst (λ (x : List Scope × TypeRef). Written mean ks ms x.0 (Describes mean p x.1 (IsType (Func f)))) b
+      subst (λ (x : List WrittenScope × TypeRef). Written mean ks ms x.0 (Describes mean p x.1 (IsType (Func f)))) b
       (so 0 (meant mean) ks ms y.0 _ _ w.2 (type_func_described mean p f y.1 w.0 (func_bit mean.bit f) w.1)))
 
-  pub func_entity_reads : (f : FuncTree) (x : List Scope × TypeRef) → OneTreeFunc mean f → func_bit mean.bit f ≡ true → wrote_as description.Func (write_func f ms) ≡ Some x → Written mean ks ms x.0 (Describes mean p x.1 (IsFunc f))
+  pub func_entity_reads : (f : FuncTree) (x : List WrittenScope × TypeRef) → OneTreeFunc mean f → func_bit mean.bit f ≡ true → wrote_as description.Func (write_func f ms) ≡ Some x → Written mean ks ms x.0 (Describes mean p x.1 (IsFunc f))
   func_entity_reads f x one bit h = wrote_some description.Func (write_func f ms) x h (λ y a b.
       let w = func_reads mean f ms ks y k r one a in
-      subst (λ (x : List Scope × TypeRef). Written mean ks ms x.0 (Describes mean p x.1 (IsFunc f))) b
+      subst (λ (x : List WrittenScope × TypeRef). Written mean ks ms x.0 (Describes mean p x.1 (IsFunc f))) b
       (so 0 (meant mean) ks ms y.0 _ _ w.2 (func_described mean p f y.1 w.0 w.1 bit)))

@@ -18,14 +18,14 @@ use Rattle.comp_scope.specs.Descriptions.{Described}
 use Rattle.comp_scope.specs.Aliases.{width}
 use Rattle.comp_scope.specs.Closing.{closed as closed_sides}
 use Rattle.comp_scope.specs.Types.{with_decls}
-use Rattle.compose_writing.specs.Keys.{Known as KnownThings, known_at, mention_outside, holds_there, from_within}
-use Rattle.compose_writing.specs.Scopes.{Scope, declared, add_type, on_top, closed, knows}
+use Rattle.compose_writing.specs.Keys.{KnownThings, known_at, mention_outside, holds_there, from_within}
+use Rattle.compose_writing.specs.Scopes.{WrittenScope, declared, add_type, on_top, closed, knows}
 use Rattle.compose_writing.specs.Scopes.{opened as opened_scope}
 use Rattle.compose_writing.specs.WriteEntities.{counted, with_named, then_decls, write_entity, write_entries}
 use Rattle.compose_meaning.specs.Meaning.{Meaning, Meant, meant, IsNamed}
 use Rattle.compose_meaning.specs.Stands.{AllGrown, spaces_of, Stands, further_out, AllKnow, Kept, MayBring}
 use Rattle.compose_meaning.specs.Described.{Describing, count, listed}
-use Rattle.compose_meaning.specs.Readable.{Side, Importing, Exporting, Spot, within, AreOlder, first_spot, brought_keys, behind, behind_all, in_instance_type, in_component_type, exports_spot, IsNumbered, TypeHasMeaning, HasMeaning, HaveMeaning}
+use Rattle.compose_meaning.specs.Readable.{SpotKind, Importing, Exporting, Spot, within, AreOlder, first_spot, brought_keys, behind, behind_all, in_instance_type, in_component_type, exports_spot, IsNumbered, TypeHasMeaning, HasMeaning, HaveMeaning}
 use Rattle.compose_meaning.specs.Shows.{Shows, AllShow}
 use Rattle.compose_meaning.proofs.ListLaws.{wrote_some}
 use Rattle.compose_meaning.proofs.SpaceLaws.{grown_refl, all_grown_refl, all_grown_trans, all_know_grown, shells, Head, head_of, heads_of, so, then_went, OnTop, TypeAt, Adds, added_type}
@@ -77,7 +77,7 @@ abbrev pub tail_shells : List (ℕ × KnownThings) → List (ℕ × KnownThings)
 tail_shells [] = []
 tail_shells (x ∷ xs) = xs
 
-pub know_same : (d : ℕ) (means : Mention → Meant) (ms later : List Scope) (ks : List Known) → shells later ≡ shells ms → AllKnow d means ms ks → AllKnow d means later ks
+pub know_same : (d : ℕ) (means : Mention → Meant) (ms later : List WrittenScope) (ks : List Known) → shells later ≡ shells ms → AllKnow d means ms ks → AllKnow d means later ks
 know_same d means [] [] [] same k = tt
 know_same d means [] [] (t ∷ ks) same k = elim k [ ]
 know_same d means [] (n ∷ later) ks same k = absurd cc
@@ -92,13 +92,13 @@ know_same d means (m ∷ ms) (n ∷ later) (t ∷ ks) same k =
 -- ---- what was imported or exported
 
 -- where entities are imported or exported next
-pub record IsAt (p : Spot) (ms : List Scope) (k : Known) : Type 0 where
+pub record IsAt (p : Spot) (ms : List WrittenScope) (k : Known) : Type 0 where
   pub count : count p.side k.spaces ≡ p.resources
   pub knew : (key : Mention) → knows ms key ≡ p.known key
   pub names : map (λ (e : List ℕ × Standing). e.0) (listed p.side k) ≡ p.names
 
 -- Entities are imported or exported, one behind the other, and all else stands as it did.
-pub record Entered (mean : Meaning) (p : Spot) (es : Entries) (k : Known) (around : List Known) (before later : List Scope) : Type 0 where
+pub record Entered (mean : Meaning) (p : Spot) (es : Entries) (k : Known) (around : List Known) (before later : List WrittenScope) : Type 0 where
   pub top : Known
   pub rest : List Known
   pub kept : Kept 0 (meant mean) later (top ∷ rest)
@@ -116,7 +116,7 @@ pub record Entered (mean : Meaning) (p : Spot) (es : Entries) (k : Known) (aroun
   pub older : AreOlder mean (behind_all mean p es)
 
 -- the same of one
-pub record EnteredOne (mean : Meaning) (p : Spot) (name : List ℕ) (e : EntityTree) (k : Known) (around : List Known) (before later : List Scope) : Type 0 where
+pub record EnteredOne (mean : Meaning) (p : Spot) (name : List ℕ) (e : EntityTree) (k : Known) (around : List Known) (before later : List WrittenScope) : Type 0 where
   pub top : Known
   pub rest : List Known
   pub kept : Kept 0 (meant mean) later (top ∷ rest)
@@ -144,19 +144,19 @@ heads_first k t around rest h = (same_Some _ _ (ap first h), ap others h)
     others [] = []
     others (x ∷ xs) = xs
 
-same_listed : (side : Side) (k t : Known) → head_of t ≡ head_of k → listed side t ≡ listed side k
+same_listed : (side : SpotKind) (k t : Known) → head_of t ≡ head_of k → listed side t ≡ listed side k
 same_listed Importing k t h = ap (λ (x : Head). x.imports) h
 same_listed Exporting k t h = ap (λ (x : Head). x.exports) h
 
-same_others : (side : Side) (k t : Known) → head_of t ≡ head_of k → others side t ≡ others side k
+same_others : (side : SpotKind) (k t : Known) → head_of t ≡ head_of k → others side t ≡ others side k
 same_others Importing k t h = ap (λ (x : Head). x.exports) h
 same_others Exporting k t h = ap (λ (x : Head). x.imports) h
 
-same_count : (side : Side) (k t : Known) → head_of t ≡ head_of k → count side t.spaces ≡ count side k.spaces
+same_count : (side : SpotKind) (k t : Known) → head_of t ≡ head_of k → count side t.spaces ≡ count side k.spaces
 same_count Importing k t h = ap (λ (x : Head). x.brought.resources) h
 same_count Exporting k t h = ap (λ (x : Head). x.made.resources) h
 
-same_other_count : (side : Side) (k t : Known) → head_of t ≡ head_of k → other_count side t.spaces ≡ other_count side k.spaces
+same_other_count : (side : SpotKind) (k t : Known) → head_of t ≡ head_of k → other_count side t.spaces ≡ other_count side k.spaces
 same_other_count Importing k t h = ap (λ (x : Head). x.made.resources) h
 same_other_count Exporting k t h = ap (λ (x : Head). x.brought.resources) h
 
@@ -169,19 +169,19 @@ placed_counts s (IsComponent is es) b = (refl, refl)
 placed_counts s (IsModule m) b = (refl, refl)
 placed_counts s IsOwnModule b = (refl, refl)
 
-named_listed : (side : Side) (k : Known) (name : List ℕ) (d : Described) → listed side (named side k name d) ≡ listed side k ++ (name, d.standing) ∷ []
+named_listed : (side : SpotKind) (k : Known) (name : List ℕ) (d : Described) → listed side (named side k name d) ≡ listed side k ++ (name, d.standing) ∷ []
 named_listed Importing k name d = refl
 named_listed Exporting k name d = refl
 
-named_others : (side : Side) (k : Known) (name : List ℕ) (d : Described) → others side (named side k name d) ≡ others side k
+named_others : (side : SpotKind) (k : Known) (name : List ℕ) (d : Described) → others side (named side k name d) ≡ others side k
 named_others Importing k name d = refl
 named_others Exporting k name d = refl
 
-named_count : (side : Side) (k : Known) (name : List ℕ) (d : Described) → count side (named side k name d).spaces ≡ count side k.spaces + d.brings.resources
+named_count : (side : SpotKind) (k : Known) (name : List ℕ) (d : Described) → count side (named side k name d).spaces ≡ count side k.spaces + d.brings.resources
 named_count Importing k name d = ap (λ c. c.resources) (placed_counts (record k.spaces { brought = counts_sum k.spaces.brought d.brings }) d.standing.0 d.standing.1).0
 named_count Exporting k name d = ap (λ c. c.resources) (placed_counts (record k.spaces { made = counts_sum k.spaces.made d.brings }) d.standing.0 d.standing.1).1
 
-named_other_count : (side : Side) (k : Known) (name : List ℕ) (d : Described) → other_count side (named side k name d).spaces ≡ other_count side k.spaces
+named_other_count : (side : SpotKind) (k : Known) (name : List ℕ) (d : Described) → other_count side (named side k name d).spaces ≡ other_count side k.spaces
 named_other_count Importing k name d = ap (λ c. c.resources) (placed_counts (record k.spaces { brought = counts_sum k.spaces.brought d.brings }) d.standing.0 d.standing.1).1
 named_other_count Exporting k name d = ap (λ c. c.resources) (placed_counts (record k.spaces { made = counts_sum k.spaces.made d.brings }) d.standing.0 d.standing.1).0
 
@@ -190,13 +190,13 @@ names_more [] name s = refl
 names_more (e ∷ es) name s = ap (λ names. e.0 ∷ names) (names_more es name s)
 
 -- one import or export
-pub enter_one : (mean : Meaning) (p : Spot) (name : List ℕ) (e : EntityTree) (ms : List Scope) (k : Known) (around : List Known) (x : List Scope × TypeRef) → Ready mean ms (k ∷ around) → IsAt p ms k
+pub enter_one : (mean : Meaning) (p : Spot) (name : List ℕ) (e : EntityTree) (ms : List WrittenScope) (k : Known) (around : List Known) (x : List WrittenScope × TypeRef) → Ready mean ms (k ∷ around) → IsAt p ms k
     → list_any (str_eq_ignore_ascii_case name) p.names ≡ false → IsOrderly mean.may_mention mean.tree e → AreOlder mean (behind mean p name e) → Written mean (k ∷ around) ms x.0 (Describes mean p x.1 e)
     → EnteredOne mean p name e k around ms (with_named (item_of p.side) name e x.1 x.0)
 unfolding Describes OnTop
 enter_one mean p name e ms k around x ready at free orderly older w = go x.0 w.scopes w.grown w.kept w.same w.heads w.says (still_ready mean (k ∷ around) ms x.0 _ ready w).brings
   where
-    go : (next : List Scope) (scopes : List Known) → AllGrown (spaces_of (k ∷ around)) (spaces_of scopes) → Kept 0 (meant mean) next scopes → shells next ≡ shells ms → heads_of scopes ≡ heads_of (k ∷ around)
+    go : (next : List WrittenScope) (scopes : List Known) → AllGrown (spaces_of (k ∷ around)) (spaces_of scopes) → Kept 0 (meant mean) next scopes → shells next ≡ shells ms → heads_of scopes ≡ heads_of (k ∷ around)
         → OnTop (λ s. count p.side s ≡ p.resources → Describing mean p x.1 e s) scopes → MayBring mean.may_mention (meant mean) next scopes → EnteredOne mean p name e k around ms (with_named (item_of p.side) name e x.1 next)
     go next [] grown kept same heads says brings = elim says [ ]
     go [] (t ∷ rest) grown kept same heads says brings = elim kept.stand [ ]
@@ -212,7 +212,7 @@ enter_one mean p name e ms k around x ready at free orderly older w = go x.0 w.s
         let all : AllGrown (spaces_of (t ∷ rest)) (spaces_of (now ∷ rest)) = (named_grows p.side t name d.what, all_grown_refl (spaces_of rest)) in
         let more = brings_noted mean.may_mention (meant mean) (counted x.1 (declared (item_of p.side name x.1) m)) next now rest (brought_keys e) (with_named (item_of p.side) name e x.1 (m ∷ next)) n
         (still_brings mean.may_mention (meant mean) (m ∷ next) (counted x.1 (declared (item_of p.side name x.1) m) ∷ next) (t ∷ rest) (now ∷ rest) shell all brings) in
-        subst (λ (later : List Scope). EnteredOne mean p name e k around ms later) (sym n.is) (record {
+        subst (λ (later : List WrittenScope). EnteredOne mean p name e k around ms later) (sym n.is) (record {
           top = now;
           rest = rest;
           kept = n.kept;
@@ -237,21 +237,21 @@ enter_one mean p name e ms k around x ready at free orderly older w = go x.0 w.s
 -- ---- a type that is a scope
 
 -- a scope that ends, and its type in the scope around it
-ended : {P : Type 0} (type_of : Decls → TypeTree) (w : Option (List Scope)) (y : List Scope × ℕ) → then_decls type_of w ≡ Some y
-    → ((m : Scope) (ms : List Scope) → w ≡ Some (m ∷ ms) → on_top (add_type (type_of m.decls)) ms ≡ Some y → P) → P
+ended : {P : Type 0} (type_of : Decls → TypeTree) (w : Option (List WrittenScope)) (y : List WrittenScope × ℕ) → then_decls type_of w ≡ Some y
+    → ((m : WrittenScope) (ms : List WrittenScope) → w ≡ Some (m ∷ ms) → on_top (add_type (type_of m.decls)) ms ≡ Some y → P) → P
 unfolding closed
 ended type_of None y h then = absurd cc
 ended type_of (Some []) y h then = absurd cc
 ended type_of (Some (m ∷ ms)) y h then = then m ms refl h
 
-pub instance_adds : (m : Scope) (top t : Known) (rest : List Known) → Stands m top (spaces_of (t ∷ rest)) → top.spaces.is_closed ≡ false → Adds (tree.Ty (tree.Instance m.decls)) (IsType (Instance (entries_in top.exports)), true) (t ∷ rest)
+pub instance_adds : (m : WrittenScope) (top t : Known) (rest : List Known) → Stands m top (spaces_of (t ∷ rest)) → top.spaces.is_closed ≡ false → Adds (tree.Ty (tree.Instance m.decls)) (IsType (Instance (entries_in top.exports)), true) (t ∷ rest)
 unfolding Adds with_decls added
 instance_adds m top t rest h is = λ outer g.
     let read : with_decls unbounded (t.spaces ∷ outer) (nothing_known false) m.decls ≡ Ok top = ap (λ b. with_decls unbounded (t.spaces ∷ outer) (nothing_known b) m.decls) (sym is) ∙ h.reads (t.spaces ∷ outer) (grown_refl t.spaces, g) in
     rw read refl
 
 -- what stood around a scope stands where it ends
-unfoldable pub around_stays : (mean : Meaning) (ms : List Scope) (ks : List Known) (w : ℕ) (m : Scope) (next : List Scope) (top : Known) (rest : List Known) (inner : Mention → Meant) → Kept 0 (meant mean) ms ks → Kept 0 inner (m ∷ next) (top ∷ rest)
+unfoldable pub around_stays : (mean : Meaning) (ms : List WrittenScope) (ks : List Known) (w : ℕ) (m : WrittenScope) (next : List WrittenScope) (top : Known) (rest : List Known) (inner : Mention → Meant) → Kept 0 (meant mean) ms ks → Kept 0 inner (m ∷ next) (top ∷ rest)
     → AllGrown (spaces_of ks) (spaces_of rest) → tail_shells (shells (m ∷ next)) ≡ tail_shells (shells (opened_scope w ∷ ms)) → heads_of rest ≡ heads_of ks → Written mean ks ms next (λ ls. Unit {0})
 around_stays mean ms ks w m next top rest inner kept within grown tails heads = record {
   scopes = rest;
@@ -263,7 +263,7 @@ around_stays mean ms ks w m next top rest inner kept within grown tails heads = 
 }
 
 -- the type of an instance, where what it exports is what was meant
-instance_type_reads : (mean inner : Meaning) (w : ℕ) (p : Spot) (es : Entries) (ms : List Scope) (k : Known) (around : List Known) (m : Scope) (next : List Scope) (y : List Scope × ℕ) → p.side ≡ Exporting → Kept 0 (meant mean) ms (k ∷ around)
+instance_type_reads : (mean inner : Meaning) (w : ℕ) (p : Spot) (es : Entries) (ms : List WrittenScope) (k : Known) (around : List Known) (m : WrittenScope) (next : List WrittenScope) (y : List WrittenScope × ℕ) → p.side ≡ Exporting → Kept 0 (meant mean) ms (k ∷ around)
     → Entered inner p es (nothing_known false) (k ∷ around) (opened_scope w ∷ ms) (m ∷ next) → on_top (add_type (tree.Instance m.decls)) next ≡ Some y
     → (fs : Entries) × AllShow inner es fs × Written mean (k ∷ around) ms y.0 (TypeAt y.1 (IsType (Instance fs), true))
 unfolding around_stays
@@ -280,17 +280,17 @@ instance_type_reads mean inner w p es ms k around m next y side kept entered h =
     one (t ∷ rest) grown k kept = added_type 0 (meant mean) (tree.Ty (tree.Instance m.decls)) next (t ∷ rest) y (IsType (Instance (entries_in entered.top.exports)), true) kept h (instance_adds m entered.top t rest k.stand.0 entered.is_closed)
 
 -- the scope of an instance's type, at its begin
-pub within_kept : (mean : Meaning) (p : Spot) (ms : List Scope) (ks : List Known) → Kept 0 (meant mean) ms ks → ((key : Mention) → knows ms key ≡ p.known key) → AreOlder mean p → Kept 0 (meant (within p mean)) (opened_scope 0 ∷ ms) (nothing_known false ∷ ks)
+pub within_kept : (mean : Meaning) (p : Spot) (ms : List WrittenScope) (ks : List Known) → Kept 0 (meant mean) ms ks → ((key : Mention) → knows ms key ≡ p.known key) → AreOlder mean p → Kept 0 (meant (within p mean)) (opened_scope 0 ∷ ms) (nothing_known false ∷ ks)
 within_kept mean p ms ks kept same older = opened_kept 1 0 false (meant (within p mean)) (meant mean) ms ks refl (within_shifts p mean (knows ms) same older) kept
 
-pub within_ready : (mean : Meaning) (p : Spot) (ms : List Scope) (ks : List Known) → Ready mean ms ks → ((key : Mention) → knows ms key ≡ p.known key) → AreOlder mean p → Ready (within p mean) (opened_scope 0 ∷ ms) (nothing_known false ∷ ks)
+pub within_ready : (mean : Meaning) (p : Spot) (ms : List WrittenScope) (ks : List Known) → Ready mean ms ks → ((key : Mention) → knows ms key ≡ p.known key) → AreOlder mean p → Ready (within p mean) (opened_scope 0 ∷ ms) (nothing_known false ∷ ks)
 unfolding OnTop
 within_ready mean p ms ks ready same older = record {
   is_open = tt;
   brings = opened_brings 1 0 mean.may_mention mean.may_mention (meant mean) (meant (within p mean)) ms ks (within_shifts p mean (knows ms) same older) (λ key h. ap mean.may_mention (sym (inward_none key)) ∙ h) ready.brings;
 }
 
-pub within_at : (p : Spot) (ms : List Scope) → ((key : Mention) → knows ms key ≡ p.known key) → IsAt (first_spot Exporting p.known) (opened_scope 0 ∷ ms) (nothing_known false)
+pub within_at : (p : Spot) (ms : List WrittenScope) → ((key : Mention) → knows ms key ≡ p.known key) → IsAt (first_spot Exporting p.known) (opened_scope 0 ∷ ms) (nothing_known false)
 unfolding knows
 within_at p ms same = record {
   count = refl;
@@ -300,7 +300,7 @@ within_at p ms same = record {
 
 -- ---- types that are scopes of names
 
-pub component_adds : (m : Scope) (top t : Known) (rest : List Known) → Stands m top (spaces_of (t ∷ rest)) → top.spaces.is_closed ≡ true
+pub component_adds : (m : WrittenScope) (top t : Known) (rest : List Known) → Stands m top (spaces_of (t ∷ rest)) → top.spaces.is_closed ≡ true
     → Adds (tree.Ty (tree.Component m.decls)) (IsType (Component (closed_sides top).imports (closed_sides top).exports), true) (t ∷ rest)
 unfolding Adds with_decls added
 component_adds m top t rest h is = λ outer g.
@@ -308,7 +308,7 @@ component_adds m top t rest h is = λ outer g.
     rw read refl
 
 -- the type of a component, where its imports and exports are what was meant
-component_type_reads : (mean own : Meaning) (known : Mention → Bool) (is es : Entries) (ms mid : List Scope) (k : Known) (around : List Known) (m : Scope) (next : List Scope) (y : List Scope × ℕ) → Kept 0 (meant mean) ms (k ∷ around) → IsNumbered is es
+component_type_reads : (mean own : Meaning) (known : Mention → Bool) (is es : Entries) (ms mid : List WrittenScope) (k : Known) (around : List Known) (m : WrittenScope) (next : List WrittenScope) (y : List WrittenScope × ℕ) → Kept 0 (meant mean) ms (k ∷ around) → IsNumbered is es
     → (first : Entered (in_component_type own mean) (first_spot Importing known) is (nothing_known true) (k ∷ around) (opened_scope 2 ∷ ms) mid)
     → Entered (in_component_type own mean) (exports_spot (in_component_type own mean) (first_spot Importing known) is) es first.top first.rest mid (m ∷ next)
     → on_top (add_type (tree.Component m.decls)) next ≡ Some y
@@ -333,7 +333,7 @@ component_type_reads mean own known is es ms mid k around m next y kept numbered
     one (t ∷ rest) grown k kept = added_type 0 (meant mean) (tree.Ty (tree.Component m.decls)) next (t ∷ rest) y (IsType (Component (closed_sides second.top).imports (closed_sides second.top).exports), true) kept h
         (component_adds m second.top t rest k.stand.0 (second.is_closed ∙ first.is_closed))
 
-module _ (mean own : Meaning) (ms : List Scope) (ks : List Known) (kept : Kept 0 (meant mean) ms ks) where
+module _ (mean own : Meaning) (ms : List WrittenScope) (ks : List Known) (kept : Kept 0 (meant mean) ms ks) where
   instance_kept : Kept 0 (meant (in_instance_type own mean)) (opened_scope 1 ∷ ms) (nothing_known false ∷ ks)
   instance_kept = opened_kept 1 1 false (meant (in_instance_type own mean)) (meant mean) ms ks refl (scope_shifts false 1 own mean (knows ms)) kept
 
@@ -354,18 +354,18 @@ module _ (mean own : Meaning) (ms : List Scope) (ks : List Known) (kept : Kept 0
     brings = closed_brings 2 2 (in_component_type own mean).may_mention (meant mean) (meant (in_component_type own mean)) ms ks (scope_shifts true 2 own mean (knows ms)) (component_may 2 own mean);
   }
 
-pub scope_at : (w : ℕ) (side : Side) (is_closed : Bool) (p : Spot) (ms : List Scope) → ((key : Mention) → knows ms key ≡ p.known key) → IsAt (first_spot side (from_within w p.known)) (opened_scope w ∷ ms) (nothing_known is_closed)
+pub scope_at : (w : ℕ) (side : SpotKind) (is_closed : Bool) (p : Spot) (ms : List WrittenScope) → ((key : Mention) → knows ms key ≡ p.known key) → IsAt (first_spot side (from_within w p.known)) (opened_scope w ∷ ms) (nothing_known is_closed)
 scope_at w Importing is_closed p ms same = record { count = refl; knew = λ key. scope_knows w ms p.known same key; names = refl }
 scope_at w Exporting is_closed p ms same = record { count = refl; knew = λ key. scope_knows w ms p.known same key; names = refl }
 
 -- the exports of a component stand behind its imports
-pub exports_at : (inner : Meaning) (known : Mention → Bool) (is : Entries) (around : List Known) (before mid : List Scope) (first : Entered inner (first_spot Importing known) is (nothing_known true) around before mid) → IsAt (exports_spot inner (first_spot Importing known) is) mid first.top
+pub exports_at : (inner : Meaning) (known : Mention → Bool) (is : Entries) (around : List Known) (before mid : List WrittenScope) (first : Entered inner (first_spot Importing known) is (nothing_known true) around before mid) → IsAt (exports_spot inner (first_spot Importing known) is) mid first.top
 exports_at inner known is around before mid first = record { count = first.other_count; knew = first.at.knew; names = ap (map (λ (e : List ℕ × Standing). e.0)) first.others_are }
 
 -- the type of a component, as it ends
-component_ends : (mean own : Meaning) (known : Mention → Bool) (is es : Entries) (ms : List Scope) (k : Known) (around : List Known) (y : List Scope × ℕ) → Kept 0 (meant mean) ms (k ∷ around) → IsNumbered is es
-    → ((mid : List Scope) → write_entries tree.Import is (opened_scope 2 ∷ ms) ≡ Some mid → Entered (in_component_type own mean) (first_spot Importing known) is (nothing_known true) (k ∷ around) (opened_scope 2 ∷ ms) mid)
-    → ((mid later : List Scope) (first : Entered (in_component_type own mean) (first_spot Importing known) is (nothing_known true) (k ∷ around) (opened_scope 2 ∷ ms) mid) → write_entries tree.Export es mid ≡ Some later
+component_ends : (mean own : Meaning) (known : Mention → Bool) (is es : Entries) (ms : List WrittenScope) (k : Known) (around : List Known) (y : List WrittenScope × ℕ) → Kept 0 (meant mean) ms (k ∷ around) → IsNumbered is es
+    → ((mid : List WrittenScope) → write_entries tree.Import is (opened_scope 2 ∷ ms) ≡ Some mid → Entered (in_component_type own mean) (first_spot Importing known) is (nothing_known true) (k ∷ around) (opened_scope 2 ∷ ms) mid)
+    → ((mid later : List WrittenScope) (first : Entered (in_component_type own mean) (first_spot Importing known) is (nothing_known true) (k ∷ around) (opened_scope 2 ∷ ms) mid) → write_entries tree.Export es mid ≡ Some later
     → Entered (in_component_type own mean) (exports_spot (in_component_type own mean) (first_spot Importing known) is) es first.top first.rest mid later)
     → then_decls tree.Component (option_and_then (write_entries tree.Export es) (write_entries tree.Import is (opened_scope 2 ∷ ms))) ≡ Some y
     → (fs : Entries) × (gs : Entries) × SidesRead mean (in_component_type own mean) is es fs gs × Written mean (k ∷ around) ms y.0 (TypeAt y.1 (IsType (Component fs gs), true))
@@ -374,12 +374,12 @@ component_ends mean own known is es ms k around y kept numbered imports exports 
     let first = imports mid e in component_type_reads mean own known is es ms mid k around m next y kept numbered first (exports mid (m ∷ next) first f) d))
 
 -- what is said of it
-component_says : (mean own : Meaning) (p : Spot) (is es : Entries) (ms : List Scope) (k : Known) (around : List Known) (y : List Scope × ℕ) (ty : TypeRef) (e : EntityTree)
+component_says : (mean own : Meaning) (p : Spot) (is es : Entries) (ms : List WrittenScope) (k : Known) (around : List Known) (y : List WrittenScope × ℕ) (ty : TypeRef) (e : EntityTree)
     → ((fs gs : Entries) → SidesRead mean (in_component_type own mean) is es fs gs → (ks : List Known) → TypeAt y.1 (IsType (Component fs gs), true) ks → Describes mean p ty e ks)
     → (fs : Entries) × (gs : Entries) × SidesRead mean (in_component_type own mean) is es fs gs × Written mean (k ∷ around) ms y.0 (TypeAt y.1 (IsType (Component fs gs), true)) → Written mean (k ∷ around) ms y.0 (Describes mean p ty e)
 component_says mean own p is es ms k around y ty e step w = so 0 (meant mean) (k ∷ around) ms y.0 (TypeAt y.1 (IsType (Component w.0 w.1), true)) (Describes mean p ty e) w.3 (step w.0 w.1 w.2)
 
-entered_none : (mean : Meaning) (p : Spot) (ms : List Scope) (k : Known) (around : List Known) → Kept 0 (meant mean) ms (k ∷ around) → Ready mean ms (k ∷ around) → IsAt p ms k → AreOlder mean p → Entered mean p no_entry k around ms ms
+entered_none : (mean : Meaning) (p : Spot) (ms : List WrittenScope) (k : Known) (around : List Known) → Kept 0 (meant mean) ms (k ∷ around) → Ready mean ms (k ∷ around) → IsAt p ms k → AreOlder mean p → Entered mean p no_entry k around ms ms
 unfolding behind_all
 entered_none mean p ms k around kept ready at older = record {
   top = k;
@@ -399,7 +399,7 @@ entered_none mean p ms k around kept ready at older = record {
   older = older;
 }
 
-entered_behind : (mean : Meaning) (p : Spot) (name : List ℕ) (e : EntityTree) (mark : Bool) (es : Entries) (k : Known) (around : List Known) (before next later : List Scope) (one : EnteredOne mean p name e k around before next)
+entered_behind : (mean : Meaning) (p : Spot) (name : List ℕ) (e : EntityTree) (mark : Bool) (es : Entries) (k : Known) (around : List Known) (before next later : List WrittenScope) (one : EnteredOne mean p name e k around before next)
     → Entered mean (behind mean p name e) es one.top one.rest next later → Entered mean p (entry name e mark es) k around before later
 unfolding behind_all
 entered_behind mean p name e mark es k around before next later one others = record {
@@ -428,7 +428,7 @@ mutual
   unfolding write_entity
 
   -- what is written for an entity describes it
-  pub entity_reads : (mean : Meaning) (p : Spot) (e : EntityTree) (ms : List Scope) (k : Known) (around : List Known) (x : List Scope × TypeRef) → Kept 0 (meant mean) ms (k ∷ around) → Ready mean ms (k ∷ around)
+  pub entity_reads : (mean : Meaning) (p : Spot) (e : EntityTree) (ms : List WrittenScope) (k : Known) (around : List Known) (x : List WrittenScope × TypeRef) → Kept 0 (meant mean) ms (k ∷ around) → Ready mean ms (k ∷ around)
       → ((key : Mention) → knows ms key ≡ p.known key) → AreOlder mean p → HasMeaning mean p e → write_entity e ms ≡ Some x → Written mean (k ∷ around) ms x.0 (Describes mean p x.1 e)
   entity_reads mean p (IsType (Value t)) ms k around x kept ready same older has h = value_type_reads mean p ms (k ∷ around) kept ready same t x has.0 has.1 h
   entity_reads mean p (IsType (Resource r)) ms k around x kept ready same older has h = resource_type_reads mean p ms (k ∷ around) kept ready same r x has.0 has.1 h
@@ -439,10 +439,10 @@ mutual
       let entered = entries_read inner (first_spot Exporting (from_within 1 p.known)) es (opened_scope 1 ∷ ms) (nothing_known false) (k ∷ around) (m ∷ next)
       (instance_kept mean has.0 ms (k ∷ around) kept) (instance_ready mean has.0 ms (k ∷ around) kept ready) (scope_at 1 Exporting false p ms same) (instance_type_older has.0 mean p.known) has.1 c in
       let w = instance_type_reads mean inner 1 (first_spot Exporting (from_within 1 p.known)) es ms k around m next y refl kept entered d in
-      subst (λ (x : List Scope × TypeRef). Written mean (k ∷ around) ms x.0 (Describes mean p x.1 (IsType (Instance es)))) b
+      subst (λ (x : List WrittenScope × TypeRef). Written mean (k ∷ around) ms x.0 (Describes mean p x.1 (IsType (Instance es)))) b
       (so 0 (meant mean) (k ∷ around) ms y.0 _ _ w.2 (type_instance_described mean inner p es w.0 y.1 refl w.1))))
   entity_reads mean p (IsType (Component is es)) ms k around x kept ready same older has h = wrote_some description.TyEqual (then_decls tree.Component (option_and_then (write_entries tree.Export es) (write_entries tree.Import is (opened_scope 2 ∷ ms)))) x h (λ y a b.
-      subst (λ (x : List Scope × TypeRef). Written mean (k ∷ around) ms x.0 (Describes mean p x.1 (IsType (Component is es)))) b
+      subst (λ (x : List WrittenScope × TypeRef). Written mean (k ∷ around) ms x.0 (Describes mean p x.1 (IsType (Component is es)))) b
       (component_says mean has.0 p is es ms k around y (description.TyEqual y.1) (IsType (Component is es)) (λ fs gs sides ls at. type_component_described mean (in_component_type has.0 mean) p is es fs gs y.1 sides ls at)
       (component_ends mean has.0 (from_within 2 p.known) is es ms k around y kept has.3
       (λ mid c. entries_read (in_component_type has.0 mean) (first_spot Importing (from_within 2 p.known)) is (opened_scope 2 ∷ ms) (nothing_known true) (k ∷ around) mid
@@ -456,10 +456,10 @@ mutual
       let entered = entries_read (within p mean) (first_spot Exporting p.known) es (opened_scope 0 ∷ ms) (nothing_known false) (k ∷ around) (m ∷ next)
       (within_kept mean p ms (k ∷ around) kept same older) (within_ready mean p ms (k ∷ around) ready same older) (within_at p ms same) (within_older mean p older) has c in
       let w = instance_type_reads mean (within p mean) 0 (first_spot Exporting p.known) es ms k around m next y refl kept entered d in
-      subst (λ (x : List Scope × TypeRef). Written mean (k ∷ around) ms x.0 (Describes mean p x.1 (IsInstance es))) b
+      subst (λ (x : List WrittenScope × TypeRef). Written mean (k ∷ around) ms x.0 (Describes mean p x.1 (IsInstance es))) b
       (so 0 (meant mean) (k ∷ around) ms y.0 _ _ w.2 (instance_described mean p es w.0 y.1 w.1))))
   entity_reads mean p (IsComponent is es) ms k around x kept ready same older has h = wrote_some description.Component (then_decls tree.Component (option_and_then (write_entries tree.Export es) (write_entries tree.Import is (opened_scope 2 ∷ ms)))) x h (λ y a b.
-      subst (λ (x : List Scope × TypeRef). Written mean (k ∷ around) ms x.0 (Describes mean p x.1 (IsComponent is es))) b
+      subst (λ (x : List WrittenScope × TypeRef). Written mean (k ∷ around) ms x.0 (Describes mean p x.1 (IsComponent is es))) b
       (component_says mean has.0 p is es ms k around y (description.Component y.1) (IsComponent is es) (λ fs gs sides ls at. component_described mean (in_component_type has.0 mean) p is es fs gs y.1 sides ls at)
       (component_ends mean has.0 (from_within 2 p.known) is es ms k around y kept has.3
       (λ mid c. entries_read (in_component_type has.0 mean) (first_spot Importing (from_within 2 p.known)) is (opened_scope 2 ∷ ms) (nothing_known true) (k ∷ around) mid
@@ -471,9 +471,9 @@ mutual
   entity_reads mean p IsOwnModule ms k around x kept ready same older has h = elim has [ ]
 
   -- imports or exports, one behind the other
-  pub entries_read : (mean : Meaning) (p : Spot) (es : Entries) (ms : List Scope) (k : Known) (around : List Known) (later : List Scope) → Kept 0 (meant mean) ms (k ∷ around) → Ready mean ms (k ∷ around) → IsAt p ms k → AreOlder mean p → HaveMeaning mean p es
+  pub entries_read : (mean : Meaning) (p : Spot) (es : Entries) (ms : List WrittenScope) (k : Known) (around : List Known) (later : List WrittenScope) → Kept 0 (meant mean) ms (k ∷ around) → Ready mean ms (k ∷ around) → IsAt p ms k → AreOlder mean p → HaveMeaning mean p es
       → write_entries (item_of p.side) es ms ≡ Some later → Entered mean p es k around ms later
-  entries_read mean p no_entry ms k around later kept ready at older have h = subst (λ (later : List Scope). Entered mean p no_entry k around ms later) (same_Some _ _ h) (entered_none mean p ms k around kept ready at older)
+  entries_read mean p no_entry ms k around later kept ready at older have h = subst (λ (later : List WrittenScope). Entered mean p no_entry k around ms later) (same_Some _ _ h) (entered_none mean p ms k around kept ready at older)
   entries_read mean p (entry name e mark es) ms k around later kept ready at older have h = option_and_then_some _ (write_entity e ms) later h (λ x a b.
       let orderly = entity_orderly mean p e have.1 in
       let later_older = old_behind mean p name e older (entity_old mean p name e ms (k ∷ around) x older (record { kept = kept; ready = ready; same = at.knew }) have.1 orderly a) in

@@ -13,7 +13,7 @@ use Rattle.comp_entity.specs.Bounds.{ShapeFault}
 use Rattle.comp_scope.specs.Spaces.{Spaces, Known, added}
 use Rattle.comp_scope.specs.Values.{part_of, params_of, result_of, func_of}
 use Rattle.comp_scope.specs.Types.{with_decls}
-use Rattle.compose_writing.specs.Scopes.{Scope}
+use Rattle.compose_writing.specs.Scopes.{WrittenScope}
 use Rattle.compose_writing.specs.WriteValues.{write_value, write_params, write_result, write_func, write_own}
 use Rattle.compose_meaning.specs.Meaning.{Meaning, placed_value, placed_func, meant, own_bit, params_bit, result_bit, func_bit, OneTree, OneTreeParams, OneTreeResult, OneTreeFunc}
 use Rattle.compose_meaning.specs.Stands.{Grown, AllGrown, spaces_of, Kept}
@@ -64,10 +64,10 @@ module _ (mean : Meaning) where
   unfolding PartIs ParamsAre params_of params_bit
   params_more v vs p ps ks ls g a b = on_top_both _ _ _ (λ s u grown a b. ((p.0, a.0) ∷ b.0, rw (part_grown s u grown v _ a.1, b.1) refl, (λ i. (p.0, a.2 i) ∷ b.2 i))) ks ls g a b
 
-  params_read : (ps : List (List ℕ × ValueTree)) (ms : List Scope) (ks : List Known) (x : List Scope × List (List ℕ × ValType)) → Kept 0 (meant mean) ms ks → Ready mean ms ks → OneTreeParams mean ps → write_params ps ms ≡ Some x
+  params_read : (ps : List (List ℕ × ValueTree)) (ms : List WrittenScope) (ks : List Known) (x : List WrittenScope × List (List ℕ × ValType)) → Kept 0 (meant mean) ms ks → Ready mean ms ks → OneTreeParams mean ps → write_params ps ms ≡ Some x
       → Written mean ks ms x.0 (ParamsAre x.1 ps)
   unfolding write_params
-  params_read [] ms ks x k r one h = subst (λ (x : List Scope × List (List ℕ × ValType)). Written mean ks ms x.0 (ParamsAre x.1 [])) (same_Some _ _ h) (at_once 0 (meant mean) ks ms _ k (no_params ks r.is_open))
+  params_read [] ms ks x k r one h = subst (λ (x : List WrittenScope × List (List ℕ × ValType)). Written mean ks ms x.0 (ParamsAre x.1 [])) (same_Some _ _ h) (at_once 0 (meant mean) ks ms _ k (no_params ks r.is_open))
   params_read (p ∷ ps) ms ks x k r one h = behind mean (λ v vs. (p.0, v) ∷ vs) (write_value p.1 ms) (write_params ps) (λ v. PartIs mean v p.1) (λ vs. ParamsAre vs ps) (λ vs. ParamsAre vs (p ∷ ps)) ms ks x r
       (λ y a. value_reads mean p.1 ms ks y k r one.0 a) (λ next ls z k r a. params_read ps next ls z k r one.1 a) (λ v vs ls us. params_more v vs p ps ls us) h
 
@@ -79,10 +79,10 @@ module _ (mean : Meaning) where
   unfolding PartIs ResultIs result_of
   some_result v t ks h = on_top_then _ _ (λ s a. (Some a.0, rw a.1 refl, ap Some a.2)) ks h
 
-  result_reads : (r : Option ValueTree) (ms : List Scope) (ks : List Known) (x : List Scope × Option ValType) → Kept 0 (meant mean) ms ks → Ready mean ms ks → OneTreeResult mean r → write_result r ms ≡ Some x
+  result_reads : (r : Option ValueTree) (ms : List WrittenScope) (ks : List Known) (x : List WrittenScope × Option ValType) → Kept 0 (meant mean) ms ks → Ready mean ms ks → OneTreeResult mean r → write_result r ms ≡ Some x
       → Written mean ks ms x.0 (ResultIs x.1 r)
   unfolding write_result
-  result_reads None ms ks x k r one h = subst (λ (x : List Scope × Option ValType). Written mean ks ms x.0 (ResultIs x.1 None)) (same_Some _ _ h) (at_once 0 (meant mean) ks ms _ k (no_result ks r.is_open))
+  result_reads None ms ks x k r one h = subst (λ (x : List WrittenScope × Option ValType). Written mean ks ms x.0 (ResultIs x.1 None)) (same_Some _ _ h) (at_once 0 (meant mean) ks ms _ k (no_result ks r.is_open))
   result_reads (Some t) ms ks x k r one h = turned mean Some (write_value t ms) (λ v. PartIs mean v t) (λ v. ResultIs v (Some t)) ms ks x (λ y a. value_reads mean t ms ks y k r one a) (λ v ls. some_result v t ls) h
 
   func_is : (f : FuncTree) (vs : List (List ℕ × ValType)) (v : Option ValType) (ks ls : List Known) → AllGrown (spaces_of ks) (spaces_of ls) → ParamsAre vs f.params ks → ResultIs v f.result ls
@@ -100,7 +100,7 @@ module _ (mean : Meaning) where
   func_adds (tree.Resource t) f ks h = elim h [ ]
 
   -- the type of a function
-  pub func_reads : (f : FuncTree) (ms : List Scope) (ks : List Known) (x : List Scope × ℕ) → Kept 0 (meant mean) ms ks → Ready mean ms ks → OneTreeFunc mean f → write_func f ms ≡ Some x
+  pub func_reads : (f : FuncTree) (ms : List WrittenScope) (ks : List Known) (x : List WrittenScope × ℕ) → Kept 0 (meant mean) ms ks → Ready mean ms ks → OneTreeFunc mean f → write_func f ms ≡ Some x
       → (what : FuncTree) × (plain_func what ≡ placed_func mean f) × Written mean ks ms x.0 (TypeAt x.1 (IsType (Func what), func_bit mean.bit f))
   unfolding write_func
   func_reads f ms ks x k r one h = option_and_then_some _ _ x h (λ y a b.
@@ -110,6 +110,6 @@ module _ (mean : Meaning) where
       (adds.0, adds.1, then_went 0 (meant mean) ks ms y.0 x.0 _ _ w (added_type 0 (meant mean) (tree.Ty y.1) y.0 w.scopes x _ w.kept b adds.2)))
 
   -- a value type that gets a name
-  pub own_reads : (t : ValueTree) (ms : List Scope) (ks : List Known) (x : List Scope × ℕ) → Kept 0 (meant mean) ms ks → Ready mean ms ks → OneTree mean t → write_own t ms ≡ Some x
+  pub own_reads : (t : ValueTree) (ms : List WrittenScope) (ks : List Known) (x : List WrittenScope × ℕ) → Kept 0 (meant mean) ms ks → Ready mean ms ks → OneTree mean t → write_own t ms ≡ Some x
       → (what : ValueTree) × (plain_value what ≡ placed_value mean t) × (place_of what ≡ None) × Written mean ks ms x.0 (TypeAt x.1 (IsType (Value what), own_bit mean.bit t))
   own_reads t ms ks x k r one h = then_defined_reads mean t ms ks x (λ y a. defined_reads mean t ms ks y k r one a) h

@@ -13,7 +13,7 @@ use Rattle.comp_scope.specs.Aliases.{core_scopes}
 use Rattle.comp_scope.specs.Types.{with_decls, with_decl, with_spaces}
 use Rattle.comp_scope.specs.Descriptions.{described, new_brought, new_made, with_brought, with_made, with_import, with_export, imported, declared_export}
 use Rattle.comp_scope.specs.Shape.{spaces_after, after, after_parts}
-use Rattle.compose_writing.specs.Scopes.{Scope}
+use Rattle.compose_writing.specs.Scopes.{WrittenScope}
 use Rattle.compose_meaning.specs.Meaning.{Meaning}
 use Rattle.compose_meaning.specs.Keeps.{Keeps}
 use Rattle.compose_meaning.specs.Items.{parts_for}
@@ -101,5 +101,5 @@ as_items b outer n k (tree.more (tree.Export name ref) ds) h none = bound (with_
     no_entry_left e = elim e [ ]
 
 -- the items of the outermost scope
-pub keeps_items : (mean : Meaning) (m : Scope) (k : Known) → Keeps mean m k → after_parts unbounded [] (nothing_known true) (parts_for m.decls) ≡ Ok k
+pub keeps_items : (mean : Meaning) (m : WrittenScope) (k : Known) → Keeps mean m k → after_parts unbounded [] (nothing_known true) (parts_for m.decls) ≡ Ok k
 keeps_items mean m k h = as_items unbounded [] (nothing_known true) k m.decls (ap (λ b. with_decls unbounded [] (nothing_known b) m.decls) (sym h.is_component) ∙ h.stands.reads [] tt) h.exports

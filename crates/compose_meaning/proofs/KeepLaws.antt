@@ -15,8 +15,8 @@ use Rattle.comp_scope.specs.Spaces.{Known, Standing, nothing_known, Spaces, at_i
 use Rattle.comp_scope.specs.CoreScopes.{as_module}
 use Rattle.comp_scope.specs.Descriptions.{NewNames, new_brought, Described, described, plainly, described_type, described_func, described_component, described_instance}
 use Rattle.comp_scope.specs.Types.{with_decls}
-use Rattle.compose_writing.specs.Keys.{Known as KnownThings, At, known_at, mention_outside, holds_there}
-use Rattle.compose_writing.specs.Scopes.{Scope, outermost, add_type, on_top, knows}
+use Rattle.compose_writing.specs.Keys.{KnownThings, At, known_at, mention_outside, holds_there}
+use Rattle.compose_writing.specs.Scopes.{WrittenScope, outermost, add_type, on_top, knows}
 use Rattle.compose_writing.specs.WriteEntities.{write_entity, write_instance, write_component, write_import, write_also, at_end}
 use Rattle.warg_values.specs.Reading.{◌>>=◌}
 use Rattle.comp_entity.specs.Bounds.{ShapeFault}
@@ -56,10 +56,10 @@ keeps_nothing mean = record {
   exports = refl;
 }
 
-pub kept_of : (mean : Meaning) (m : Scope) (k : Known) → Keeps mean m k → Kept 0 (meant mean) (m ∷ []) (k ∷ [])
+pub kept_of : (mean : Meaning) (m : WrittenScope) (k : Known) → Keeps mean m k → Kept 0 (meant mean) (m ∷ []) (k ∷ [])
 kept_of mean m k h = record { stand = (h.stands, tt); know = (h.knows, tt) }
 
-pub ready_of : (mean : Meaning) (m : Scope) (k : Known) → Ready mean (m ∷ []) (k ∷ [])
+pub ready_of : (mean : Meaning) (m : WrittenScope) (k : Known) → Ready mean (m ∷ []) (k ∷ [])
 unfolding reach OnTop
 ready_of mean m k = record { is_open = tt; brings = λ key up may at. one key up (known_at m.known key) (mention_outside m.width key) at }
   where
@@ -69,14 +69,14 @@ ready_of mean m k = record { is_open = tt; brings = λ key up may at. one key up
     one key up None (Some other) h = absurd cc
 
 -- what goes on in one scope
-pub goes_on : (mean : Meaning) (m : Scope) (k : Known) (later : List Scope) (Q : List Known → Type 0) → Keeps mean m k → (w : Written mean (k ∷ []) (m ∷ []) later Q) → (g : GoesOn mean m k later) × Q (g.known ∷ [])
+pub goes_on : (mean : Meaning) (m : WrittenScope) (k : Known) (later : List WrittenScope) (Q : List Known → Type 0) → Keeps mean m k → (w : Written mean (k ∷ []) (m ∷ []) later Q) → (g : GoesOn mean m k later) × Q (g.known ∷ [])
 goes_on mean m k later Q keeps w = go later w.scopes w.grown w.kept w.same w.heads w.says
   where
     first : List (ℕ × KnownThings) → Option (ℕ × KnownThings)
     first [] = None
     first (x ∷ xs) = Some x
 
-    go : (next : List Scope) (scopes : List Known) → AllGrown (k.spaces ∷ []) (spaces_of scopes) → Kept 0 (meant mean) next scopes → shells next ≡ shells (m ∷ []) → heads_of scopes ≡ heads_of (k ∷ []) → Q scopes
+    go : (next : List WrittenScope) (scopes : List Known) → AllGrown (k.spaces ∷ []) (spaces_of scopes) → Kept 0 (meant mean) next scopes → shells next ≡ shells (m ∷ []) → heads_of scopes ≡ heads_of (k ∷ []) → Q scopes
         → (g : GoesOn mean m k next) × Q (g.known ∷ [])
     go next [] grown kept same heads says = elim grown [ ]
     go [] (t ∷ rest) grown kept same heads says = elim kept.stand [ ]
@@ -109,7 +109,7 @@ goes_on mean m k later Q keeps w = go later w.scopes w.grown w.kept w.same w.hea
         )
 
 -- what was written for an entity
-pub entity_written : (mean : Meaning) (m : Scope) (k : Known) (e : EntityTree) (later : List Scope) (ty : TypeRef) → Keeps mean m k → HasMeaning mean (spot_of m k) e → write_entity e (m ∷ []) ≡ Some (later, ty) → IsWritten mean m k later ty e
+pub entity_written : (mean : Meaning) (m : WrittenScope) (k : Known) (e : EntityTree) (later : List WrittenScope) (ty : TypeRef) → Keeps mean m k → HasMeaning mean (spot_of m k) e → write_entity e (m ∷ []) ≡ Some (later, ty) → IsWritten mean m k later ty e
 unfolding Describes OnTop
 entity_written mean m k e later ty keeps has h =
     let g = goes_on mean m k later (Describes mean (spot_of m k) ty e) keeps (entity_reads mean (spot_of m k) e (m ∷ []) k [] (later, ty) (kept_of mean m k keeps) (ready_of mean m k) (λ key. refl) keeps.older has h) in
@@ -122,7 +122,7 @@ entity_written mean m k e later ty keeps has h =
     }
 
 -- an import of it
-pub entity_imported : (mean : Meaning) (m : Scope) (k : Known) (name : List ℕ) (e : EntityTree) (ty : TypeRef) → Keeps mean m k → HasMeaning mean (spot_of m k) e → IsDescribed mean (spot_of m k) ty e k.spaces
+pub entity_imported : (mean : Meaning) (m : WrittenScope) (k : Known) (name : List ℕ) (e : EntityTree) (ty : TypeRef) → Keeps mean m k → HasMeaning mean (spot_of m k) e → IsDescribed mean (spot_of m k) ty e k.spaces
     → list_any (str_eq_ignore_ascii_case name) (spot_of m k).names ≡ false → IsImported mean m k (write_import name e ty (m ∷ [])) name e
 unfolding Describes OnTop
 entity_imported mean m k name e ty keeps has describes free =
@@ -130,7 +130,7 @@ entity_imported mean m k name e ty keeps has describes free =
     (at_once 0 (meant mean) (k ∷ []) (m ∷ []) (Describes mean (spot_of m k) ty e) (kept_of mean m k keeps) (λ same. describes.describes)) in
     go (write_import name e ty (m ∷ [])) one
   where
-    go : (later : List Scope) → EnteredOne mean (spot_of m k) name e k [] (m ∷ []) later → IsImported mean m k later name e
+    go : (later : List WrittenScope) → EnteredOne mean (spot_of m k) name e k [] (m ∷ []) later → IsImported mean m k later name e
     go [] one = elim one.kept.stand [ ]
     go (n ∷ o ∷ later) one = two one.rest one.grown one.kept
       where
@@ -165,8 +165,8 @@ entity_imported mean m k name e ty keeps has describes free =
         }
 
 -- a further number of a type that is known
-pub also_known : (mean : Meaning) (m : Scope) (k : Known) (n : Name) (from : ℕ) (path : Path) (s : Standing) → Keeps mean m k → at_place k.spaces (at_end from path) ≡ Some s → Means 0 (meant mean (OfPlace n)) s → AllByRecursion (IsOlder mean (spot_of m k)) (in_value 0 (mean.tree n))
-    → (scope : Scope) × (write_also n from path (m ∷ []) ≡ scope ∷ []) × Keeps mean scope k
+pub also_known : (mean : Meaning) (m : WrittenScope) (k : Known) (n : Name) (from : ℕ) (path : Path) (s : Standing) → Keeps mean m k → at_place k.spaces (at_end from path) ≡ Some s → Means 0 (meant mean (OfPlace n)) s → AllByRecursion (IsOlder mean (spot_of m k)) (in_value 0 (mean.tree n))
+    → (scope : WrittenScope) × (write_also n from path (m ∷ []) ≡ scope ∷ []) × Keeps mean scope k
 also_known mean m k n from path s keeps there means old =
     let noted = noted_new (meant mean) m [] k [] (OfPlace n, at_end from path) (kept_of mean m k keeps) (s, there, means) in
     let still : (r : Name) → knows (noted.scope ∷ []) (OfResource r) ≡ true → knows (m ∷ []) (OfResource r) ≡ true = (λ r h. or_none (knows (m ∷ []) (OfResource r)) ∙ sym (noted.knew (OfResource r)) ∙ h) in (
@@ -184,11 +184,11 @@ also_known mean m k n from path s keeps there means old =
 
 -- ---- types that are not added to the scope
 
-pub instance_added : (es : Entries) (ms : List Scope) (m : Scope) (decls : Decls) → write_instance es ms ≡ Some (m ∷ [], decls) → write_entity (IsInstance es) ms ≡ Some ((add_type (tree.Instance decls) m).0 ∷ [], description.Instance m.types)
+pub instance_added : (es : Entries) (ms : List WrittenScope) (m : WrittenScope) (decls : Decls) → write_instance es ms ≡ Some (m ∷ [], decls) → write_entity (IsInstance es) ms ≡ Some ((add_type (tree.Instance decls) m).0 ∷ [], description.Instance m.types)
 unfolding write_entity on_top
 instance_added es ms m decls h = rw h refl
 
-pub component_added : (is es : Entries) (ms : List Scope) (m : Scope) (decls : Decls) → write_component is es ms ≡ Some (m ∷ [], decls) → write_entity (IsComponent is es) ms ≡ Some ((add_type (tree.Component decls) m).0 ∷ [], description.Component m.types)
+pub component_added : (is es : Entries) (ms : List WrittenScope) (m : WrittenScope) (decls : Decls) → write_component is es ms ≡ Some (m ∷ [], decls) → write_entity (IsComponent is es) ms ≡ Some ((add_type (tree.Component decls) m).0 ∷ [], description.Component m.types)
 unfolding write_entity on_top
 component_added is es ms m decls h = rw h refl
 
@@ -210,7 +210,7 @@ described_grown s t new description.TyFresh d g h = h
 described_grown s t new (description.Component i) d g h = at_index_grown s.types t.types described_component i d (λ x. g.types i x) h
 described_grown s t new (description.Instance i) d g h = at_index_grown s.types t.types (described_instance new) i d (λ x. g.types i x) h
 
-pub described_on : (mean : Meaning) (m : Scope) (k : Known) (later : List Scope) (ty : TypeRef) (e : EntityTree) → IsDescribed mean (spot_of m k) ty e k.spaces → (g : GoesOn mean m k later) → IsDescribed mean (spot_of m k) ty e g.known.spaces
+pub described_on : (mean : Meaning) (m : WrittenScope) (k : Known) (later : List WrittenScope) (ty : TypeRef) (e : EntityTree) → IsDescribed mean (spot_of m k) ty e k.spaces → (g : GoesOn mean m k later) → IsDescribed mean (spot_of m k) ty e g.known.spaces
 described_on mean m k later ty e h g = record {
   describes = record {
     what = h.describes.what;

@@ -16,8 +16,8 @@ use Rattle.comp_entity.specs.Bounds.{unbounded}
 use Rattle.comp_scope.specs.Spaces.{Spaces, Known, Standing, added, sort_of, entity_is_named}
 use Rattle.comp_scope.specs.Aliases.{from_outside, width, aliased, outer_item, outer_alias, export_alias, outer_scope, as_instance, may_pass}
 use Rattle.comp_scope.specs.Types.{with_decls}
-use Rattle.compose_writing.specs.Keys.{At, Index, InInstance, Known as KnownThings, known_at, name_outside, mention_outside}
-use Rattle.compose_writing.specs.Scopes.{Scope, add_instance, along, stood, standing, brought, type_index}
+use Rattle.compose_writing.specs.Keys.{At, Index, InInstance, KnownThings, known_at, name_outside, mention_outside}
+use Rattle.compose_writing.specs.Scopes.{WrittenScope, add_instance, along, stood, standing, brought, type_index}
 use Rattle.compose_meaning.specs.Meaning.{Meant, Means}
 use Rattle.compose_meaning.specs.Stands.{Grown, AllGrown, spaces_of, exports_of, at_path, inward, further_out, Kept, reach_in, reach, StaysWithin, IsFree, MayBring}
 use Rattle.compose_meaning.proofs.ListLaws.{get_last, map_some}
@@ -65,7 +65,7 @@ unfolding with_decls aliased export_alias
 export_turns k around from name i s es fs at exports found is = λ outer g. rw (at, as_instance_is i es exports, found, is_of_instances s fs (is_instance s fs is), instance_added k s fs (is_instance s fs is)) refl
 
 -- the type at the end of a path
-along_reads : (d : ℕ) (means : Mention → Meant) (from : ℕ) (path : Path) (m : Scope) (ms : List Scope) (k : Known) (ks : List Known) (i s : Standing) (es : Entries) (t : TypeShapeTree) → Kept d means (m ∷ ms) (k ∷ ks)
+along_reads : (d : ℕ) (means : Mention → Meant) (from : ℕ) (path : Path) (m : WrittenScope) (ms : List WrittenScope) (k : Known) (ks : List Known) (i s : Standing) (es : Entries) (t : TypeShapeTree) → Kept d means (m ∷ ms) (k ∷ ks)
     → slice_get k.spaces.instances from ≡ Some i → exports_of i ≡ Some es → at_path path es ≡ Some s → s.0 ≡ IsType t
     → Went d means (k ∷ ks) (m ∷ ms) ((along from path m).0 ∷ ms) (TypeAt (along from path m).1 s)
 unfolding along
@@ -94,7 +94,7 @@ OuterIs d what up i [] = ⊥
 OuterIs d what zero i (k ∷ ks) = (s : Standing) × (slice_get k.spaces.types i ≡ Some s) × Means d what s
 OuterIs d what (suc up) i (k ∷ ks) = OuterIs (d + width k.spaces) what up i ks
 
-further : (d : ℕ) (means : Mention → Meant) (m : Scope) (k : Known) (ms later : List Scope) (ks : List Known) (up i : ℕ) (what : Meant) → Kept d means (m ∷ ms) (k ∷ ks)
+further : (d : ℕ) (means : Mention → Meant) (m : WrittenScope) (k : Known) (ms later : List WrittenScope) (ks : List Known) (up i : ℕ) (what : Meant) → Kept d means (m ∷ ms) (k ∷ ks)
     → Went (d + width k.spaces) (further_out m.width means) ks ms later (OuterIs (d + width k.spaces) what up i)
     → Went d means (k ∷ ks) (m ∷ ms) (m ∷ later) (OuterIs d what (suc up) i)
 unfolding OuterIs
@@ -110,7 +110,7 @@ further d means m k ms later ks up i what kept w = record {
   says = w.says;
 }
 
-top_outer : (d : ℕ) (means : Mention → Meant) (ks : List Known) (ms later : List Scope) (i : ℕ) (s : Standing) (what : Meant) → Means d what s → Went d means ks ms later (TypeAt i s) → Went d means ks ms later (OuterIs d what 0 i)
+top_outer : (d : ℕ) (means : Mention → Meant) (ks : List Known) (ms later : List WrittenScope) (i : ℕ) (s : Standing) (what : Meant) → Means d what s → Went d means ks ms later (TypeAt i s) → Went d means ks ms later (OuterIs d what 0 i)
 unfolding TypeAt OnTop OuterIs
 top_outer d means ks ms later i s what m w = so d means ks ms later _ _ w turn
   where
@@ -130,7 +130,7 @@ pub mention_back : (w : ℕ) (key other : Mention) → mention_outside w key ≡
 mention_back w (OfResource n) other h = map_some OfResource (name_outside w n) other h (λ o a b. ap (inward w) (sym b) ∙ ap OfResource (name_back w n o a))
 mention_back w (OfPlace n) other h = map_some OfPlace (name_outside w n) other h (λ o a b. ap (inward w) (sym b) ∙ ap OfPlace (name_back w n o a))
 
-pub standing_reads : (d : ℕ) (means : Mention → Meant) (key : Mention) (ms : List Scope) (ks : List Known) (x : List Scope × (ℕ × ℕ)) → Kept d means ms ks → standing ms key ≡ Some x
+pub standing_reads : (d : ℕ) (means : Mention → Meant) (key : Mention) (ms : List WrittenScope) (ks : List Known) (x : List WrittenScope × (ℕ × ℕ)) → Kept d means ms ks → standing ms key ≡ Some x
     → Went d means ks ms x.0 (OuterIs d (means key) x.1.0 x.1.1)
 unfolding standing OuterIs
 standing_reads d means key [] ks x k h = absurd cc
@@ -138,11 +138,11 @@ standing_reads d means key (m ∷ ms) [] x k h = elim k.stand [ ]
 standing_reads d means key (m ∷ ms) (t ∷ ks) x k h =
     at (known_at m.known key) refl (λ other y e. standing_reads (d + width t.spaces) (further_out m.width means) other ms ks y (record { stand = k.stand.1; know = k.know.1 }) e) h
   where
-    Goal : List Scope × (ℕ × ℕ) → Type 0
+    Goal : List WrittenScope × (ℕ × ℕ) → Type 0
     Goal x = Went d means (t ∷ ks) (m ∷ ms) x.0 (OuterIs d (means key) x.1.0 x.1.1)
 
     at : (o : Option At) → known_at m.known key ≡ o
-        → ((other : Mention) (y : List Scope × (ℕ × ℕ)) → standing ms other ≡ Some y → Went (d + width t.spaces) (further_out m.width means) ks ms y.0 (OuterIs (d + width t.spaces) (further_out m.width means other) y.1.0 y.1.1))
+        → ((other : Mention) (y : List WrittenScope × (ℕ × ℕ)) → standing ms other ≡ Some y → Went (d + width t.spaces) (further_out m.width means) ks ms y.0 (OuterIs (d + width t.spaces) (further_out m.width means other) y.1.0 y.1.1))
         → stood m ms (option_and_then (standing ms) (mention_outside m.width key)) o ≡ Some x → Went d means (t ∷ ks) (m ∷ ms) x.0 (OuterIs d (means key) x.1.0 x.1.1)
     at (Some (Index i)) is later h = subst Goal (same_Some _ _ h) (at_once d means (t ∷ ks) (m ∷ ms) _ k (k.know.0 key (Index i) is))
     at (Some (InInstance from path)) is later h =
@@ -279,16 +279,16 @@ outer_adds what k ks up i h free =
 
 -- ---- what may be mentioned
 
-pub standing_reach : (key : Mention) (ms : List Scope) (x : List Scope × (ℕ × ℕ)) → standing ms key ≡ Some x → reach ms key ≡ Some x.1.0
+pub standing_reach : (key : Mention) (ms : List WrittenScope) (x : List WrittenScope × (ℕ × ℕ)) → standing ms key ≡ Some x → reach ms key ≡ Some x.1.0
 unfolding standing reach
 standing_reach key [] x h = absurd cc
 standing_reach key (m ∷ ms) x h = at (known_at m.known key) (λ other y e. standing_reach other ms y e) h
   where
-    at : (o : Option At) → ((other : Mention) (y : List Scope × (ℕ × ℕ)) → standing ms other ≡ Some y → reach ms other ≡ Some y.1.0)
+    at : (o : Option At) → ((other : Mention) (y : List WrittenScope × (ℕ × ℕ)) → standing ms other ≡ Some y → reach ms other ≡ Some y.1.0)
         → stood m ms (option_and_then (standing ms) (mention_outside m.width key)) o ≡ Some x → reach_in o (option_and_then (reach ms) (mention_outside m.width key)) ≡ Some x.1.0
-    at (Some place) later h = ap (λ (x : List Scope × (ℕ × ℕ)). Some x.1.0) (same_Some _ _ h)
+    at (Some place) later h = ap (λ (x : List WrittenScope × (ℕ × ℕ)). Some x.1.0) (same_Some _ _ h)
     at None later h = map_some _ (option_and_then (standing ms) (mention_outside m.width key)) x h (λ y a b. option_and_then_some (standing ms) (mention_outside m.width key) y a (λ other e f.
-        rw e (ap (option_map suc) (later other y f) ∙ ap (λ (x : List Scope × (ℕ × ℕ)). Some x.1.0) b)))
+        rw e (ap (option_map suc) (later other y f) ∙ ap (λ (x : List WrittenScope × (ℕ × ℕ)). Some x.1.0) b)))
 
 pub stays_grown : (up : ℕ) (ks ls : List Known) → AllGrown (spaces_of ks) (spaces_of ls) → StaysWithin up ks → StaysWithin up ls
 stays_grown zero ks ls g h = tt
@@ -302,7 +302,7 @@ reach_shells : List (ℕ × KnownThings) → Mention → Option ℕ
 reach_shells [] key = None
 reach_shells (x ∷ xs) key = reach_in (known_at x.1 key) (option_and_then (reach_shells xs) (mention_outside x.0 key))
 
-reach_same : (ms : List Scope) (key : Mention) → reach ms key ≡ reach_shells (shells ms) key
+reach_same : (ms : List WrittenScope) (key : Mention) → reach ms key ≡ reach_shells (shells ms) key
 unfolding reach reach_shells
 reach_same [] key = refl
 reach_same (m ∷ ms) key = ap (reach_in (known_at m.known key)) (one (λ other. reach_same ms other) (mention_outside m.width key))
@@ -311,7 +311,7 @@ reach_same (m ∷ ms) key = ap (reach_in (known_at m.known key)) (one (λ other.
     one rest None = refl
     one rest (Some other) = rest other
 
-pub still_brings : (may : Mention → Bool) (means : Mention → Meant) (ms later : List Scope) (ks ls : List Known) → shells later ≡ shells ms → AllGrown (spaces_of ks) (spaces_of ls) → MayBring may means ms ks → MayBring may means later ls
+pub still_brings : (may : Mention → Bool) (means : Mention → Meant) (ms later : List WrittenScope) (ks ls : List Known) → shells later ≡ shells ms → AllGrown (spaces_of ks) (spaces_of ls) → MayBring may means ms ks → MayBring may means later ls
 still_brings may means ms later ks ls same g b key up is at = one (b key up is (reach_same ms key ∙ ap (λ x. reach_shells x key) (sym same) ∙ sym (reach_same later key) ∙ at))
   where
     one : StaysWithin up ks ⊎ IsFree (means key).entity → StaysWithin up ls ⊎ IsFree (means key).entity
@@ -320,16 +320,16 @@ still_brings may means ms later ks ls same g b key up is at = one (b key up is (
 
 -- ---- as one of the innermost scope
 
-brought_reads : (means : Mention → Meant) (what : Meant) (ms : List Scope) (ks : List Known) (up i : ℕ) (x : List Scope × ℕ) → Kept 0 means ms ks → OuterIs 0 what up i ks → StaysWithin up ks ⊎ IsFree what.entity → brought ms up i ≡ Some x
+brought_reads : (means : Mention → Meant) (what : Meant) (ms : List WrittenScope) (ks : List Known) (up i : ℕ) (x : List WrittenScope × ℕ) → Kept 0 means ms ks → OuterIs 0 what up i ks → StaysWithin up ks ⊎ IsFree what.entity → brought ms up i ≡ Some x
     → (s : Standing) × Means 0 what s × Went 0 means ks ms x.0 (TypeAt x.1 s)
 unfolding brought OuterIs TypeAt OnTop
 brought_reads means what ms [] up i x k o free h = elim o [ ]
-brought_reads means what ms (t ∷ ks) zero i x k o free h = (o.0, o.2, subst (λ (x : List Scope × ℕ). Went 0 means (t ∷ ks) ms x.0 (TypeAt x.1 o.0)) (same_Some _ _ h) (at_once 0 means (t ∷ ks) ms _ k o.1))
+brought_reads means what ms (t ∷ ks) zero i x k o free h = (o.0, o.2, subst (λ (x : List WrittenScope × ℕ). Went 0 means (t ∷ ks) ms x.0 (TypeAt x.1 o.0)) (same_Some _ _ h) (at_once 0 means (t ∷ ks) ms _ k o.1))
 brought_reads means what ms (t ∷ ks) (suc up) i x k o free h =
     let a = outer_adds what t ks up i o free in
     (a.0, a.1, added_type 0 means (tree.Aliased (alias.Outer sort.Ty (suc up) i)) ms (t ∷ ks) x a.0 k h a.2)
 
-pub index_reads : (may : Mention → Bool) (means : Mention → Meant) (key : Mention) (ms : List Scope) (ks : List Known) (x : List Scope × ℕ) → Kept 0 means ms ks → MayBring may means ms ks → may key ≡ true → type_index key ms ≡ Some x
+pub index_reads : (may : Mention → Bool) (means : Mention → Meant) (key : Mention) (ms : List WrittenScope) (ks : List Known) (x : List WrittenScope × ℕ) → Kept 0 means ms ks → MayBring may means ms ks → may key ≡ true → type_index key ms ≡ Some x
     → (s : Standing) × Means 0 (means key) s × Went 0 means ks ms x.0 (TypeAt x.1 s)
 unfolding type_index
 index_reads may means key ms ks x k b is h = option_and_then_some _ (standing ms key) x h (λ y e f.

@@ -27,3 +27,4 @@ mod KeepLaws
 mod ItemLaws
 mod TypeLaws
 mod Rows
+mod LeafKeyLaws

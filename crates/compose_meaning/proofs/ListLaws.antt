@@ -4,7 +4,7 @@ use Rattle.std.specs.Prelude.{slice_get, option_map, Result}
 use Rattle.std.specs.List.{AllByRecursion}
 use Rattle.std.proofs.lemmas.Option.{same_Some}
 use Rattle.warg_values.specs.Reading.{◌>>=◌}
-use Rattle.compose_writing.specs.Scopes.{Scope, Wrote, wrote_as}
+use Rattle.compose_writing.specs.Scopes.{WrittenScope, Wrote, wrote_as}
 
 pub get_before : {X : Type 0} (xs ys : List X) (i : ℕ) (x : X) → slice_get xs i ≡ Some x → slice_get (xs ++ ys) i ≡ Some x
 get_before [] ys i x h = absurd cc
@@ -24,7 +24,7 @@ map_some f None y h then = absurd cc
 map_some f (Some x) y h then = then x refl (same_Some _ _ h)
 
 -- what was written is turned into something else
-pub wrote_some : {X Y P : Type 0} (f : X → Y) (w : Wrote X) (y : List Scope × Y) → wrote_as f w ≡ Some y → ((x : List Scope × X) → w ≡ Some x → (x.0, f x.1) ≡ y → P) → P
+pub wrote_some : {X Y P : Type 0} (f : X → Y) (w : Wrote X) (y : List WrittenScope × Y) → wrote_as f w ≡ Some y → ((x : List WrittenScope × X) → w ≡ Some x → (x.0, f x.1) ≡ y → P) → P
 wrote_some f None y h then = absurd cc
 wrote_some f (Some x) y h then = then x refl (same_Some _ _ h)
 

@@ -1,20 +1,20 @@
 -- An entity that mentions what is known, and what it brings, mentions nothing that is new behind it.
-use Rattle.std.proofs.Common.{◌≡◌, ◌⊎◌, inl, inr, ℕ, suc, ◌+◌, ◌-◌, Bool, true, false, cond, ◌&&◌, ◌||◌, List, [], ◌∷◌, ◌++◌, Option, Some, None, refl, sym, ap, subst, ◌∙◌, arith}
+use Rattle.std.proofs.Common.{◌≡◌, ◌⊎◌, inl, inr, ℕ, suc, ◌+◌, ◌-◌, Bool, true, false, cond, ◌&&◌, List, [], ◌∷◌, ◌++◌, Option, Some, None, refl, sym, ap, subst, ◌∙◌, arith}
 use Rattle.std.specs.Prelude.{nat_le, nat_lt, option_map, option_and_then, ◌==◌}
 use Rattle.std.specs.List.{list_any}
 use Rattle.std.proofs.lemmas.Option.{option_and_then_some, same_Some}
 use Rattle.comp_entity.specs.Entity.{Name, made, ValueTree, Primitive, TupleOf, RecordOf, VariantOf, ListOf, FlagsOf, EnumOf, OptionOf, ResultOf, Own, Borrow, Value, Resource, Func, Instance, Component, EntityTree, IsType, IsFunc, IsInstance, IsComponent, IsModule, IsOwnModule, Entries, no_entry, entry}
 use Rattle.comp_entity.specs.Names.{deeper, outside, Mention, OfResource, OfPlace, at_place, in_value, in_cases, in_func, in_entity, in_entries}
-use Rattle.comp_entity.specs.Fits.{same_name, place_of}
+use Rattle.comp_entity.specs.Fits.{place_of}
 use Rattle.comp_entity.specs.Places.{same_mention, named_value}
 use Rattle.compose_writing.specs.Keys.{holds_there, from_within}
 use Rattle.compose_writing.specs.Conditions.{with_these, all_known, unnamed, if_all, if_scope, known_behind, entries_known_behind}
 use Rattle.compose_meaning.specs.Meaning.{Meaning}
-use Rattle.compose_meaning.specs.Readable.{Side, Importing, Exporting, new_name, Spot, is_new, within, in_instance_type, in_component_type, first_spot, exports_spot, brought_keys, with_keys, behind, behind_all, HasMeaning, HaveMeaning}
+use Rattle.compose_meaning.specs.Readable.{SpotKind, Importing, Exporting, new_name, Spot, is_new, within, in_instance_type, in_component_type, first_spot, exports_spot, brought_keys, keys_among, behind, behind_all, HasMeaning, HaveMeaning}
 use Rattle.compose_meaning.proofs.ListLaws.{Each, each_both, each_then, or_left, or_right, or_none, and_left, and_right}
 use Rattle.compose_meaning.proofs.NoteLaws.{mention_is}
 use Rattle.compose_meaning.proofs.OlderLaws.{either_known}
-use Rattle.compose_meaning.proofs.ApartLaws.{known_behind as all_known_behind, all_keys_in, all_keys_are, no_resource, or_false}
+use Rattle.compose_meaning.proofs.ApartLaws.{known_behind as all_known_behind, no_resource, or_false}
 use Rattle.compose_meaning.proofs.ShiftLaws.{value_shift, func_shift, entries_shift}
 
 -- a resource that is mentioned so deep is of a scope within, or known
@@ -62,32 +62,7 @@ more_known known later f (d, OfResource r) (inl h) = inl h
 more_known known later f (d, OfResource r) (inr h) = inr (f _ h)
 more_known known later f (d, OfPlace n) h = tt
 
-same_back : (a b : Mention) → same_mention a b ≡ same_mention b a
-same_back (OfResource a) (OfResource b) = same_names a b
-  where
-    same_names : (a b : Name) → same_name a b ≡ same_name b a
-    same_names a b = λ i. eq a.out b.out i && eq a.number b.number i
-      where
-        eq : (m n : ℕ) → (m == n) ≡ (n == m)
-        eq m n = grind arith
-same_back (OfPlace a) (OfPlace b) = same_names a b
-  where
-    same_names : (a b : Name) → same_name a b ≡ same_name b a
-    same_names a b = λ i. eq a.out b.out i && eq a.number b.number i
-      where
-        eq : (m n : ℕ) → (m == n) ≡ (n == m)
-        eq m n = grind arith
-same_back (OfResource a) (OfPlace b) = refl
-same_back (OfPlace a) (OfResource b) = refl
-
-any_back : (key : Mention) (keys : List Mention) → list_any (same_mention key) keys ≡ list_any (λ k. same_mention k key) keys
-any_back key [] = refl
-any_back key (k ∷ keys) = λ i. same_back key k i || any_back key keys i
-
-these_are : (known : Mention → Bool) (keys : List Mention) → with_these known keys ≡ with_keys known keys
-these_are known keys = λ i key. known key || any_back key keys i
-
-none_more : (known : Mention → Bool) → known ≡ with_keys known []
+none_more : (known : Mention → Bool) → known ≡ with_these known []
 none_more known = λ i key. or_none (known key) i
 
 -- ---- no resource of a scope around is brought
@@ -96,14 +71,14 @@ abbrev OwnOr : ℕ → (Mention → Bool) → (Mention → Bool) → Type 0
 OwnOr w around known = (x : Name) → known (OfResource x) ≡ true → (nat_lt x.out w ≡ true) ⊎ (from_within w around (OfResource x) ≡ true)
 
 -- what is new is of the scope itself
-abbrev MeansOwn : ℕ → Meaning → Side → Type 0
+abbrev MeansOwn : ℕ → Meaning → SpotKind → Type 0
 MeansOwn w mean side = (r : Name) (n : ℕ) → mean.resource r ≡ new_name side n → nat_lt r.out w ≡ true
 
-out_of : (side : Side) (n : ℕ) → (new_name side n).out ≡ (new_name side 0).out
+out_of : (side : SpotKind) (n : ℕ) → (new_name side n).out ≡ (new_name side 0).out
 out_of Importing n = refl
 out_of Exporting n = refl
 
-new_named : (side : Side) (x : Name) → (x.out == (new_name side 0).out) ≡ true → x ≡ new_name side x.number
+new_named : (side : SpotKind) (x : Name) → (x.out == (new_name side 0).out) ≡ true → x ≡ new_name side x.number
 new_named Importing x h = let out : x.out ≡ 1 = grind (arith, h) in λ i. record { out = out i; number = x.number }
 new_named Exporting x h = let out : x.out ≡ 0 = grind (arith, h) in λ i. record { out = out i; number = x.number }
 
@@ -117,7 +92,7 @@ own_within w mean p own r n same = one (is_new p x) refl same
     one true is same = own r x.number (new_named p.side x (and_left (x.out == (new_name p.side 0).out) (nat_le p.resources x.number) is))
     one false is same = let zero : x.out + 1 ≡ 0 = ap (λ (y : Name). y.out) same in absurd (grind (arith, zero))
 
-own_scope : (w : ℕ) (mean : Name → Name) (side : Side) → nat_lt (new_name side 0).out w ≡ true → (r : Name) (n : ℕ) → outside mean w r ≡ new_name side n → nat_lt r.out w ≡ true
+own_scope : (w : ℕ) (mean : Name → Name) (side : SpotKind) → nat_lt (new_name side 0).out w ≡ true → (r : Name) (n : ℕ) → outside mean w r ≡ new_name side n → nat_lt r.out w ≡ true
 own_scope w mean side less r n same = one (nat_lt r.out w) refl same
   where
     one : (b : Bool) → nat_lt r.out w ≡ b → cond b r (deeper w (mean (record r { out = r.out - w }))) ≡ new_name side n → nat_lt r.out w ≡ true
@@ -154,7 +129,7 @@ mutual
   own_behind w around mean p name (IsType (Component is es)) means has own = no_keys w around mean p name (IsType (Component is es)) (λ r. refl) own
   own_behind w around mean p name (IsFunc f) means has own = no_keys w around mean p name (IsFunc f) (λ r. refl) own
   own_behind w around mean p name (IsInstance es) means has own = λ x h. own_all w around (within p mean) (first_spot Exporting p.known) es (own_within w mean p means) has own x
-      (all_known_behind (within p mean) (first_spot Exporting p.known) es (OfResource x) ∙ ap (λ keys. p.known (OfResource x) || list_any (λ k. same_mention k (OfResource x)) keys) (sym (all_keys_are es [])) ∙ h)
+      (all_known_behind (within p mean) (first_spot Exporting p.known) es (OfResource x) ∙ h)
   own_behind w around mean p name (IsComponent is es) means has own = no_keys w around mean p name (IsComponent is es) (λ r. refl) own
   own_behind w around mean p name (IsModule m) means has own = no_keys w around mean p name (IsModule m) (λ r. refl) own
   own_behind w around mean p name IsOwnModule means has own = no_keys w around mean p name IsOwnModule (λ r. refl) own
@@ -207,7 +182,7 @@ from_scope w known end es own each = entries_shift (KnownAt end) (KnownAt known)
 
 type_mentions : (mean : Meaning) (p : Spot) (name : List ℕ) (e : EntityTree) (next : Mention → Bool) → brought_keys e ≡ [] → next ≡ p.known → Each (KnownAt p.known) (in_entity 0 e) → Mentions mean p name e next
 type_mentions mean p name e next none is each = record {
-  is = is ∙ none_more p.known ∙ ap (with_keys p.known) (sym none);
+  is = is ∙ none_more p.known ∙ ap (with_these p.known) (sym none);
   each = each_then (KnownAt p.known) (KnownAt (behind mean p name e).known) (more_known p.known (behind mean p name e).known (λ key h. or_left (p.known key) (list_any (λ k. same_mention k key) (brought_keys e)) h)) (in_entity 0 e) each;
 }
 
@@ -243,7 +218,7 @@ instance_mentions mean p name es next inner = record {
 }
   where
     same : (behind_all (within p mean) (first_spot Exporting p.known) es).known ≡ (behind mean p name (IsInstance es)).known
-    same = λ i key. (all_known_behind (within p mean) (first_spot Exporting p.known) es key ∙ ap (λ keys. p.known key || list_any (λ k. same_mention k key) keys) (sym (all_keys_are es []))) i
+    same = λ i key. all_known_behind (within p mean) (first_spot Exporting p.known) es key i
 
 mutual
   unfolding behind_all
@@ -252,11 +227,11 @@ mutual
   entity_mentions mean p name (IsType (Value t)) next has h =
       let all = if_all_some p.known (in_value 0 (unnamed t)) (with_these p.known (named_value (place_of t))) next h in
       record {
-        is = all.1 ∙ these_are p.known (named_value (place_of t));
+        is = all.1;
         each = each_then (KnownAt p.known) (KnownAt (behind mean p name (IsType (Value t))).known) (more_known p.known (behind mean p name (IsType (Value t))).known (λ key h. or_left (p.known key) (list_any (λ k. same_mention k key) (named_value (place_of t))) h)) (in_value 0 t) (value_known p.known t all.0);
       }
   entity_mentions mean p name (IsType (Resource r)) next has h = record {
-    is = sym (same_Some _ _ h) ∙ these_are p.known (OfResource r ∷ []);
+    is = sym (same_Some _ _ h);
     each = (known_here (behind mean p name (IsType (Resource r))).known (OfResource r) (or_right (p.known (OfResource r)) (list_any (λ k. same_mention k (OfResource r)) (OfResource r ∷ [])) (or_left (same_mention (OfResource r) (OfResource r)) false (self_mention r))), tt);
   }
   entity_mentions mean p name (IsType (Func f)) next has h = let all = if_all_some p.known (in_func 0 f) p.known next h in type_mentions mean p name (IsType (Func f)) next refl all.1 (func_known p.known f all.0)
@@ -285,6 +260,6 @@ mutual
       let others = entries_mention mean (behind mean p name e) es next have.2 (ap (λ known. entries_known_behind known es) (sym one.is) ∙ b) in (
         others.0,
         each_both (KnownAt (behind_all mean (behind mean p name e) es).known) (in_entity 0 e) (in_entries 0 es)
-            (each_then (KnownAt (behind mean p name e).known) (KnownAt (behind_all mean (behind mean p name e) es).known) (more_known (behind mean p name e).known (behind_all mean (behind mean p name e) es).known (λ key h. all_known_behind mean (behind mean p name e) es key ∙ or_left ((behind mean p name e).known key) (list_any (λ k. same_mention k key) (all_keys_in es)) h)) (in_entity 0 e) one.each)
+            (each_then (KnownAt (behind mean p name e).known) (KnownAt (behind_all mean (behind mean p name e) es).known) (more_known (behind mean p name e).known (behind_all mean (behind mean p name e) es).known (λ key h. all_known_behind mean (behind mean p name e) es key ∙ or_left ((behind mean p name e).known key) (list_any (λ k. same_mention k key) (keys_among es)) h)) (in_entity 0 e) one.each)
             others.1,
       ))

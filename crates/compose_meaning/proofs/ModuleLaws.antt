@@ -20,7 +20,7 @@ use Rattle.comp_scope.specs.CoreScopes.{ModuleScope as ReadScope}
 use Rattle.comp_scope.specs.Descriptions.{described}
 use Rattle.comp_scope.specs.Aliases.{core_scopes}
 use Rattle.comp_scope.specs.Types.{with_decls, with_spaces}
-use Rattle.compose_writing.specs.Scopes.{Scope, wrote_as, add_core_type, on_top}
+use Rattle.compose_writing.specs.Scopes.{WrittenScope, wrote_as, add_core_type, on_top}
 use Rattle.compose_writing.specs.WriteModules.{ModuleScope, before, module_import, module_export, module_imports, module_exports, write_module}
 use Rattle.compose_writing.specs.WriteModules.{core_description as described_core}
 use Rattle.compose_meaning.specs.Meaning.{Meaning, meant}
@@ -119,12 +119,12 @@ module_turns : (m : ModuleShape) (k : Known) (around : List Spaces) → Turns (t
 unfolding with_decls
 module_turns m k around = λ outer g. rw (module_reads m (core_scopes (k.spaces ∷ outer))) refl
 
-pub module_entity_reads : (mean : Meaning) (p : Spot) (m : ModuleShape) (ms : List Scope) (k : Known) (around : List Known) (x : List Scope × TypeRef) → Kept 0 (meant mean) ms (k ∷ around) → wrote_as description.Module (on_top (add_core_type (core.Module (write_module m))) ms) ≡ Some x
+pub module_entity_reads : (mean : Meaning) (p : Spot) (m : ModuleShape) (ms : List WrittenScope) (k : Known) (around : List Known) (x : List WrittenScope × TypeRef) → Kept 0 (meant mean) ms (k ∷ around) → wrote_as description.Module (on_top (add_core_type (core.Module (write_module m))) ms) ≡ Some x
     → Written mean (k ∷ around) ms x.0 (Describes mean p x.1 (IsModule m))
 unfolding on_top Describes OnTop described
 module_entity_reads mean p m [] k around x kept h = absurd cc
 module_entity_reads mean p m (s ∷ ms) k around x kept h =
-    subst (λ (x : List Scope × TypeRef). Written mean (k ∷ around) (s ∷ ms) x.0 (Describes mean p x.1 (IsModule m))) (same_Some _ _ h) (record {
+    subst (λ (x : List WrittenScope × TypeRef). Written mean (k ∷ around) (s ∷ ms) x.0 (Describes mean p x.1 (IsModule m))) (same_Some _ _ h) (record {
       scopes = with_module k m ∷ around;
       grown = (g, all_grown_refl (spaces_of around));
       kept = record {

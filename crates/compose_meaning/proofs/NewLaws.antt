@@ -9,13 +9,14 @@ use Rattle.comp_scope.specs.Spaces.{Spaces, Known, Standing, placed, is_taken, c
 use Rattle.comp_scope.specs.Descriptions.{Described, described}
 use Rattle.comp_scope.specs.Aliases.{width}
 use Rattle.compose_writing.specs.Keys.{At, Index, InInstance, known_at}
-use Rattle.compose_writing.specs.Scopes.{Scope, declared}
-use Rattle.compose_writing.specs.WriteEntities.{counted, in_instance, noted, note_all, with_named}
+use Rattle.compose_writing.specs.Scopes.{WrittenScope, declared}
+use Rattle.compose_writing.specs.WriteEntities.{counted, leaves_known, noted, note_all, with_named}
 use Rattle.compose_meaning.specs.Meaning.{Meaning, meant, Means}
 use Rattle.compose_meaning.specs.Stands.{spaces_of, exports_of, at_path, at_place, further_out, AllKnow, Kept}
 use Rattle.compose_meaning.specs.Described.{Describing, Matches, listed, new_of}
-use Rattle.compose_meaning.specs.Readable.{Side, Importing, Exporting, Spot, brought_keys}
+use Rattle.compose_meaning.specs.Readable.{SpotKind, Importing, Exporting, Spot, brought_keys}
 use Rattle.compose_meaning.specs.Shows.{Shows}
+use Rattle.compose_meaning.proofs.LeafKeyLaws.{all_keys_are as keys_are_among}
 use Rattle.compose_meaning.proofs.ListLaws.{Each, each_both, each_then, each_map, get_last}
 use Rattle.compose_meaning.proofs.SpaceLaws.{knows_grown}
 use Rattle.compose_meaning.proofs.NamedLaws.{item_of, named, named_grows, stands_named, same_known}
@@ -27,14 +28,14 @@ use Rattle.compose_meaning.proofs.ShowsLaws.{IsOrderly, LeafAt, leaves_found, le
 type_placed : (s : Spaces) (e : EntityTree) (b : Bool) (t : TypeShapeTree) → e ≡ IsType t → slice_get (placed s e b).types (length s.types) ≡ Some (e, b)
 type_placed s e b t is = subst (λ (e : EntityTree). slice_get (placed s e b).types (length s.types) ≡ Some (e, b)) (sym is) (get_last s.types (IsType t, b))
 
-type_there : (side : Side) (k : Known) (name : List ℕ) (d : Described) (t : TypeShapeTree) → d.standing.0 ≡ IsType t → slice_get (named side k name d).spaces.types (length k.spaces.types) ≡ Some d.standing
+type_there : (side : SpotKind) (k : Known) (name : List ℕ) (d : Described) (t : TypeShapeTree) → d.standing.0 ≡ IsType t → slice_get (named side k name d).spaces.types (length k.spaces.types) ≡ Some d.standing
 type_there Importing k name d t is = type_placed (record k.spaces { brought = counts_sum k.spaces.brought d.brings }) d.standing.0 d.standing.1 t is
 type_there Exporting k name d t is = type_placed (record k.spaces { made = counts_sum k.spaces.made d.brings }) d.standing.0 d.standing.1 t is
 
 instance_placed : (s : Spaces) (e : EntityTree) (b : Bool) (es : Entries) → e ≡ IsInstance es → slice_get (placed s e b).instances (length s.instances) ≡ Some (e, b)
 instance_placed s e b es is = subst (λ (e : EntityTree). slice_get (placed s e b).instances (length s.instances) ≡ Some (e, b)) (sym is) (get_last s.instances (IsInstance es, b))
 
-instance_there : (side : Side) (k : Known) (name : List ℕ) (d : Described) (es : Entries) → d.standing.0 ≡ IsInstance es → slice_get (named side k name d).spaces.instances (length k.spaces.instances) ≡ Some d.standing
+instance_there : (side : SpotKind) (k : Known) (name : List ℕ) (d : Described) (es : Entries) → d.standing.0 ≡ IsInstance es → slice_get (named side k name d).spaces.instances (length k.spaces.instances) ≡ Some d.standing
 instance_there Importing k name d es is = instance_placed (record k.spaces { brought = counts_sum k.spaces.brought d.brings }) d.standing.0 d.standing.1 es is
 instance_there Exporting k name d es is = instance_placed (record k.spaces { made = counts_sum k.spaces.made d.brings }) d.standing.0 d.standing.1 es is
 
@@ -60,10 +61,10 @@ keys_of_leaves index [] = refl
 keys_of_leaves index (leaf ∷ ls) = keys_before (names_itself leaf.1) leaf.0 index _ _ (keys_of_leaves index ls)
 
 -- a scope with an import or an export more, before what it brings is noted
-named_kept : (mean : Meaning) (side : Side) (name : List ℕ) (ty : TypeRef) (m : Scope) (ms : List Scope) (k : Known) (ks : List Known) (d : Described) → Kept 0 (meant mean) (m ∷ ms) (k ∷ ks) → is_taken name (listed side k) ≡ false
+named_kept : (mean : Meaning) (side : SpotKind) (name : List ℕ) (ty : TypeRef) (m : WrittenScope) (ms : List WrittenScope) (k : Known) (ks : List Known) (d : Described) → Kept 0 (meant mean) (m ∷ ms) (k ∷ ks) → is_taken name (listed side k) ≡ false
     → described k.spaces (new_of side k.spaces) ty ≡ Ok d → Matches ty d.standing.0 → Kept 0 (meant mean) (counted ty (declared (item_of side name ty) m) ∷ ms) (named side k name d ∷ ks)
 named_kept mean side name ty m ms k ks d kept free is matches =
-    let m1 : Scope = counted ty (declared (item_of side name ty) m) in
+    let m1 : WrittenScope = counted ty (declared (item_of side name ty) m) in
     let same = same_known ty (item_of side name ty) m in
     let g = named_grows side k name d in
     record {
@@ -76,7 +77,7 @@ named_kept mean side name ty m ms k ks d kept free is matches =
     }
 
 -- what it brings is noted
-noted_entity : (mean : Meaning) (e : EntityTree) (m m1 : Scope) (ms : List Scope) (k k1 : Known) (ks : List Known) (s : Standing) → Kept 0 (meant mean) (m1 ∷ ms) (k1 ∷ ks) → Shows mean e s → IsOrderly mean.may_mention mean.tree e
+noted_entity : (mean : Meaning) (e : EntityTree) (m m1 : WrittenScope) (ms : List WrittenScope) (k k1 : Known) (ks : List Known) (s : Standing) → Kept 0 (meant mean) (m1 ∷ ms) (k1 ∷ ks) → Shows mean e s → IsOrderly mean.may_mention mean.tree e
     → ((t : TypeShapeTree) → s.0 ≡ IsType t → slice_get k1.spaces.types m.types ≡ Some s) → ((es : Entries) → s.0 ≡ IsInstance es → slice_get k1.spaces.instances m.instances ≡ Some s)
     → Noted (meant mean) m1 ms k1 ks (brought_keys e) (noted e m (m1 ∷ ms))
 noted_entity mean (IsType t) m m1 ms k k1 ks s kept h o type_at instance_at =
@@ -85,15 +86,15 @@ noted_entity mean (IsType t) m m1 ms k k1 ks s kept h o type_at instance_at =
     (each_then (λ key. Means 0 (meant mean key) s) (λ key. Stood (meant mean) k1 (key, Index m.types)) (λ key means. (s, type_at u.0 u.1, means)) (names_itself (IsType t)) (leaf_means mean (IsType t) s h o))
 noted_entity mean (IsFunc f) m m1 ms k k1 ks s kept h o type_at instance_at = all_here (meant mean) [] m.types m1 ms k1 ks kept tt
 noted_entity mean (IsInstance es) m m1 ms k k1 ks s kept h o type_at instance_at =
-    subst (λ (keys : List Mention). Noted (meant mean) m1 ms k1 ks keys (note_all (in_instance m.instances es) (m1 ∷ ms))) (keys_of_leaves m.instances (leaves_in [] es))
-    (all_new (meant mean) (in_instance m.instances es) m1 ms k1 ks kept
+    subst (λ (keys : List Mention). Noted (meant mean) m1 ms k1 ks keys (note_all (leaves_known m.instances (leaves_in [] es)) (m1 ∷ ms))) (keys_of_leaves m.instances (leaves_in [] es) ∙ keys_are_among es [])
+    (all_new (meant mean) (leaves_known m.instances (leaves_in [] es)) m1 ms k1 ks kept
     (notes_stand mean k1 m.instances s h.0 (instance_at h.0 h.1) h.1 (leaves_in [] es) (leaves_found mean mean.may_mention mean.tree es h.0 h.2 o)))
 noted_entity mean (IsComponent is es) m m1 ms k k1 ks s kept h o type_at instance_at = all_here (meant mean) [] m.types m1 ms k1 ks kept tt
 noted_entity mean (IsModule n) m m1 ms k k1 ks s kept h o type_at instance_at = all_here (meant mean) [] m.types m1 ms k1 ks kept tt
 noted_entity mean IsOwnModule m m1 ms k k1 ks s kept h o type_at instance_at = elim h [ ]
 
 -- an import or an export is there, and what it brings is known
-pub named_step : (mean : Meaning) (p : Spot) (name : List ℕ) (e : EntityTree) (ty : TypeRef) (m : Scope) (ms : List Scope) (k : Known) (ks : List Known) → Kept 0 (meant mean) (m ∷ ms) (k ∷ ks) → is_taken name (listed p.side k) ≡ false
+pub named_step : (mean : Meaning) (p : Spot) (name : List ℕ) (e : EntityTree) (ty : TypeRef) (m : WrittenScope) (ms : List WrittenScope) (k : Known) (ks : List Known) → Kept 0 (meant mean) (m ∷ ms) (k ∷ ks) → is_taken name (listed p.side k) ≡ false
     → (d : Describing mean p ty e k.spaces) → IsOrderly mean.may_mention mean.tree e
     → Noted (meant mean) (counted ty (declared (item_of p.side name ty) m)) ms (named p.side k name d.what) ks (brought_keys e) (with_named (item_of p.side) name e ty (m ∷ ms))
 unfolding with_named

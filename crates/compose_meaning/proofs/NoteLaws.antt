@@ -8,8 +8,8 @@ use Rattle.comp_entity.specs.Names.{Mention, OfResource, OfPlace}
 use Rattle.comp_entity.specs.Fits.{same_name}
 use Rattle.comp_entity.specs.Places.{same_mention}
 use Rattle.comp_scope.specs.Spaces.{Known, Standing}
-use Rattle.compose_writing.specs.Keys.{Known as KnownThings, At, Index, known_at, mention_outside, holds_there, from_within}
-use Rattle.compose_writing.specs.Scopes.{Scope, change_top, knows, with_known}
+use Rattle.compose_writing.specs.Keys.{KnownThings, At, Index, known_at, mention_outside, holds_there, from_within}
+use Rattle.compose_writing.specs.Scopes.{WrittenScope, change_top, knows, with_known}
 use Rattle.compose_writing.specs.WriteEntities.{note_new, note_all, note_here}
 use Rattle.compose_meaning.specs.Meaning.{Meant, Means}
 use Rattle.compose_meaning.specs.Stands.{spaces_of, Stands, at_place, Kept, reach_in, reach, StaysWithin, IsFree, MayBring}
@@ -39,7 +39,7 @@ knows_in : List (ℕ × KnownThings) → Mention → Bool
 knows_in [] key = false
 knows_in (x ∷ xs) key = is_some (known_at x.1 key) || from_within x.0 (knows_in xs) key
 
-knows_is : (ms : List Scope) (key : Mention) → knows ms key ≡ knows_in (shells ms) key
+knows_is : (ms : List WrittenScope) (key : Mention) → knows ms key ≡ knows_in (shells ms) key
 unfolding knows knows_in
 knows_is [] key = refl
 knows_is (m ∷ ms) key = ap (λ b. is_some (known_at m.known key) || b) (one (λ other. knows_is ms other) (mention_outside m.width key))
@@ -48,7 +48,7 @@ knows_is (m ∷ ms) key = ap (λ b. is_some (known_at m.known key) || b) (one (�
     one rest None = refl
     one rest (Some other) = rest other
 
-pub knows_same : (ms later : List Scope) (key : Mention) → shells later ≡ shells ms → knows later key ≡ knows ms key
+pub knows_same : (ms later : List WrittenScope) (key : Mention) → shells later ≡ shells ms → knows later key ≡ knows ms key
 knows_same ms later key same = knows_is later key ∙ ap (λ xs. knows_in xs key) same ∙ sym (knows_is ms key)
 
 -- ---- one thing more
@@ -90,8 +90,8 @@ none_before (first ∷ ks) k at key h = one (same_mention first.0 key) (none_bef
 -- ---- what was noted
 
 -- The innermost scope knows these things too, and all else is as it was.
-pub record Noted (means : Mention → Meant) (m : Scope) (ms : List Scope) (k : Known) (ks : List Known) (keys : List Mention) (later : List Scope) : Type 0 where
-  pub scope : Scope
+pub record Noted (means : Mention → Meant) (m : WrittenScope) (ms : List WrittenScope) (k : Known) (ks : List Known) (keys : List Mention) (later : List WrittenScope) : Type 0 where
+  pub scope : WrittenScope
   pub is : later ≡ scope ∷ ms
   pub kept : Kept 0 means (scope ∷ ms) (k ∷ ks)
   pub width : scope.width ≡ m.width
@@ -99,7 +99,7 @@ pub record Noted (means : Mention → Meant) (m : Scope) (ms : List Scope) (k : 
   pub knew : (key : Mention) → knows (scope ∷ ms) key ≡ (knows (m ∷ ms) key || list_any (λ k. same_mention k key) keys)
   pub less : (key : Mention) → known_at scope.known key ≡ None → known_at m.known key ≡ None
 
-stands_known : (m : Scope) (k : Known) (around : List _) (things : KnownThings) → Stands m k around → Stands (record m { known = things }) k around
+stands_known : (m : WrittenScope) (k : Known) (around : List _) (things : KnownThings) → Stands m k around → Stands (record m { known = things }) k around
 stands_known m k around things h = record { reads = h.reads; types = h.types; instances = h.instances; core_types = h.core_types }
 
 later_or : (a b c : Bool) → ((a || b) || c) ≡ ((a || c) || b)
@@ -110,7 +110,7 @@ later_or false false true = refl
 later_or false false false = refl
 
 -- where it is known already, all is as it was
-noted_known : (means : Mention → Meant) (m : Scope) (ms : List Scope) (k : Known) (ks : List Known) (key : Mention) → Kept 0 means (m ∷ ms) (k ∷ ks) → knows (m ∷ ms) key ≡ true → Noted means m ms k ks (key ∷ []) (m ∷ ms)
+noted_known : (means : Mention → Meant) (m : WrittenScope) (ms : List WrittenScope) (k : Known) (ks : List Known) (key : Mention) → Kept 0 means (m ∷ ms) (k ∷ ks) → knows (m ∷ ms) key ≡ true → Noted means m ms k ks (key ∷ []) (m ∷ ms)
 noted_known means m ms k ks key kept is = record {
   scope = m;
   is = refl;
@@ -128,7 +128,7 @@ noted_known means m ms k ks key kept is = record {
         now : (other : Mention) → same_mention key other ≡ true → knows (m ∷ ms) other ≡ true
         now other same = subst (λ (key : Mention). knows (m ∷ ms) key ≡ true) (mention_is key other same) is
 
-pub noted_here : (means : Mention → Meant) (m : Scope) (ms : List Scope) (k : Known) (ks : List Known) (key : Mention) (at : At) (s : Standing) → Kept 0 means (m ∷ ms) (k ∷ ks) → at_place k.spaces at ≡ Some s → Means 0 (means key) s
+pub noted_here : (means : Mention → Meant) (m : WrittenScope) (ms : List WrittenScope) (k : Known) (ks : List Known) (key : Mention) (at : At) (s : Standing) → Kept 0 means (m ∷ ms) (k ∷ ks) → at_place k.spaces at ≡ Some s → Means 0 (means key) s
     → Noted means m ms k ks (key ∷ []) (with_known key at m ∷ ms)
 unfolding knows
 noted_here means m ms k ks key at s kept there means_it = one (known_at m.known key) refl
@@ -153,10 +153,10 @@ noted_here means m ms k ks key at s kept there means_it = one (known_at m.known 
         now other place (inl old) = kept.know.0 other place old
         now other place (inr new) = (s, subst (λ (at : At). at_place k.spaces at ≡ Some s) new.1 there, subst (λ (key : Mention). Means 0 (means key) s) new.0 means_it)
 
-noted_none : (means : Mention → Meant) (m : Scope) (ms : List Scope) (k : Known) (ks : List Known) → Kept 0 means (m ∷ ms) (k ∷ ks) → Noted means m ms k ks [] (m ∷ ms)
+noted_none : (means : Mention → Meant) (m : WrittenScope) (ms : List WrittenScope) (k : Known) (ks : List Known) → Kept 0 means (m ∷ ms) (k ∷ ks) → Noted means m ms k ks [] (m ∷ ms)
 noted_none means m ms k ks kept = record { scope = m; is = refl; kept = kept; width = refl; decls = refl; knew = λ key. or_none (knows (m ∷ ms) key); less = λ key h. h }
 
-then_noted : (means : Mention → Meant) (m : Scope) (ms : List Scope) (k : Known) (ks : List Known) (key : Mention) (keys : List Mention) (next later : List Scope) (one : Noted means m ms k ks (key ∷ []) next) → Noted means one.scope ms k ks keys later
+then_noted : (means : Mention → Meant) (m : WrittenScope) (ms : List WrittenScope) (k : Known) (ks : List Known) (key : Mention) (keys : List Mention) (next later : List WrittenScope) (one : Noted means m ms k ks (key ∷ []) next) → Noted means one.scope ms k ks keys later
     → Noted means m ms k ks (key ∷ keys) later
 then_noted means m ms k ks key keys next later one two = record {
   scope = two.scope;
@@ -173,16 +173,16 @@ then_noted means m ms k ks key keys next later one two = record {
 abbrev pub Stood : (Mention → Meant) → Known → Mention × At → Type 0
 Stood means k note = (s : Standing) × (at_place k.spaces note.1 ≡ Some s) × Means 0 (means note.0) s
 
-pub all_here : (means : Mention → Meant) (keys : List Mention) (index : ℕ) (m : Scope) (ms : List Scope) (k : Known) (ks : List Known) → Kept 0 means (m ∷ ms) (k ∷ ks) → Each (λ key. Stood means k (key, Index index)) keys
+pub all_here : (means : Mention → Meant) (keys : List Mention) (index : ℕ) (m : WrittenScope) (ms : List WrittenScope) (k : Known) (ks : List Known) → Kept 0 means (m ∷ ms) (k ∷ ks) → Each (λ key. Stood means k (key, Index index)) keys
     → Noted means m ms k ks keys (note_here keys index (m ∷ ms))
 unfolding note_here change_top
 all_here means [] index m ms k ks kept each = noted_none means m ms k ks kept
 all_here means (key ∷ keys) index m ms k ks kept each =
     let one = noted_here means m ms k ks key (Index index) each.0.0 kept each.0.1 each.0.2 in
     then_noted means m ms k ks key keys (with_known key (Index index) m ∷ ms) (note_here keys index (with_known key (Index index) m ∷ ms)) one
-    (subst (λ (next : List Scope). Noted means one.scope ms k ks keys (note_here keys index next)) (sym one.is) (all_here means keys index one.scope ms k ks one.kept each.1))
+    (subst (λ (next : List WrittenScope). Noted means one.scope ms k ks keys (note_here keys index next)) (sym one.is) (all_here means keys index one.scope ms k ks one.kept each.1))
 
-pub noted_new : (means : Mention → Meant) (m : Scope) (ms : List Scope) (k : Known) (ks : List Known) (note : Mention × At) → Kept 0 means (m ∷ ms) (k ∷ ks) → Stood means k note → Noted means m ms k ks (note.0 ∷ []) (note_new note.0 note.1 (m ∷ ms))
+pub noted_new : (means : Mention → Meant) (m : WrittenScope) (ms : List WrittenScope) (k : Known) (ks : List Known) (note : Mention × At) → Kept 0 means (m ∷ ms) (k ∷ ks) → Stood means k note → Noted means m ms k ks (note.0 ∷ []) (note_new note.0 note.1 (m ∷ ms))
 unfolding change_top
 noted_new means m ms k ks note kept stood = one (knows (m ∷ ms) note.0) refl
   where
@@ -190,17 +190,17 @@ noted_new means m ms k ks note kept stood = one (knows (m ∷ ms) note.0) refl
     one true is = noted_known means m ms k ks note.0 kept is
     one false is = noted_here means m ms k ks note.0 note.1 stood.0 kept stood.1 stood.2
 
-pub all_new : (means : Mention → Meant) (notes : KnownThings) (m : Scope) (ms : List Scope) (k : Known) (ks : List Known) → Kept 0 means (m ∷ ms) (k ∷ ks) → Each (Stood means k) notes
+pub all_new : (means : Mention → Meant) (notes : KnownThings) (m : WrittenScope) (ms : List WrittenScope) (k : Known) (ks : List Known) → Kept 0 means (m ∷ ms) (k ∷ ks) → Each (Stood means k) notes
     → Noted means m ms k ks (map (λ note. note.0) notes) (note_all notes (m ∷ ms))
 unfolding note_all
 all_new means [] m ms k ks kept each = noted_none means m ms k ks kept
 all_new means (note ∷ notes) m ms k ks kept each =
     let one = noted_new means m ms k ks note kept each.0 in
     then_noted means m ms k ks note.0 (map (λ note. note.0) notes) (note_new note.0 note.1 (m ∷ ms)) (note_all notes (note_new note.0 note.1 (m ∷ ms))) one
-    (subst (λ (next : List Scope). Noted means one.scope ms k ks (map (λ note. note.0) notes) (note_all notes next)) (sym one.is) (all_new means notes one.scope ms k ks one.kept each.1))
+    (subst (λ (next : List WrittenScope). Noted means one.scope ms k ks (map (λ note. note.0) notes) (note_all notes next)) (sym one.is) (all_new means notes one.scope ms k ks one.kept each.1))
 
 -- what may be mentioned may be brought in, where more is known
-pub brings_noted : (may : Mention → Bool) (means : Mention → Meant) (m : Scope) (ms : List Scope) (k : Known) (ks : List Known) (keys : List Mention) (later : List Scope) (n : Noted means m ms k ks keys later) → MayBring may means (m ∷ ms) (k ∷ ks)
+pub brings_noted : (may : Mention → Bool) (means : Mention → Meant) (m : WrittenScope) (ms : List WrittenScope) (k : Known) (ks : List Known) (keys : List Mention) (later : List WrittenScope) (n : Noted means m ms k ks keys later) → MayBring may means (m ∷ ms) (k ∷ ks)
     → MayBring may means (n.scope ∷ ms) (k ∷ ks)
 unfolding reach
 brings_noted may means m ms k ks keys later n b key up is at = one (known_at n.scope.known key) refl at

@@ -17,12 +17,13 @@ use Rattle.comp_entity.specs.Fits.{place_of}
 use Rattle.comp_entity.specs.Places.{Path, same_mention, names_itself, named_value, leaves_of, leaves_in}
 use Rattle.comp_scope.specs.Spaces.{Known}
 use Rattle.compose_writing.specs.Keys.{mention_outside, holds_there, from_within}
-use Rattle.compose_writing.specs.Scopes.{Scope, wrote_as, knows, type_index, standing}
+use Rattle.compose_writing.specs.Scopes.{WrittenScope, wrote_as, knows, type_index, standing}
 use Rattle.compose_writing.specs.WriteValues.{then_defined, named_part, write_defined, write_parts, write_fields, write_cases, write_payload, write_value}
 use Rattle.compose_writing.specs.WriteEntities.{write_place, write_named, write_entity}
 use Rattle.compose_meaning.specs.Meaning.{Meaning, placing, placed_value, placed_entries, named_type, named_bit, meant, IsNamed, OneTree, OneTrees, OneTreeCases, OneTreePayload}
 use Rattle.compose_meaning.specs.Stands.{inward, further_out, Kept}
-use Rattle.compose_meaning.specs.Readable.{Side, Importing, Exporting, new_name, Spot, is_new, inside, within, first_spot, in_instance_type, in_component_type, meaning_within, exports_spot, brought_keys, new_resources, behind, behind_all, IsOlder, AreOlder, HasMeaning}
+use Rattle.compose_meaning.specs.Readable.{SpotKind, Importing, Exporting, new_name, Spot, is_new, inside, within, first_spot, in_instance_type, in_component_type, meaning_within, exports_spot, brought_keys, new_resources, behind, behind_all, IsOlder, AreOlder, HasMeaning}
+use Rattle.compose_meaning.proofs.LeafKeyLaws.{all_keys_are as keys_are_among}
 use Rattle.compose_meaning.proofs.ListLaws.{wrote_some, and_right, Each, each_always, each_both, each_left, each_right, each_then}
 use Rattle.compose_meaning.proofs.NameLaws.{here, placing_twice}
 use Rattle.compose_meaning.proofs.KnownLaws.{standing_reach, mention_back}
@@ -61,7 +62,7 @@ within_shifts p mean known same older key h = (agrees key (sym (same key) ∙ h)
 
 -- ---- what is written mentions what is known
 
-type_known : (key : Mention) (ms : List Scope) (x : List Scope × ℕ) → type_index key ms ≡ Some x → knows ms key ≡ true
+type_known : (key : Mention) (ms : List WrittenScope) (x : List WrittenScope × ℕ) → type_index key ms ≡ Some x → knows ms key ≡ true
 unfolding type_index
 type_known key ms x h = option_and_then_some _ (standing ms key) x h (λ y a b. reach_knows ms key y.1.0 (standing_reach key ms y a))
 
@@ -70,23 +71,23 @@ module _ (mean : Meaning) (p : Spot) (older : AreOlder mean p) where
   Old t = Each (IsOlder mean p) (in_value 0 (plain_value t))
 
   -- scopes in which just what is known at the spot is known
-  pub record Here (ms : List Scope) (ks : List Known) : Type 0 where
+  pub record Here (ms : List WrittenScope) (ks : List Known) : Type 0 where
     pub kept : Kept 0 (meant mean) ms ks
     pub ready : Ready mean ms ks
     pub same : (key : Mention) → knows ms key ≡ p.known key
 
-  here_on : (ms later : List Scope) (ks : List Known) (Q : List Known → Type 0) → Here ms ks → (w : Written mean ks ms later Q) → Here later w.scopes
+  here_on : (ms later : List WrittenScope) (ks : List Known) (Q : List Known → Type 0) → Here ms ks → (w : Written mean ks ms later Q) → Here later w.scopes
   here_on ms later ks Q h w = record { kept = w.kept; ready = still_ready mean ks ms later Q h.ready w; same = λ key. knows_same ms later key w.same ∙ h.same key }
 
-  resource_old : (r : Name) (ms : List Scope) (ks : List Known) (x : List Scope × ℕ) → Here ms ks → type_index (OfResource r) ms ≡ Some x → is_new p (mean.resource r) ≡ false
+  resource_old : (r : Name) (ms : List WrittenScope) (ks : List Known) (x : List WrittenScope × ℕ) → Here ms ks → type_index (OfResource r) ms ≡ Some x → is_new p (mean.resource r) ≡ false
   resource_old r ms ks x at h = (older (OfResource r) (sym (at.same (OfResource r)) ∙ type_known (OfResource r) ms x h)).0
 
-  named_old : (t : ValueTree) (o : Option Name) (ms : List Scope) (ks : List Known) (x : List Scope × ValType) → Here ms ks → IsNamed mean t o → ((y : List Scope × DefinedType) → write_defined t ms ≡ Some y → Old t) → named_part o (write_defined t ms) ms ≡ Some x → Old t
+  named_old : (t : ValueTree) (o : Option Name) (ms : List WrittenScope) (ks : List Known) (x : List WrittenScope × ValType) → Here ms ks → IsNamed mean t o → ((y : List WrittenScope × DefinedType) → write_defined t ms ≡ Some y → Old t) → named_part o (write_defined t ms) ms ≡ Some x → Old t
   named_old t (Some n) ms ks x at named own h = wrote_some value.Index (type_index (OfPlace n) ms) x h (λ y a b.
       subst (λ (t : ValueTree). Each (IsOlder mean p) (in_value 0 t)) (sym named.1) (older (OfPlace n) (sym (at.same (OfPlace n)) ∙ type_known (OfPlace n) ms y a)))
   named_old t None ms ks x at named own h = wrote_some value.Index (then_defined (write_defined t ms)) x h (λ y a b. option_and_then_some _ (wrote_as tree.Defined (write_defined t ms)) y a (λ z c d. wrote_some tree.Defined (write_defined t ms) z c (λ u e f. own u e)))
 
-  part_old : (t : ValueTree) (ms : List Scope) (ks : List Known) (x : List Scope × ValType) → Here ms ks → OneTree mean t → ((y : List Scope × DefinedType) → write_defined t ms ≡ Some y → Old t) → write_value t ms ≡ Some x → Old t
+  part_old : (t : ValueTree) (ms : List WrittenScope) (ks : List Known) (x : List WrittenScope × ValType) → Here ms ks → OneTree mean t → ((y : List WrittenScope × DefinedType) → write_defined t ms ≡ Some y → Old t) → write_value t ms ≡ Some x → Old t
   part_old (Primitive q) ms ks x at one own h = tt
   part_old (TupleOf parts) ms ks x at one own h = named_old (TupleOf parts) None ms ks x at tt own h
   part_old (RecordOf q fields) ms ks x at one own h = named_old (RecordOf q fields) q ms ks x at one.0 own h
@@ -102,7 +103,7 @@ module _ (mean : Meaning) (p : Spot) (older : AreOlder mean p) where
   mutual
     unfolding write_defined
 
-    pub defined_old : (t : ValueTree) (ms : List Scope) (ks : List Known) (x : List Scope × DefinedType) → Here ms ks → OneTree mean t → write_defined t ms ≡ Some x → Old t
+    pub defined_old : (t : ValueTree) (ms : List WrittenScope) (ks : List Known) (x : List WrittenScope × DefinedType) → Here ms ks → OneTree mean t → write_defined t ms ≡ Some x → Old t
     defined_old (Primitive q) ms ks x at one h = tt
     defined_old (TupleOf parts) ms ks x at one h = wrote_some defined.TupleOf (write_parts parts ms) x h (λ y a b. parts_old parts ms ks y at one a)
     defined_old (RecordOf None fields) ms ks x at one h = wrote_some defined.RecordOf (write_fields fields ms) x h (λ y a b. fields_old fields ms ks y at one.1 a)
@@ -121,26 +122,26 @@ module _ (mean : Meaning) (p : Spot) (older : AreOlder mean p) where
     defined_old (Own r) ms ks x at one h = wrote_some defined.Own (type_index (OfResource r) ms) x h (λ y a b. (resource_old r ms ks y at a, tt))
     defined_old (Borrow r) ms ks x at one h = wrote_some defined.Borrow (type_index (OfResource r) ms) x h (λ y a b. (resource_old r ms ks y at a, tt))
 
-    parts_old : (ts : ValueTrees) (ms : List Scope) (ks : List Known) (x : List Scope × List ValType) → Here ms ks → OneTrees mean ts → write_parts ts ms ≡ Some x → Each (IsOlder mean p) (in_values 0 (plain_values ts))
+    parts_old : (ts : ValueTrees) (ms : List WrittenScope) (ks : List Known) (x : List WrittenScope × List ValType) → Here ms ks → OneTrees mean ts → write_parts ts ms ≡ Some x → Each (IsOlder mean p) (in_values 0 (plain_values ts))
     parts_old none ms ks x at one h = tt
     parts_old (more t ts) ms ks x at one h = option_and_then_some _ (write_value t ms) x h (λ y a b. wrote_some (λ us. y.1 ∷ us) (write_parts ts y.0) x b (λ z c d.
         let w = value_reads mean t ms ks y at.kept at.ready one.0 a in
         each_both (IsOlder mean p) (in_value 0 (plain_value t)) (in_values 0 (plain_values ts)) (part_old t ms ks y at one.0 (λ z c. defined_old t ms ks z at one.0 c) a) (parts_old ts y.0 w.scopes z (here_on ms y.0 ks _ at w) one.1 c)))
 
-    fields_old : (cs : Cases) (ms : List Scope) (ks : List Known) (x : List Scope × List (List ℕ × ValType)) → Here ms ks → OneTreeCases mean cs → write_fields cs ms ≡ Some x → Each (IsOlder mean p) (in_cases 0 (plain_cases cs))
+    fields_old : (cs : Cases) (ms : List WrittenScope) (ks : List Known) (x : List WrittenScope × List (List ℕ × ValType)) → Here ms ks → OneTreeCases mean cs → write_fields cs ms ≡ Some x → Each (IsOlder mean p) (in_cases 0 (plain_cases cs))
     fields_old no_case ms ks x at one h = tt
     fields_old (labelled label absent cs) ms ks x at one h = absurd cc
     fields_old (labelled label (present t) cs) ms ks x at one h = option_and_then_some _ (write_value t ms) x h (λ y a b. wrote_some (λ us. (label, y.1) ∷ us) (write_fields cs y.0) x b (λ z c d.
         let w = value_reads mean t ms ks y at.kept at.ready one.0 a in
         each_both (IsOlder mean p) (in_value 0 (plain_value t)) (in_cases 0 (plain_cases cs)) (part_old t ms ks y at one.0 (λ z c. defined_old t ms ks z at one.0 c) a) (fields_old cs y.0 w.scopes z (here_on ms y.0 ks _ at w) one.1 c)))
 
-    cases_old : (cs : Cases) (ms : List Scope) (ks : List Known) (x : List Scope × List (List ℕ × Option ValType)) → Here ms ks → OneTreeCases mean cs → write_cases cs ms ≡ Some x → Each (IsOlder mean p) (in_cases 0 (plain_cases cs))
+    cases_old : (cs : Cases) (ms : List WrittenScope) (ks : List Known) (x : List WrittenScope × List (List ℕ × Option ValType)) → Here ms ks → OneTreeCases mean cs → write_cases cs ms ≡ Some x → Each (IsOlder mean p) (in_cases 0 (plain_cases cs))
     cases_old no_case ms ks x at one h = tt
     cases_old (labelled label q cs) ms ks x at one h = option_and_then_some _ (write_payload q ms) x h (λ y a b. wrote_some (λ us. (label, y.1) ∷ us) (write_cases cs y.0) x b (λ z c d.
         let w = payload_reads mean q ms ks y at.kept at.ready one.0 a in
         each_both (IsOlder mean p) (in_payload 0 (plain_payload q)) (in_cases 0 (plain_cases cs)) (payload_old q ms ks y at one.0 a) (cases_old cs y.0 w.scopes z (here_on ms y.0 ks _ at w) one.1 c)))
 
-    payload_old : (q : Payload) (ms : List Scope) (ks : List Known) (x : List Scope × Option ValType) → Here ms ks → OneTreePayload mean q → write_payload q ms ≡ Some x → Each (IsOlder mean p) (in_payload 0 (plain_payload q))
+    payload_old : (q : Payload) (ms : List WrittenScope) (ks : List Known) (x : List WrittenScope × Option ValType) → Here ms ks → OneTreePayload mean q → write_payload q ms ≡ Some x → Each (IsOlder mean p) (in_payload 0 (plain_payload q))
     payload_old absent ms ks x at one h = tt
     payload_old (present t) ms ks x at one h = wrote_some Some (write_value t ms) x h (λ y a b. part_old t ms ks y at one (λ z c. defined_old t ms ks z at one c) a)
 
@@ -194,7 +195,7 @@ module _ (mean : Meaning) (c : Change) (P Q : ℕ × Mention → Type 0) (resour
   pub brought_each : (e : EntityTree) → Each P (in_entity 0 (entity_by c 0 e)) → IsOrderly mean.may_mention mean.tree e → Each (KeyEach mean Q) (brought_keys e)
   brought_each (IsType t) h o = leaf_keys (IsType t) h o
   brought_each (IsFunc f) h o = tt
-  brought_each (IsInstance es) h o = keys_of (leaves_in [] es) (all_leaves_keys es [] [] h o)
+  brought_each (IsInstance es) h o = subst (Each (KeyEach mean Q)) (keys_are_among es []) (keys_of (leaves_in [] es) (all_leaves_keys es [] [] h o))
   brought_each (IsComponent is es) h o = tt
   brought_each (IsModule m) h o = tt
   brought_each IsOwnModule h o = tt
@@ -255,7 +256,7 @@ instance_old mean p name es r h = one (is_new p (mean.resource r)) refl
         ap (λ b. (x.out == (new_name p.side 0).out) && b) past ∙ no_and (x.out == (new_name p.side 0).out)
 
 -- each thing that an entity brings
-value_keys_old : (mean : Meaning) (p : Spot) (older : AreOlder mean p) (t : ValueTree) (o : Option Name) (ms : List Scope) (ks : List Known) (x : List Scope × ℕ) → place_of t ≡ o → Here mean p older ms ks → OneTree mean t → NamedBy mean.may_mention mean.tree t o
+value_keys_old : (mean : Meaning) (p : Spot) (older : AreOlder mean p) (t : ValueTree) (o : Option Name) (ms : List WrittenScope) (ks : List Known) (x : List WrittenScope × ℕ) → place_of t ≡ o → Here mean p older ms ks → OneTree mean t → NamedBy mean.may_mention mean.tree t o
     → write_named o t ms ≡ Some x → Each (KeyEach mean (IsOlder mean p)) (named_value o)
 value_keys_old mean p older t None ms ks x place at one named h = tt
 value_keys_old mean p older t (Some n) ms ks x place at one named h = (either (knows ms (OfPlace n)) refl h, tt)
@@ -265,7 +266,7 @@ value_keys_old mean p older t (Some n) ms ks x place at one named h = (either (k
     either false is h = option_and_then_some _ (wrote_as tree.Defined (write_defined t ms)) x h (λ z c d. wrote_some tree.Defined (write_defined t ms) z c (λ u e f.
         subst (λ (t : ValueTree). Each (IsOlder mean p) (in_value 0 t)) named.1 (defined_old mean p older t ms ks u at one e)))
 
-fresh_old : (side : Side) (n : ℕ) → (((new_name side n).out == (new_name side 0).out) && nat_le (n + 1) (new_name side n).number) ≡ false
+fresh_old : (side : SpotKind) (n : ℕ) → (((new_name side n).out == (new_name side 0).out) && nat_le (n + 1) (new_name side n).number) ≡ false
 fresh_old Importing n = grind arith
 fresh_old Exporting n = grind arith
 
@@ -279,7 +280,7 @@ resource_behind mean p name r older fresh = one (p.known (OfResource r)) refl
     one false is = ap (λ b. ((mean.resource r).out == (new_name p.side 0).out) && nat_le (p.resources + cond b 0 1) (mean.resource r).number) is
         ∙ ap (λ (n : Name). (n.out == (new_name p.side 0).out) && nat_le (p.resources + 1) n.number) (fresh is) ∙ fresh_old p.side p.resources
 
-pub entity_old : (mean : Meaning) (p : Spot) (name : List ℕ) (e : EntityTree) (ms : List Scope) (ks : List Known) (x : List Scope × TypeRef) (older : AreOlder mean p) → Here mean p older ms ks → HasMeaning mean p e → IsOrderly mean.may_mention mean.tree e → write_entity e ms ≡ Some x
+pub entity_old : (mean : Meaning) (p : Spot) (name : List ℕ) (e : EntityTree) (ms : List WrittenScope) (ks : List Known) (x : List WrittenScope × TypeRef) (older : AreOlder mean p) → Here mean p older ms ks → HasMeaning mean p e → IsOrderly mean.may_mention mean.tree e → write_entity e ms ≡ Some x
     → Each (KeyEach mean (IsOlder mean (behind mean p name e))) (brought_keys e)
 unfolding write_entity
 entity_old mean p name (IsType (Value t)) ms ks x older at has orderly h = wrote_some description.TyEqual (write_named (place_of t) t ms) x h (λ y a b.
@@ -330,7 +331,7 @@ within_older mean p older (OfResource r) h = each_then (IsOlder mean p) (IsOlder
 within_older mean p older (OfPlace n) h = each_then (IsOlder mean p) (IsOlder (within p mean) (first_spot Exporting p.known)) (λ m. within_mention mean p m) (in_value 0 (mean.tree n)) (older (OfPlace n) h)
 
 -- within a type that is a scope of names, names of scopes around it are of no scope of its own
-pub scope_older : (is_component : Bool) (w : ℕ) (own mean : Meaning) (side : Side) (known : Mention → Bool) → ((n : Name) → is_new (first_spot side known) (deeper w n) ≡ false)
+pub scope_older : (is_component : Bool) (w : ℕ) (own mean : Meaning) (side : SpotKind) (known : Mention → Bool) → ((n : Name) → is_new (first_spot side known) (deeper w n) ≡ false)
     → AreOlder (meaning_within is_component w own mean) (first_spot side (from_within w known))
 scope_older is_component w own mean side known past key h = one (mention_outside w key) refl h
   where
@@ -357,7 +358,7 @@ instance_type_older own mean known = scope_older false 1 own mean Exporting know
     past : (n : Name) → ((n.out + 1 == 0) && nat_le 0 n.number) ≡ false
     past n = grind arith
 
-pub component_older : (own mean : Meaning) (side : Side) (known : Mention → Bool) → AreOlder (in_component_type own mean) (first_spot side (from_within 2 known))
+pub component_older : (own mean : Meaning) (side : SpotKind) (known : Mention → Bool) → AreOlder (in_component_type own mean) (first_spot side (from_within 2 known))
 component_older own mean Importing known = scope_older true 2 own mean Importing known past
   where
     past : (n : Name) → ((n.out + 2 == 1) && nat_le 0 n.number) ≡ false

@@ -10,12 +10,12 @@ use Rattle.comp_scope.specs.Aliases.{width, from_outside}
 use Rattle.comp_scope.specs.Descriptions.{opened}
 use Rattle.comp_scope.specs.Types.{with_decls}
 use Rattle.compose_writing.specs.Keys.{At, known_at, name_outside, mention_outside, holds_there, from_within}
-use Rattle.compose_writing.specs.Scopes.{Scope, knows}
+use Rattle.compose_writing.specs.Scopes.{WrittenScope, knows}
 use Rattle.compose_writing.specs.Scopes.{opened as opened_scope}
 use Rattle.compose_meaning.specs.Meaning.{placing, Meant, Means}
 use Rattle.compose_meaning.specs.Stands.{inward, further_out, AllKnow, Kept, reach_in, reach, StaysWithin, IsFree, MayBring}
 use Rattle.compose_meaning.specs.Described.{count, new_of}
-use Rattle.compose_meaning.specs.Readable.{Side, Importing, Exporting, new_name, Spot, is_new, inside}
+use Rattle.compose_meaning.specs.Readable.{SpotKind, Importing, Exporting, new_name, Spot, is_new, inside}
 use Rattle.compose_meaning.proofs.ListLaws.{map_some, or_left, or_right, and_left, and_right}
 use Rattle.compose_meaning.proofs.NameLaws.{bare_change, placing_bare, deeper_none, value_mentions}
 use Rattle.compose_meaning.proofs.KnownLaws.{mention_back}
@@ -36,11 +36,11 @@ pub mention_out : (w : ℕ) (key : Mention) → mention_outside w (inward w key)
 mention_out w (OfResource n) = ap (option_map OfResource) (name_out w n)
 mention_out w (OfPlace n) = ap (option_map OfPlace) (name_out w n)
 
-known_inward : (m : Scope) (ms : List Scope) (key : Mention) → knows ms key ≡ true → knows (m ∷ ms) (inward m.width key) ≡ true
+known_inward : (m : WrittenScope) (ms : List WrittenScope) (key : Mention) → knows ms key ≡ true → knows (m ∷ ms) (inward m.width key) ≡ true
 unfolding knows
 known_inward m ms key h = or_right (is_some (known_at m.known (inward m.width key))) (from_within m.width (knows ms) (inward m.width key)) (ap (holds_there (knows ms)) (mention_out m.width key) ∙ h)
 
-pub reach_knows : (ms : List Scope) (key : Mention) (up : ℕ) → reach ms key ≡ Some up → knows ms key ≡ true
+pub reach_knows : (ms : List WrittenScope) (key : Mention) (up : ℕ) → reach ms key ≡ Some up → knows ms key ≡ true
 unfolding reach knows
 reach_knows [] key up h = absurd cc
 reach_knows (m ∷ ms) key up h = one (known_at m.known key) refl (λ other n a. reach_knows ms other n a) h
@@ -69,7 +69,7 @@ means_shift d u what there s is bit m = record {
   bit = m.bit ∙ bit;
 }
 
-pub know_shift : (d u : ℕ) (means inner : Mention → Meant) (ms : List Scope) (ks : List Known) → Shifts u (knows ms) means inner → AllKnow d means ms ks → AllKnow (d + u) inner ms ks
+pub know_shift : (d u : ℕ) (means inner : Mention → Meant) (ms : List WrittenScope) (ks : List Known) → Shifts u (knows ms) means inner → AllKnow d means ms ks → AllKnow (d + u) inner ms ks
 unfolding knows
 know_shift d u means inner [] [] shift k = tt
 know_shift d u means inner [] (t ∷ ks) shift k = elim k [ ]
@@ -84,7 +84,7 @@ know_shift d u means inner (m ∷ ms) (t ∷ ks) shift k = (
 
 -- ---- a scope at its begin
 
-pub opened_kept : (u w : ℕ) (is_closed : Bool) (inner mean : Mention → Meant) (ms : List Scope) (ks : List Known) → u ≡ width (nothing_known is_closed).spaces → Shifts u (knows ms) mean (further_out w inner) → Kept 0 mean ms ks
+pub opened_kept : (u w : ℕ) (is_closed : Bool) (inner mean : Mention → Meant) (ms : List WrittenScope) (ks : List Known) → u ≡ width (nothing_known is_closed).spaces → Shifts u (knows ms) mean (further_out w inner) → Kept 0 mean ms ks
     → Kept 0 inner (opened_scope w ∷ ms) (nothing_known is_closed ∷ ks)
 unfolding with_decls
 opened_kept u w is_closed inner mean ms ks is shift k = record {
@@ -105,7 +105,7 @@ free_placed f (IsModule m) h = elim h [ ]
 free_placed f IsOwnModule h = elim h [ ]
 
 -- what may be mentioned in a type of instances may be brought in
-pub opened_brings : (u w : ℕ) (may inner_may : Mention → Bool) (mean inner : Mention → Meant) (ms : List Scope) (ks : List Known) → Shifts u (knows ms) mean (further_out w inner) → ((key : Mention) → inner_may (inward w key) ≡ true → may key ≡ true)
+pub opened_brings : (u w : ℕ) (may inner_may : Mention → Bool) (mean inner : Mention → Meant) (ms : List WrittenScope) (ks : List Known) → Shifts u (knows ms) mean (further_out w inner) → ((key : Mention) → inner_may (inward w key) ≡ true → may key ≡ true)
     → MayBring may mean ms ks → MayBring inner_may inner (opened_scope w ∷ ms) (nothing_known false ∷ ks)
 unfolding reach
 opened_brings u w may inner_may mean inner ms ks shift mays b key up is at = map_some suc (option_and_then (reach ms) (mention_outside w key)) up at (λ n a c. option_and_then_some (reach ms) (mention_outside w key) n a (λ other e f.
@@ -136,7 +136,7 @@ inside_turns p s same n = one p.side p.resources same (is_new p n) refl
     one_less : n.out + 1 - 1 ≡ n.out
     one_less = omega arith
 
-    one : (side : Side) (r : ℕ) → count side s ≡ r → (b : Bool) → ((n.out == (new_name side 0).out) && nat_le r n.number) ≡ b → opened (new_of side s).resource (cond b (made (n.number - r)) (deeper 1 n)) ≡ n
+    one : (side : SpotKind) (r : ℕ) → count side s ≡ r → (b : Bool) → ((n.out == (new_name side 0).out) && nat_le r n.number) ≡ b → opened (new_of side s).resource (cond b (made (n.number - r)) (deeper 1 n)) ≡ n
     one side r same false is = rw not_first (ap (λ m. record { out = m; number = n.number }) one_less)
     one Importing r same true is =
         let out = is_out 1 (and_left (n.out == 1) (nat_le r n.number) is) in

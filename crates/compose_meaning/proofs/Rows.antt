@@ -4,7 +4,7 @@ use Rattle.std.specs.Prelude.{codes}
 use Rattle.comp_format.specs.declared.types.Primitive.TheVariants as primitive
 use Rattle.comp_entity.specs.Entity.{made, brought, Primitive, RecordOf, Own, Borrow, no_case, labelled, present, Value, Resource, EntityTree, IsType, IsFunc, IsInstance, IsComponent, Entries, no_entry, entry}
 use Rattle.comp_scope.specs.Spaces.{nothing_known}
-use Rattle.compose_writing.specs.Scopes.{Scope, outermost}
+use Rattle.compose_writing.specs.Scopes.{WrittenScope, outermost}
 use Rattle.compose_writing.specs.WriteEntities.{write_entity}
 use Rattle.compose_meaning.specs.Meaning.{Meaning, own_bit, params_bit}
 use Rattle.compose_meaning.specs.Readable.{HasMeaning, behind_all}
@@ -44,11 +44,11 @@ unfolding meaning own_resource behind_all
 component_has = (meaning, (refl, (refl, (λ h. refl)), tt), (refl, (refl, (λ h. absurd cc)), (refl, (refl, (λ h. refl)), tt)), record { imports = refl; exports = refl; made_behind = refl })
 
 -- whatever is written for them
-api_reads : (later : List Scope) (ty : _) → write_entity (IsInstance api) (outermost ∷ []) ≡ Some (later, ty) → IsWritten meaning outermost (nothing_known true) later ty (IsInstance api)
+api_reads : (later : List WrittenScope) (ty : _) → write_entity (IsInstance api) (outermost ∷ []) ≡ Some (later, ty) → IsWritten meaning outermost (nothing_known true) later ty (IsInstance api)
 api_reads later ty h = entity_written meaning outermost (nothing_known true) (IsInstance api) later ty (keeps_nothing meaning) api_has h
 
-nested_reads : (later : List Scope) (ty : _) → write_entity (IsInstance nested) (outermost ∷ []) ≡ Some (later, ty) → IsWritten meaning outermost (nothing_known true) later ty (IsInstance nested)
+nested_reads : (later : List WrittenScope) (ty : _) → write_entity (IsInstance nested) (outermost ∷ []) ≡ Some (later, ty) → IsWritten meaning outermost (nothing_known true) later ty (IsInstance nested)
 nested_reads later ty h = entity_written meaning outermost (nothing_known true) (IsInstance nested) later ty (keeps_nothing meaning) nested_has h
 
-component_reads : (later : List Scope) (ty : _) → write_entity own_resource (outermost ∷ []) ≡ Some (later, ty) → IsWritten meaning outermost (nothing_known true) later ty own_resource
+component_reads : (later : List WrittenScope) (ty : _) → write_entity own_resource (outermost ∷ []) ≡ Some (later, ty) → IsWritten meaning outermost (nothing_known true) later ty own_resource
 component_reads later ty h = entity_written meaning outermost (nothing_known true) own_resource later ty (keeps_nothing meaning) component_has h

@@ -9,7 +9,7 @@ use Rattle.comp_scope.specs.Spaces.{Known, nothing_known, entries_in}
 use Rattle.comp_scope.specs.Closing.{first_mentions, renumbered, mentions_in, numbered}
 use Rattle.comp_scope.specs.Closing.{closed as closed_sides}
 use Rattle.compose_writing.specs.Keys.{mention_outside, holds_there, from_within}
-use Rattle.compose_writing.specs.Scopes.{Scope, knows}
+use Rattle.compose_writing.specs.Scopes.{WrittenScope, knows}
 use Rattle.compose_writing.specs.Scopes.{opened as opened_scope}
 use Rattle.compose_meaning.specs.Meaning.{Meaning, placing, placed_entries, Meant, meant}
 use Rattle.compose_meaning.specs.Stands.{inward, further_out, reach, IsFree, MayBring}
@@ -63,7 +63,7 @@ component_may w own mean key h = one key (and_right (mean.may_mention key) (is_f
     one (OfResource r) h = absurd cc
     one (OfPlace n) h = value_mentions (placing mean.resource) 0 (mean.tree n) ∙ not_true (mentions_resource (Value (mean.tree n))) h
 
-pub closed_brings : (u w : ℕ) (inner_may : Mention → Bool) (mean inner : Mention → Meant) (ms : List Scope) (ks : List Known) → Shifts u (knows ms) mean (further_out w inner) → ((key : Mention) → inner_may (inward w key) ≡ true → IsFree (mean key).entity)
+pub closed_brings : (u w : ℕ) (inner_may : Mention → Bool) (mean inner : Mention → Meant) (ms : List WrittenScope) (ks : List Known) → Shifts u (knows ms) mean (further_out w inner) → ((key : Mention) → inner_may (inward w key) ≡ true → IsFree (mean key).entity)
     → MayBring inner_may inner (opened_scope w ∷ ms) (nothing_known true ∷ ks)
 unfolding reach
 closed_brings u w inner_may mean inner ms ks shift mays key up is at = map_some suc (option_and_then (reach ms) (mention_outside w key)) up at (λ n a c. option_and_then_some (reach ms) (mention_outside w key) n a (λ other e f.
@@ -72,7 +72,7 @@ closed_brings u w inner_may mean inner ms ks shift mays key up is at = map_some 
     inr (subst (λ (key : Mention). IsFree (inner key).entity) back (subst IsFree (shift other known).0 (free_placed (deeper u) (mean other).entity (mays other (ap inner_may back ∙ is)))))))
 
 -- what is known in it at its begin
-pub scope_knows : (w : ℕ) (ms : List Scope) (known : Mention → Bool) → ((key : Mention) → knows ms key ≡ known key) → (key : Mention) → knows (opened_scope w ∷ ms) key ≡ from_within w known key
+pub scope_knows : (w : ℕ) (ms : List WrittenScope) (known : Mention → Bool) → ((key : Mention) → knows ms key ≡ known key) → (key : Mention) → knows (opened_scope w ∷ ms) key ≡ from_within w known key
 unfolding knows
 scope_knows w ms known same key = one (mention_outside w key)
   where

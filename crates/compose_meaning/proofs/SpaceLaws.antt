@@ -12,8 +12,8 @@ use Rattle.comp_entity.specs.Bounds.{unbounded, ShapeFault}
 use Rattle.comp_scope.specs.Spaces.{Spaces, Known, Standing, nothing_known}
 use Rattle.comp_scope.specs.Aliases.{width}
 use Rattle.comp_scope.specs.Types.{with_decls, with_decl, with_spaces}
-use Rattle.compose_writing.specs.Keys.{Known as KnownThings, At, Index, InInstance}
-use Rattle.compose_writing.specs.Scopes.{Scope, add, add_instance, on_top}
+use Rattle.compose_writing.specs.Keys.{KnownThings, At, Index, InInstance}
+use Rattle.compose_writing.specs.Scopes.{WrittenScope, add, add_instance, on_top}
 use Rattle.compose_meaning.specs.Meaning.{Meant}
 use Rattle.compose_meaning.specs.Stands.{Grown, AllGrown, spaces_of, Stands, exports_of, at_path, at_place, further_out, Knows, AllKnow, Kept}
 use Rattle.compose_meaning.proofs.ListLaws.{get_before, get_last, length_more}
@@ -70,11 +70,11 @@ decls_push outer k (tree.more first ds) d = one (λ n. decls_push outer n ds d) 
 abbrev pub Turns : DeclTree → Known → Known → List Spaces → Type 0
 Turns d k later around = (outer : List Spaces) → AllGrown around outer → with_decl unbounded outer k d ≡ Ok later
 
-pub reads_on : (m : Scope) (k later : Known) (around : List Spaces) (d : DeclTree) → Stands m k around → Turns d k later around
+pub reads_on : (m : WrittenScope) (k later : Known) (around : List Spaces) (d : DeclTree) → Stands m k around → Turns d k later around
     → (outer : List Spaces) → AllGrown around outer → with_decls unbounded outer (nothing_known k.spaces.is_closed) (tree.with_decl m.decls d) ≡ Ok later
 reads_on m k later around d h step outer g = decls_push outer (nothing_known k.spaces.is_closed) m.decls d ∙ ap (λ (r : Result Known ShapeFault). r >>= λ n. with_decl unbounded outer n d) (h.reads outer g) ∙ step outer g
 
-pub stands_type : (m : Scope) (k : Known) (around : List Spaces) (d : DeclTree) (s : Standing) → Stands m k around → Turns d k (with_type k s) around
+pub stands_type : (m : WrittenScope) (k : Known) (around : List Spaces) (d : DeclTree) (s : Standing) → Stands m k around → Turns d k (with_type k s) around
     → Stands (add d m).0 (with_type k s) around
 stands_type m k around d s h step = record {
   reads = reads_on m k (with_type k s) around d h step;
@@ -89,11 +89,11 @@ pub place_grown : (s t : Spaces) → Grown s t → (at : At) (e : Standing) → 
 place_grown s t g (Index i) e h = g.types i e h
 place_grown s t g (InInstance from path) e h = option_and_then_some _ (slice_get s.instances from) e h (λ x a b. ap (option_and_then (λ (i : Standing). option_and_then (at_path path) (exports_of i))) (g.instances from x a) ∙ b)
 
-pub knows_grown : (d : ℕ) (means : Mention → Meant) (m : Scope) (k l : Known) → Grown k.spaces l.spaces → Knows d means m k → Knows d means m l
+pub knows_grown : (d : ℕ) (means : Mention → Meant) (m : WrittenScope) (k l : Known) → Grown k.spaces l.spaces → Knows d means m k → Knows d means m l
 knows_grown d means m k l g knew key at h = let x = knew key at h in (x.0, place_grown k.spaces l.spaces g at x.0 x.1, x.2)
 
 -- the same is known where scopes have grown
-pub all_know_grown : (d : ℕ) (means : Mention → Meant) (ms : List Scope) (ks ls : List Known) → AllGrown (spaces_of ks) (spaces_of ls) → AllKnow d means ms ks → AllKnow d means ms ls
+pub all_know_grown : (d : ℕ) (means : Mention → Meant) (ms : List WrittenScope) (ks ls : List Known) → AllGrown (spaces_of ks) (spaces_of ls) → AllKnow d means ms ks → AllKnow d means ms ls
 all_know_grown d means [] [] [] g k = tt
 all_know_grown d means [] [] (l ∷ ls) g k = elim g [ ]
 all_know_grown d means [] (k' ∷ ks) ls g k = elim k [ ]
@@ -107,7 +107,7 @@ all_know_grown d means (m ∷ ms) (k' ∷ ks) (l ∷ ls) g k = (
 -- ---- what stays, and what is said
 
 -- what each scope knows, and how many scopes of names it counts as
-abbrev pub shells : List Scope → List (ℕ × KnownThings)
+abbrev pub shells : List WrittenScope → List (ℕ × KnownThings)
 shells ms = map (λ m. (m.width, m.known)) ms
 
 -- the imports and exports of each scope, and what it has brought and made
@@ -124,7 +124,7 @@ abbrev pub heads_of : List Known → List Head
 heads_of ks = map head_of ks
 
 -- what was written leaves all that stood, and says this of the scopes
-pub record Went (d : ℕ) (means : Mention → Meant) (ks : List Known) (ms later : List Scope) (Q : List Known → Type 0) : Type 0 where
+pub record Went (d : ℕ) (means : Mention → Meant) (ks : List Known) (ms later : List WrittenScope) (Q : List Known → Type 0) : Type 0 where
   pub scopes : List Known
   pub grown : AllGrown (spaces_of ks) (spaces_of scopes)
   pub kept : Kept d means later scopes
@@ -132,11 +132,11 @@ pub record Went (d : ℕ) (means : Mention → Meant) (ks : List Known) (ms late
   pub heads : heads_of scopes ≡ heads_of ks
   pub says : Q scopes
 
-pub at_once : (d : ℕ) (means : Mention → Meant) (ks : List Known) (ms : List Scope) (Q : List Known → Type 0) → Kept d means ms ks → Q ks → Went d means ks ms ms Q
+pub at_once : (d : ℕ) (means : Mention → Meant) (ks : List Known) (ms : List WrittenScope) (Q : List Known → Type 0) → Kept d means ms ks → Q ks → Went d means ks ms ms Q
 at_once d means ks ms Q k q = record { scopes = ks; grown = all_grown_refl (spaces_of ks); kept = k; same = refl; heads = refl; says = q }
 
 -- one thing written behind another
-pub then_went : (d : ℕ) (means : Mention → Meant) (ks : List Known) (ms next later : List Scope) (P Q : List Known → Type 0) (w : Went d means ks ms next P) → Went d means w.scopes next later Q → Went d means ks ms later Q
+pub then_went : (d : ℕ) (means : Mention → Meant) (ks : List Known) (ms next later : List WrittenScope) (P Q : List Known → Type 0) (w : Went d means ks ms next P) → Went d means w.scopes next later Q → Went d means ks ms later Q
 then_went d means ks ms next later P Q w v = record {
   scopes = v.scopes;
   grown = all_grown_trans (spaces_of ks) (spaces_of w.scopes) (spaces_of v.scopes) w.grown v.grown;
@@ -147,7 +147,7 @@ then_went d means ks ms next later P Q w v = record {
 }
 
 -- what was said goes on to what follows from it
-pub so : (d : ℕ) (means : Mention → Meant) (ks : List Known) (ms later : List Scope) (P Q : List Known → Type 0) → Went d means ks ms later P → ((ls : List Known) → P ls → Q ls) → Went d means ks ms later Q
+pub so : (d : ℕ) (means : Mention → Meant) (ks : List Known) (ms later : List WrittenScope) (P Q : List Known → Type 0) → Went d means ks ms later P → ((ls : List Known) → P ls → Q ls) → Went d means ks ms later Q
 so d means ks ms later P Q w f = record { scopes = w.scopes; grown = w.grown; kept = w.kept; same = w.same; heads = w.heads; says = f w.scopes w.says }
 
 -- ---- what is said of the innermost scope
@@ -174,18 +174,18 @@ unfoldable pub Adds : DeclTree → Standing → List Known → Type 0
 Adds d s [] = ⊥
 Adds d s (k ∷ around) = Turns d k (with_type k s) (spaces_of around)
 
-pub top_is : (d : DeclTree) (m : Scope) (ms : List Scope) → on_top (add d) (m ∷ ms) ≡ Some ((add d m).0 ∷ ms, (add d m).1)
+pub top_is : (d : DeclTree) (m : WrittenScope) (ms : List WrittenScope) → on_top (add d) (m ∷ ms) ≡ Some ((add d m).0 ∷ ms, (add d m).1)
 unfolding on_top
 top_is d m ms = refl
 
 -- one declaration more that numbers a type
-pub added_type : (d : ℕ) (means : Mention → Meant) (decl : DeclTree) (ms : List Scope) (ks : List Known) (x : List Scope × ℕ) (s : Standing) → Kept d means ms ks → on_top (add decl) ms ≡ Some x → Adds decl s ks
+pub added_type : (d : ℕ) (means : Mention → Meant) (decl : DeclTree) (ms : List WrittenScope) (ks : List Known) (x : List WrittenScope × ℕ) (s : Standing) → Kept d means ms ks → on_top (add decl) ms ≡ Some x → Adds decl s ks
     → Went d means ks ms x.0 (TypeAt x.1 s)
 unfolding on_top Adds TypeAt OnTop
 added_type d means decl [] ks x s k h step = absurd cc
 added_type d means decl (m ∷ ms) [] x s k h step = elim step [ ]
 added_type d means decl (m ∷ ms) (t ∷ ks) x s k h step =
-    subst (λ (x : List Scope × ℕ). Went d means (t ∷ ks) (m ∷ ms) x.0 (TypeAt x.1 s)) (same_Some _ _ h)
+    subst (λ (x : List WrittenScope × ℕ). Went d means (t ∷ ks) (m ∷ ms) x.0 (TypeAt x.1 s)) (same_Some _ _ h)
     (record {
       scopes = with_type t s ∷ ks;
       grown = (grown_type t s, all_grown_refl (spaces_of ks));
@@ -196,7 +196,7 @@ added_type d means decl (m ∷ ms) (t ∷ ks) x s k h step =
     })
 
 -- one more that numbers an instance
-stands_instance : (m : Scope) (k : Known) (around : List Spaces) (from : ℕ) (name : List ℕ) (s : Standing) → Stands m k around → Turns (tree.Aliased (alias.Export sort.Instance from name)) k (with_instance k s) around
+stands_instance : (m : WrittenScope) (k : Known) (around : List Spaces) (from : ℕ) (name : List ℕ) (s : Standing) → Stands m k around → Turns (tree.Aliased (alias.Export sort.Instance from name)) k (with_instance k s) around
     → Stands (add_instance from name m).0 (with_instance k s) around
 stands_instance m k around from name s h step = record {
   reads = reads_on m k (with_instance k s) around (tree.Aliased (alias.Export sort.Instance from name)) h step;
@@ -205,7 +205,7 @@ stands_instance m k around from name s h step = record {
   core_types = h.core_types;
 }
 
-pub added_instance : (d : ℕ) (means : Mention → Meant) (from : ℕ) (name : List ℕ) (m : Scope) (ms : List Scope) (k : Known) (ks : List Known) (s : Standing) → Kept d means (m ∷ ms) (k ∷ ks)
+pub added_instance : (d : ℕ) (means : Mention → Meant) (from : ℕ) (name : List ℕ) (m : WrittenScope) (ms : List WrittenScope) (k : Known) (ks : List Known) (s : Standing) → Kept d means (m ∷ ms) (k ∷ ks)
     → Turns (tree.Aliased (alias.Export sort.Instance from name)) k (with_instance k s) (spaces_of ks) → Kept d means ((add_instance from name m).0 ∷ ms) (with_instance k s ∷ ks)
 added_instance d means from name m ms k ks s kept step = record {
   stand = (stands_instance m k (spaces_of ks) from name s kept.stand.0 step, kept.stand.1);

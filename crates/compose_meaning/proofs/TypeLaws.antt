@@ -13,12 +13,12 @@ use Rattle.comp_scope.specs.Spaces.{Known, nothing_known, entries_in}
 use Rattle.comp_scope.specs.Closing.{closed as closed_sides}
 use Rattle.comp_scope.specs.Types.{with_type, with_decls, with_spaces}
 use Rattle.compose_writing.specs.Keys.{from_within}
-use Rattle.compose_writing.specs.Scopes.{Scope, closed, knows}
+use Rattle.compose_writing.specs.Scopes.{WrittenScope, closed, knows}
 use Rattle.compose_writing.specs.Scopes.{opened as opened_scope}
 use Rattle.compose_writing.specs.WriteEntities.{write_entries, write_instance, write_component}
 use Rattle.compose_meaning.specs.Meaning.{Meaning, meant}
 use Rattle.compose_meaning.specs.Stands.{AllGrown, spaces_of, Kept}
-use Rattle.compose_meaning.specs.Readable.{Side, Importing, Exporting, Spot, within, first_spot, in_component_type, exports_spot, HasMeaning}
+use Rattle.compose_meaning.specs.Readable.{SpotKind, Importing, Exporting, Spot, within, first_spot, in_component_type, exports_spot, HasMeaning}
 use Rattle.compose_meaning.specs.Shows.{AllShow}
 use Rattle.compose_meaning.specs.Described.{Describing, count}
 use Rattle.compose_meaning.specs.Keeps.{Keeps, spot_of, with_one_type, IsNextType}
@@ -41,7 +41,7 @@ unfolding Adds with_decls AddsOne
 adds_one t ty k h = bound (with_type unbounded [] k.spaces t) (λ s. Ok (with_spaces k s)) (with_spaces k (with_one_type k.spaces ty)) (h [] tt) (λ s a b. a ∙ ap (λ (k : Known). as_result k.spaces) (same_ok _ _ b))
 
 -- where what is written leaves what stood, and adds
-stays_with : (mean : Meaning) (ks : List Known) (ms later : List Scope) (Q : List Known → Type 0) (w : Written mean ks ms later (λ ls. Unit {0})) → Q w.scopes → Written mean ks ms later Q
+stays_with : (mean : Meaning) (ks : List Known) (ms later : List WrittenScope) (Q : List Known → Type 0) (w : Written mean ks ms later (λ ls. Unit {0})) → Q w.scopes → Written mean ks ms later Q
 stays_with mean ks ms later Q w q = record { scopes = w.scopes; grown = w.grown; kept = w.kept; same = w.same; heads = w.heads; says = q }
 
 -- by the index of a type that is added
@@ -50,11 +50,11 @@ described_last : (mean : Meaning) (p : Spot) (ty : TypeRef) (e : EntityTree) (k 
 unfolding Describes TypeAt OnTop
 described_last mean p ty e k t same step = step (with_spaces k (with_one_type k.spaces t) ∷ []) (get_last k.spaces.types (IsType t, true)) (one p.side same)
   where
-    one : (side : Side) → count side k.spaces ≡ p.resources → count side (with_one_type k.spaces t) ≡ p.resources
+    one : (side : SpotKind) → count side k.spaces ≡ p.resources → count side (with_one_type k.spaces t) ≡ p.resources
     one Importing same = same
     one Exporting same = same
 
-pub instance_written : (mean : Meaning) (m : Scope) (k : Known) (es : Entries) (later : List Scope) (decls : Decls) → Keeps mean m k → HasMeaning mean (spot_of m k) (IsInstance es) → write_instance es (m ∷ []) ≡ Some (later, decls) → IsNextType mean m k later (tree.Instance decls) description.Instance (IsInstance es)
+pub instance_written : (mean : Meaning) (m : WrittenScope) (k : Known) (es : Entries) (later : List WrittenScope) (decls : Decls) → Keeps mean m k → HasMeaning mean (spot_of m k) (IsInstance es) → write_instance es (m ∷ []) ≡ Some (later, decls) → IsNextType mean m k later (tree.Instance decls) description.Instance (IsInstance es)
 unfolding closed around_stays AddsOne
 instance_written mean m k es later decls keeps has h = option_and_then_some closed (write_entries tree.Export es (opened_scope 0 ∷ m ∷ [])) (later, decls) h (λ mid a b.
     go mid (entries_read (within (spot_of m k) mean) (first_spot Exporting (knows (m ∷ []))) es (opened_scope 0 ∷ m ∷ []) (nothing_known false) (k ∷ []) mid
@@ -64,7 +64,7 @@ instance_written mean m k es later decls keeps has h = option_and_then_some clos
     inner : Meaning
     inner = within (spot_of m k) mean
 
-    went : (n : Scope) (next : List Scope) (e : Entered inner (first_spot Exporting (knows (m ∷ []))) es (nothing_known false) (k ∷ []) (opened_scope 0 ∷ m ∷ []) (n ∷ next))
+    went : (n : WrittenScope) (next : List WrittenScope) (e : Entered inner (first_spot Exporting (knows (m ∷ []))) es (nothing_known false) (k ∷ []) (opened_scope 0 ∷ m ∷ []) (n ∷ next))
         → Written mean (k ∷ []) (m ∷ []) next (Adds (tree.Ty (tree.Instance n.decls)) (IsType (Instance (entries_in e.top.exports)), true))
     went n next e = stays_with mean (k ∷ []) (m ∷ []) next _ (around_stays mean (m ∷ []) (k ∷ []) 0 n next e.top e.rest (meant inner) (kept_of mean m k keeps) e.kept e.grown e.tails e.heads) (one e.rest e.grown e.kept)
       where
@@ -72,7 +72,7 @@ instance_written mean m k es later decls keeps has h = option_and_then_some clos
         one [] grown kept = elim grown [ ]
         one (t ∷ rest) grown kept = instance_adds n e.top t rest kept.stand.0 e.is_closed
 
-    ends : (n : Scope) (next : List Scope) (e : Entered inner (first_spot Exporting (knows (m ∷ []))) es (nothing_known false) (k ∷ []) (opened_scope 0 ∷ m ∷ []) (n ∷ next)) → write_instance es (m ∷ []) ≡ Some (next, n.decls) → IsNextType mean m k next (tree.Instance n.decls) description.Instance (IsInstance es)
+    ends : (n : WrittenScope) (next : List WrittenScope) (e : Entered inner (first_spot Exporting (knows (m ∷ []))) es (nothing_known false) (k ∷ []) (opened_scope 0 ∷ m ∷ []) (n ∷ next)) → write_instance es (m ∷ []) ≡ Some (next, n.decls) → IsNextType mean m k next (tree.Instance n.decls) description.Instance (IsInstance es)
     ends n next e h =
         let g = goes_on mean m k next (Adds (tree.Ty (tree.Instance n.decls)) (IsType (Instance (entries_in e.top.exports)), true)) keeps (went n next e) in
         let fs : Entries = entries_in e.top.exports in
@@ -88,11 +88,11 @@ instance_written mean m k es later decls keeps has h = option_and_then_some clos
           };
         }
 
-    go : (mid : List Scope) → Entered inner (first_spot Exporting (knows (m ∷ []))) es (nothing_known false) (k ∷ []) (opened_scope 0 ∷ m ∷ []) mid → closed mid ≡ Some (later, decls) → IsNextType mean m k later (tree.Instance decls) description.Instance (IsInstance es)
+    go : (mid : List WrittenScope) → Entered inner (first_spot Exporting (knows (m ∷ []))) es (nothing_known false) (k ∷ []) (opened_scope 0 ∷ m ∷ []) mid → closed mid ≡ Some (later, decls) → IsNextType mean m k later (tree.Instance decls) description.Instance (IsInstance es)
     go [] e b = absurd cc
-    go (n ∷ next) e b = subst (λ (x : List Scope × Decls). IsNextType mean m k x.0 (tree.Instance x.1) description.Instance (IsInstance es)) (same_Some _ _ b) (ends n next e (h ∙ sym b))
+    go (n ∷ next) e b = subst (λ (x : List WrittenScope × Decls). IsNextType mean m k x.0 (tree.Instance x.1) description.Instance (IsInstance es)) (same_Some _ _ b) (ends n next e (h ∙ sym b))
 
-pub component_written : (mean : Meaning) (m : Scope) (k : Known) (is es : Entries) (later : List Scope) (decls : Decls) → Keeps mean m k → HasMeaning mean (spot_of m k) (IsComponent is es) → write_component is es (m ∷ []) ≡ Some (later, decls) → IsNextType mean m k later (tree.Component decls) description.Component (IsComponent is es)
+pub component_written : (mean : Meaning) (m : WrittenScope) (k : Known) (is es : Entries) (later : List WrittenScope) (decls : Decls) → Keeps mean m k → HasMeaning mean (spot_of m k) (IsComponent is es) → write_component is es (m ∷ []) ≡ Some (later, decls) → IsNextType mean m k later (tree.Component decls) description.Component (IsComponent is es)
 unfolding closed around_stays AddsOne
 component_written mean m k is es later decls keeps has h = option_and_then_some closed (option_and_then (write_entries tree.Export es) (write_entries tree.Import is (opened_scope 2 ∷ m ∷ []))) (later, decls) h (λ end a b.
     option_and_then_some (write_entries tree.Export es) (write_entries tree.Import is (opened_scope 2 ∷ m ∷ [])) end a (λ mid c d.
@@ -107,16 +107,16 @@ component_written mean m k is es later decls keeps has h = option_and_then_some 
     known : Mention → Bool
     known = from_within 2 (knows (m ∷ []))
 
-    imports : (mid : List Scope) → write_entries tree.Import is (opened_scope 2 ∷ m ∷ []) ≡ Some mid → Entered inner (first_spot Importing known) is (nothing_known true) (k ∷ []) (opened_scope 2 ∷ m ∷ []) mid
+    imports : (mid : List WrittenScope) → write_entries tree.Import is (opened_scope 2 ∷ m ∷ []) ≡ Some mid → Entered inner (first_spot Importing known) is (nothing_known true) (k ∷ []) (opened_scope 2 ∷ m ∷ []) mid
     imports mid c = entries_read inner (first_spot Importing known) is (opened_scope 2 ∷ m ∷ []) (nothing_known true) (k ∷ []) mid
         (component_kept mean own (m ∷ []) (k ∷ []) (kept_of mean m k keeps)) (component_ready mean own (m ∷ []) (k ∷ []) (kept_of mean m k keeps)) (scope_at 2 Importing true (spot_of m k) (m ∷ []) (λ key. refl)) (component_older own mean Importing (knows (m ∷ []))) has.1 c
 
-    exports : (mid end : List Scope) (first : Entered inner (first_spot Importing known) is (nothing_known true) (k ∷ []) (opened_scope 2 ∷ m ∷ []) mid) → write_entries tree.Export es mid ≡ Some end
+    exports : (mid end : List WrittenScope) (first : Entered inner (first_spot Importing known) is (nothing_known true) (k ∷ []) (opened_scope 2 ∷ m ∷ []) mid) → write_entries tree.Export es mid ≡ Some end
         → Entered inner (exports_spot inner (first_spot Importing known) is) es first.top first.rest mid end
     exports mid end first c = entries_read inner (exports_spot inner (first_spot Importing known) is) es mid first.top first.rest end first.kept (record { is_open = top_open first.top first.rest; brings = first.brings })
         (exports_at inner known is (k ∷ []) (opened_scope 2 ∷ m ∷ []) mid first) (exports_older own mean (knows (m ∷ [])) is (entries_orderly inner (first_spot Importing known) is has.1) has.3.made_behind) has.2 c
 
-    ends : (n : Scope) (next mid : List Scope) (first : Entered inner (first_spot Importing known) is (nothing_known true) (k ∷ []) (opened_scope 2 ∷ m ∷ []) mid)
+    ends : (n : WrittenScope) (next mid : List WrittenScope) (first : Entered inner (first_spot Importing known) is (nothing_known true) (k ∷ []) (opened_scope 2 ∷ m ∷ []) mid)
         → Entered inner (exports_spot inner (first_spot Importing known) is) es first.top first.rest mid (n ∷ next) → write_component is es (m ∷ []) ≡ Some (next, n.decls) → IsNextType mean m k next (tree.Component n.decls) description.Component (IsComponent is es)
     ends n next mid first second h =
         let fs : Entries = (closed_sides second.top).imports in
@@ -139,13 +139,13 @@ component_written mean m k is es later decls keeps has h = option_and_then_some 
           };
         }
       where
-        one : (n : Scope) (next mid : List Scope) (first : Entered inner (first_spot Importing known) is (nothing_known true) (k ∷ []) (opened_scope 2 ∷ m ∷ []) mid) (second : Entered inner (exports_spot inner (first_spot Importing known) is) es first.top first.rest mid (n ∷ next))
+        one : (n : WrittenScope) (next mid : List WrittenScope) (first : Entered inner (first_spot Importing known) is (nothing_known true) (k ∷ []) (opened_scope 2 ∷ m ∷ []) mid) (second : Entered inner (exports_spot inner (first_spot Importing known) is) es first.top first.rest mid (n ∷ next))
             (rest : List Known) → AllGrown (spaces_of (k ∷ [])) (spaces_of rest) → Kept 0 (meant inner) (n ∷ next) (second.top ∷ rest)
             → Adds (tree.Ty (tree.Component n.decls)) (IsType (Component (closed_sides second.top).imports (closed_sides second.top).exports), true) rest
         one n next mid first second [] grown kept = elim grown [ ]
         one n next mid first second (t ∷ rest) grown kept = component_adds n second.top t rest kept.stand.0 (second.is_closed ∙ first.is_closed)
 
-    go : (end mid : List Scope) (first : Entered inner (first_spot Importing known) is (nothing_known true) (k ∷ []) (opened_scope 2 ∷ m ∷ []) mid) → Entered inner (exports_spot inner (first_spot Importing known) is) es first.top first.rest mid end
+    go : (end mid : List WrittenScope) (first : Entered inner (first_spot Importing known) is (nothing_known true) (k ∷ []) (opened_scope 2 ∷ m ∷ []) mid) → Entered inner (exports_spot inner (first_spot Importing known) is) es first.top first.rest mid end
         → closed end ≡ Some (later, decls) → IsNextType mean m k later (tree.Component decls) description.Component (IsComponent is es)
     go [] mid first second b = absurd cc
-    go (n ∷ next) mid first second b = subst (λ (x : List Scope × Decls). IsNextType mean m k x.0 (tree.Component x.1) description.Component (IsComponent is es)) (same_Some _ _ b) (ends n next mid first second (h ∙ sym b))
+    go (n ∷ next) mid first second b = subst (λ (x : List WrittenScope × Decls). IsNextType mean m k x.0 (tree.Component x.1) description.Component (IsComponent is es)) (same_Some _ _ b) (ends n next mid first second (h ∙ sym b))

@@ -17,7 +17,7 @@ use Rattle.comp_entity.specs.Bounds.{ShapeFault}
 use Rattle.comp_scope.specs.Spaces.{Spaces, Known, Standing, at_index, item_or_fault, added, is_named, entity_is_named}
 use Rattle.comp_scope.specs.Values.{as_value, as_resource, part_of, payload_of, resource_of, parts_of, fields_of, cases_of, value_of}
 use Rattle.comp_scope.specs.Types.{with_decls}
-use Rattle.compose_writing.specs.Scopes.{Scope, Wrote, wrote_as, add_type, on_top, type_index}
+use Rattle.compose_writing.specs.Scopes.{WrittenScope, Wrote, wrote_as, add_type, on_top, type_index}
 use Rattle.compose_writing.specs.WriteValues.{then_defined, named_part, write_defined, write_parts, write_fields, write_cases, write_payload, write_value}
 use Rattle.compose_meaning.specs.Meaning.{Meaning, placing, placed_value, Meant, meant, Means, place_bit, own_bit, parts_bit, cases_bit, payload_bit, value_bit, IsNamed, OneTree, OneTrees, OneTreeCases, OneTreePayload}
 use Rattle.compose_meaning.specs.Stands.{Grown, AllGrown, spaces_of, Kept, MayBring}
@@ -133,15 +133,15 @@ plain_named (Borrow r) h = refl
 -- ---- what is ready to be written into
 
 -- scopes are open, and what may be mentioned may be brought in
-pub record Ready (mean : Meaning) (ms : List Scope) (ks : List Known) : Type 0 where
+pub record Ready (mean : Meaning) (ms : List WrittenScope) (ks : List Known) : Type 0 where
   pub is_open : OnTop (λ s. Unit {0}) ks
   pub brings : MayBring mean.may_mention (meant mean) ms ks
 
 module _ (mean : Meaning) where
-  abbrev pub Written : List Known → List Scope → List Scope → (List Known → Type 0) → Type 0
+  abbrev pub Written : List Known → List WrittenScope → List WrittenScope → (List Known → Type 0) → Type 0
   Written ks ms later Q = Went 0 (meant mean) ks ms later Q
 
-  pub still_ready : (ks : List Known) (ms later : List Scope) (Q : List Known → Type 0) → Ready mean ms ks → (w : Written ks ms later Q) → Ready mean later w.scopes
+  pub still_ready : (ks : List Known) (ms later : List WrittenScope) (Q : List Known → Type 0) → Ready mean ms ks → (w : Written ks ms later Q) → Ready mean later w.scopes
   unfolding OnTop
   still_ready ks ms later Q r w = record { is_open = one ks w.scopes w.grown r.is_open; brings = still_brings mean.may_mention (meant mean) ms later ks w.scopes w.same w.grown r.brings }
     where
@@ -179,7 +179,7 @@ module _ (mean : Meaning) where
   defined_adds d t (k ∷ ks) h = (h.0, h.2, h.3, (λ outer g. rw h.1 refl))
 
   -- what was written for a type of values, behind the others
-  pub then_defined_reads : (t : ValueTree) (ms : List Scope) (ks : List Known) (x : List Scope × ℕ) → ((y : List Scope × DefinedType) → write_defined t ms ≡ Some y → Written ks ms y.0 (DefinedIs y.1 t)) → then_defined (write_defined t ms) ≡ Some x
+  pub then_defined_reads : (t : ValueTree) (ms : List WrittenScope) (ks : List Known) (x : List WrittenScope × ℕ) → ((y : List WrittenScope × DefinedType) → write_defined t ms ≡ Some y → Written ks ms y.0 (DefinedIs y.1 t)) → then_defined (write_defined t ms) ≡ Some x
       → (what : ValueTree) × (plain_value what ≡ placed_value mean t) × (place_of what ≡ None) × Written ks ms x.0 (TypeAt x.1 (IsType (Value what), own_bit mean.bit t))
   then_defined_reads t ms ks x own h = option_and_then_some _ (wrote_as tree.Defined (write_defined t ms)) x h (λ z a b. wrote_some tree.Defined (write_defined t ms) z a (λ y e f.
       let w = own y e in
@@ -188,7 +188,7 @@ module _ (mean : Meaning) where
         adds.1,
         adds.2,
         then_went 0 (meant mean) ks ms y.0 x.0 _ _ w
-            (added_type 0 (meant mean) (tree.Ty (tree.Defined y.1)) y.0 w.scopes x _ w.kept (subst (λ (z : List Scope × TypeTree). on_top (add_type z.1) z.0 ≡ Some x) (sym f) b) adds.3),
+            (added_type 0 (meant mean) (tree.Ty (tree.Defined y.1)) y.0 w.scopes x _ w.kept (subst (λ (z : List WrittenScope × TypeTree). on_top (add_type z.1) z.0 ≡ Some x) (sym f) b) adds.3),
       )))
 
   index_part : (i : ℕ) (t what : ValueTree) (b : Bool) → plain_value what ≡ placed_value mean t → (b && is_named what) ≡ value_bit mean.bit t → (ks : List Known) → TypeAt i (IsType (Value what), b) ks → PartIs (value.Index i) t ks
@@ -197,28 +197,28 @@ module _ (mean : Meaning) where
   index_part i t what b is bit (k ∷ ks) h = (what, rw h (ap (λ b. Ok (what, b)) bit), is)
 
   -- a part of another type
-  pub named_reads : (t : ValueTree) (o : Option Name) → place_of t ≡ o → (ms : List Scope) (ks : List Known) (x : List Scope × ValType) → Kept 0 (meant mean) ms ks → Ready mean ms ks → IsNamed mean t o
-      → ((y : List Scope × DefinedType) → write_defined t ms ≡ Some y → Written ks ms y.0 (DefinedIs y.1 t)) → named_part o (write_defined t ms) ms ≡ Some x → Written ks ms x.0 (PartIs x.1 t)
+  pub named_reads : (t : ValueTree) (o : Option Name) → place_of t ≡ o → (ms : List WrittenScope) (ks : List Known) (x : List WrittenScope × ValType) → Kept 0 (meant mean) ms ks → Ready mean ms ks → IsNamed mean t o
+      → ((y : List WrittenScope × DefinedType) → write_defined t ms ≡ Some y → Written ks ms y.0 (DefinedIs y.1 t)) → named_part o (write_defined t ms) ms ≡ Some x → Written ks ms x.0 (PartIs x.1 t)
   named_reads t (Some n) place ms ks x k r named own h = wrote_some value.Index (type_index (OfPlace n) ms) x h (λ y a b.
       let w = index_reads mean.may_mention (meant mean) (OfPlace n) ms ks y k r.brings named.0 a in
       let v = type_value (placed_value mean (mean.tree n)) w.0 w.1.ty w.1.is_type (means_here (meant mean (OfPlace n)) w.0 w.1) in
       let is : plain_value v.0 ≡ placed_value mean t = v.2 ∙ ap (placed_value mean) (sym named.1) ∙ value_twice (placing mean.resource) without_places (placing mean.resource) (placing_bare mean.resource) 0 t in
       let bit : (w.0.1 && is_named v.0) ≡ value_bit mean.bit t = ap (λ b. w.0.1 && b) (ap entity_is_named (sym v.1) ∙ w.1.is_named) ∙ and_true w.0.1 ∙ w.1.bit ∙ ap (λ o. place_bit mean.bit o (own_bit mean.bit t && is_named t)) (sym place) in
       let at : (ls : List Known) → TypeAt y.1 w.0 ls → TypeAt y.1 (IsType (Value v.0), w.0.1) ls = λ ls. subst (λ e. TypeAt y.1 (e, w.0.1) ls) v.1 in
-      subst (λ (x : List Scope × ValType). Written ks ms x.0 (PartIs x.1 t)) b
+      subst (λ (x : List WrittenScope × ValType). Written ks ms x.0 (PartIs x.1 t)) b
       (so 0 (meant mean) ks ms y.0 _ _ w.2 (λ ls h. index_part y.1 t v.0 w.0.1 is bit ls (at ls h))))
   named_reads t None place ms ks x k r named own h = wrote_some value.Index (then_defined (write_defined t ms)) x h (λ y a b.
       let w = then_defined_reads t ms ks y own a in
       let same : is_named w.0 ≡ is_named t = sym (plain_named w.0 w.2) ∙ ap is_named w.1 ∙ unplaced_named mean.resource t place in
       let bit : (own_bit mean.bit t && is_named w.0) ≡ value_bit mean.bit t = ap (λ b. own_bit mean.bit t && b) same ∙ ap (λ o. place_bit mean.bit o (own_bit mean.bit t && is_named t)) (sym place) in
-      subst (λ (x : List Scope × ValType). Written ks ms x.0 (PartIs x.1 t)) b
+      subst (λ (x : List WrittenScope × ValType). Written ks ms x.0 (PartIs x.1 t)) b
       (so 0 (meant mean) ks ms y.0 _ _ w.3 (index_part y.1 t w.0 (own_bit mean.bit t) w.1 bit)))
 
-  part_reads : (t : ValueTree) (ms : List Scope) (ks : List Known) (x : List Scope × ValType) → Kept 0 (meant mean) ms ks → Ready mean ms ks → OneTree mean t
-      → ((y : List Scope × DefinedType) → write_defined t ms ≡ Some y → Written ks ms y.0 (DefinedIs y.1 t)) → write_value t ms ≡ Some x → Written ks ms x.0 (PartIs x.1 t)
+  part_reads : (t : ValueTree) (ms : List WrittenScope) (ks : List Known) (x : List WrittenScope × ValType) → Kept 0 (meant mean) ms ks → Ready mean ms ks → OneTree mean t
+      → ((y : List WrittenScope × DefinedType) → write_defined t ms ≡ Some y → Written ks ms y.0 (DefinedIs y.1 t)) → write_value t ms ≡ Some x → Written ks ms x.0 (PartIs x.1 t)
   unfolding PartIs part_of own_bit
   part_reads (Primitive p) ms ks x k r one own h =
-      subst (λ (x : List Scope × ValType). Written ks ms x.0 (PartIs x.1 (Primitive p))) (same_Some _ _ h)
+      subst (λ (x : List WrittenScope × ValType). Written ks ms x.0 (PartIs x.1 (Primitive p))) (same_Some _ _ h)
       (at_once 0 (meant mean) ks ms _ k (on_top_then _ _ (λ s u. (Primitive p, refl, refl)) ks r.is_open))
   part_reads (TupleOf parts) ms ks x k r one own h = named_reads (TupleOf parts) None refl ms ks x k r tt own h
   part_reads (RecordOf p fields) ms ks x k r one own h = named_reads (RecordOf p fields) p refl ms ks x k r one.0 own h
@@ -289,7 +289,7 @@ module _ (mean : Meaning) where
       bit : s.1 ≡ true
       bit = m.bit
 
-  pub resource_reads : (r : Name) (ms : List Scope) (ks : List Known) (x : List Scope × ℕ) → Kept 0 (meant mean) ms ks → Ready mean ms ks → mean.may_mention (OfResource r) ≡ true → type_index (OfResource r) ms ≡ Some x
+  pub resource_reads : (r : Name) (ms : List WrittenScope) (ks : List Known) (x : List WrittenScope × ℕ) → Kept 0 (meant mean) ms ks → Ready mean ms ks → mean.may_mention (OfResource r) ≡ true → type_index (OfResource r) ms ≡ Some x
       → Written ks ms x.0 (ResourceIs x.1 r)
   resource_reads r ms ks x k ready is h =
       let w = index_reads mean.may_mention (meant mean) (OfResource r) ms ks x k ready.brings is h in
@@ -322,9 +322,9 @@ module _ (mean : Meaning) where
   unfolding PartIs PayloadIs payload_of own_bit
   some_is v t ks h = on_top_then _ _ (λ s a. (present a.0, rw a.1 refl, ap present a.2)) ks h
 
-  primitive_reads : (p : _) (ms : List Scope) (ks : List Known) (x : List Scope × DefinedType) → Kept 0 (meant mean) ms ks → Ready mean ms ks → write_defined (Primitive p) ms ≡ Some x → Written ks ms x.0 (DefinedIs x.1 (Primitive p))
+  primitive_reads : (p : _) (ms : List WrittenScope) (ks : List Known) (x : List WrittenScope × DefinedType) → Kept 0 (meant mean) ms ks → Ready mean ms ks → write_defined (Primitive p) ms ≡ Some x → Written ks ms x.0 (DefinedIs x.1 (Primitive p))
   unfolding write_defined DefinedIs value_of own_bit
-  primitive_reads p ms ks x k r h = subst (λ (x : List Scope × DefinedType). Written ks ms x.0 (DefinedIs x.1 (Primitive p))) (same_Some _ _ h)
+  primitive_reads p ms ks x k r h = subst (λ (x : List WrittenScope × DefinedType). Written ks ms x.0 (DefinedIs x.1 (Primitive p))) (same_Some _ _ h)
       (at_once 0 (meant mean) ks ms _ k (on_top_then _ _ (λ s u. (Primitive p, refl, refl, refl)) ks r.is_open))
 
   no_parts : (ks : List Known) → OnTop (λ s. Unit {0}) ks → PartsAre [] none ks
@@ -344,62 +344,62 @@ module _ (mean : Meaning) where
   no_payload ks h = on_top_then _ _ (λ s u. (absent, refl, refl)) ks h
 
   -- what is written is turned into another form, which says this
-  pub turned : {X Y : Type 0} (f : X → Y) (w : Wrote X) (P : X → List Known → Type 0) (Q : Y → List Known → Type 0) (ms : List Scope) (ks : List Known) (x : List Scope × Y)
-      → ((y : List Scope × X) → w ≡ Some y → Written ks ms y.0 (P y.1)) → ((y : X) (ls : List Known) → P y ls → Q (f y) ls) → wrote_as f w ≡ Some x → Written ks ms x.0 (Q x.1)
+  pub turned : {X Y : Type 0} (f : X → Y) (w : Wrote X) (P : X → List Known → Type 0) (Q : Y → List Known → Type 0) (ms : List WrittenScope) (ks : List Known) (x : List WrittenScope × Y)
+      → ((y : List WrittenScope × X) → w ≡ Some y → Written ks ms y.0 (P y.1)) → ((y : X) (ls : List Known) → P y ls → Q (f y) ls) → wrote_as f w ≡ Some x → Written ks ms x.0 (Q x.1)
   turned f w P Q ms ks x reads step h = wrote_some f w x h (λ y a b.
-      subst (λ (x : List Scope × _). Written ks ms x.0 (Q x.1)) b (so 0 (meant mean) ks ms y.0 _ _ (reads y a) (step y.1)))
+      subst (λ (x : List WrittenScope × _). Written ks ms x.0 (Q x.1)) b (so 0 (meant mean) ks ms y.0 _ _ (reads y a) (step y.1)))
 
   -- one thing is written behind another
-  pub behind : {X Y Z : Type 0} (join : X → Y → Z) (w : Wrote X) (f : List Scope → Wrote Y) (P : X → List Known → Type 0) (Q : Y → List Known → Type 0) (R : Z → List Known → Type 0) (ms : List Scope) (ks : List Known) (x : List Scope × Z)
-      → Ready mean ms ks → ((y : List Scope × X) → w ≡ Some y → Written ks ms y.0 (P y.1))
-      → ((next : List Scope) (ls : List Known) (z : List Scope × Y) → Kept 0 (meant mean) next ls → Ready mean next ls → f next ≡ Some z → Written ls next z.0 (Q z.1))
+  pub behind : {X Y Z : Type 0} (join : X → Y → Z) (w : Wrote X) (f : List WrittenScope → Wrote Y) (P : X → List Known → Type 0) (Q : Y → List Known → Type 0) (R : Z → List Known → Type 0) (ms : List WrittenScope) (ks : List Known) (x : List WrittenScope × Z)
+      → Ready mean ms ks → ((y : List WrittenScope × X) → w ≡ Some y → Written ks ms y.0 (P y.1))
+      → ((next : List WrittenScope) (ls : List Known) (z : List WrittenScope × Y) → Kept 0 (meant mean) next ls → Ready mean next ls → f next ≡ Some z → Written ls next z.0 (Q z.1))
       → ((y : X) (z : Y) (ls ts : List Known) → AllGrown (spaces_of ls) (spaces_of ts) → P y ls → Q z ts → R (join y z) ts)
       → option_and_then (λ y. wrote_as (join y.1) (f y.0)) w ≡ Some x → Written ks ms x.0 (R x.1)
   behind join w f P Q R ms ks x ready first second step h = option_and_then_some _ w x h (λ y a b. wrote_some (join y.1) (f y.0) x b (λ z d e.
       let one = first y a in
       let two = second y.0 one.scopes z one.kept (still_ready ks ms y.0 _ ready one) d in
-      subst (λ (x : List Scope × _). Written ks ms x.0 (R x.1)) e
+      subst (λ (x : List WrittenScope × _). Written ks ms x.0 (R x.1)) e
       (then_went 0 (meant mean) ks ms y.0 z.0 _ _ one
       (record { scopes = two.scopes; grown = two.grown; kept = two.kept; same = two.same; heads = two.heads; says = step y.1 z.1 one.scopes two.scopes two.grown one.says two.says }))))
 
   mutual
     unfolding write_defined own_bit
 
-    pub defined_reads : (t : ValueTree) (ms : List Scope) (ks : List Known) (x : List Scope × DefinedType) → Kept 0 (meant mean) ms ks → Ready mean ms ks → OneTree mean t → write_defined t ms ≡ Some x
+    pub defined_reads : (t : ValueTree) (ms : List WrittenScope) (ks : List Known) (x : List WrittenScope × DefinedType) → Kept 0 (meant mean) ms ks → Ready mean ms ks → OneTree mean t → write_defined t ms ≡ Some x
         → Written ks ms x.0 (DefinedIs x.1 t)
     defined_reads (Primitive p) ms ks x k r one h = primitive_reads p ms ks x k r h
     defined_reads (TupleOf parts) ms ks x k r one h = turned defined.TupleOf (write_parts parts ms) (λ vs. PartsAre vs parts) (λ d. DefinedIs d (TupleOf parts)) ms ks x (λ y a. parts_reads parts ms ks y k r one a) (λ vs ls. tuple_is vs parts ls) h
     defined_reads (RecordOf p fields) ms ks x k r one h = turned defined.RecordOf (write_fields fields ms) (λ vs. FieldsAre vs fields) (λ d. DefinedIs d (RecordOf p fields)) ms ks x (λ y a. fields_reads fields ms ks y k r one.1 a) (λ vs ls. record_is vs p fields ls) h
     defined_reads (VariantOf p cases) ms ks x k r one h = turned defined.VariantOf (write_cases cases ms) (λ vs. CasesAre vs cases) (λ d. DefinedIs d (VariantOf p cases)) ms ks x (λ y a. cases_reads cases ms ks y k r one.1 a) (λ vs ls. variant_is vs p cases ls) h
     defined_reads (ListOf t) ms ks x k r one h = turned defined.ListOf (write_value t ms) (λ v. PartIs v t) (λ d. DefinedIs d (ListOf t)) ms ks x (λ y a. part_reads t ms ks y k r one (λ z b. defined_reads t ms ks z k r one b) a) (λ v ls. list_is v t ls) h
-    defined_reads (FlagsOf p labels) ms ks x k r one h = subst (λ (x : List Scope × DefinedType). Written ks ms x.0 (DefinedIs x.1 (FlagsOf p labels))) (same_Some _ _ h) (at_once 0 (meant mean) ks ms _ k (flags_are p labels ks r.is_open))
-    defined_reads (EnumOf p labels) ms ks x k r one h = subst (λ (x : List Scope × DefinedType). Written ks ms x.0 (DefinedIs x.1 (EnumOf p labels))) (same_Some _ _ h) (at_once 0 (meant mean) ks ms _ k (enum_is p labels ks r.is_open))
+    defined_reads (FlagsOf p labels) ms ks x k r one h = subst (λ (x : List WrittenScope × DefinedType). Written ks ms x.0 (DefinedIs x.1 (FlagsOf p labels))) (same_Some _ _ h) (at_once 0 (meant mean) ks ms _ k (flags_are p labels ks r.is_open))
+    defined_reads (EnumOf p labels) ms ks x k r one h = subst (λ (x : List WrittenScope × DefinedType). Written ks ms x.0 (DefinedIs x.1 (EnumOf p labels))) (same_Some _ _ h) (at_once 0 (meant mean) ks ms _ k (enum_is p labels ks r.is_open))
     defined_reads (OptionOf t) ms ks x k r one h = turned defined.OptionOf (write_value t ms) (λ v. PartIs v t) (λ d. DefinedIs d (OptionOf t)) ms ks x (λ y a. part_reads t ms ks y k r one (λ z b. defined_reads t ms ks z k r one b) a) (λ v ls. option_is v t ls) h
     defined_reads (ResultOf ok err) ms ks x k r one h = behind defined.ResultOf (write_payload ok ms) (write_payload err) (λ v. PayloadIs v ok) (λ v. PayloadIs v err) (λ d. DefinedIs d (ResultOf ok err)) ms ks x r
         (λ y a. payload_reads ok ms ks y k r one.0 a) (λ next ls z k r a. payload_reads err next ls z k r one.1 a) (λ v w ls ts. result_is v w ok err ls ts) h
     defined_reads (Own n) ms ks x k r one h = turned defined.Own (type_index (OfResource n) ms) (λ i. ResourceIs i n) (λ d. DefinedIs d (Own n)) ms ks x (λ y a. resource_reads n ms ks y k r one a) (λ i ls. own_is i n ls) h
     defined_reads (Borrow n) ms ks x k r one h = turned defined.Borrow (type_index (OfResource n) ms) (λ i. ResourceIs i n) (λ d. DefinedIs d (Borrow n)) ms ks x (λ y a. resource_reads n ms ks y k r one a) (λ i ls. borrow_is i n ls) h
 
-    parts_reads : (ts : ValueTrees) (ms : List Scope) (ks : List Known) (x : List Scope × List ValType) → Kept 0 (meant mean) ms ks → Ready mean ms ks → OneTrees mean ts → write_parts ts ms ≡ Some x → Written ks ms x.0 (PartsAre x.1 ts)
-    parts_reads none ms ks x k r one h = subst (λ (x : List Scope × List ValType). Written ks ms x.0 (PartsAre x.1 none)) (same_Some _ _ h) (at_once 0 (meant mean) ks ms _ k (no_parts ks r.is_open))
+    parts_reads : (ts : ValueTrees) (ms : List WrittenScope) (ks : List Known) (x : List WrittenScope × List ValType) → Kept 0 (meant mean) ms ks → Ready mean ms ks → OneTrees mean ts → write_parts ts ms ≡ Some x → Written ks ms x.0 (PartsAre x.1 ts)
+    parts_reads none ms ks x k r one h = subst (λ (x : List WrittenScope × List ValType). Written ks ms x.0 (PartsAre x.1 none)) (same_Some _ _ h) (at_once 0 (meant mean) ks ms _ k (no_parts ks r.is_open))
     parts_reads (more t ts) ms ks x k r one h = behind (λ v vs. v ∷ vs) (write_value t ms) (write_parts ts) (λ v. PartIs v t) (λ vs. PartsAre vs ts) (λ vs. PartsAre vs (more t ts)) ms ks x r
         (λ y a. part_reads t ms ks y k r one.0 (λ z b. defined_reads t ms ks z k r one.0 b) a) (λ next ls z k r a. parts_reads ts next ls z k r one.1 a) (λ v vs ls us. parts_more v vs t ts ls us) h
 
-    fields_reads : (cs : Cases) (ms : List Scope) (ks : List Known) (x : List Scope × List (List ℕ × ValType)) → Kept 0 (meant mean) ms ks → Ready mean ms ks → OneTreeCases mean cs → write_fields cs ms ≡ Some x → Written ks ms x.0 (FieldsAre x.1 cs)
-    fields_reads no_case ms ks x k r one h = subst (λ (x : List Scope × List (List ℕ × ValType)). Written ks ms x.0 (FieldsAre x.1 no_case)) (same_Some _ _ h) (at_once 0 (meant mean) ks ms _ k (no_fields ks r.is_open))
+    fields_reads : (cs : Cases) (ms : List WrittenScope) (ks : List Known) (x : List WrittenScope × List (List ℕ × ValType)) → Kept 0 (meant mean) ms ks → Ready mean ms ks → OneTreeCases mean cs → write_fields cs ms ≡ Some x → Written ks ms x.0 (FieldsAre x.1 cs)
+    fields_reads no_case ms ks x k r one h = subst (λ (x : List WrittenScope × List (List ℕ × ValType)). Written ks ms x.0 (FieldsAre x.1 no_case)) (same_Some _ _ h) (at_once 0 (meant mean) ks ms _ k (no_fields ks r.is_open))
     fields_reads (labelled label absent cs) ms ks x k r one h = absurd cc
     fields_reads (labelled label (present t) cs) ms ks x k r one h = behind (λ v vs. (label, v) ∷ vs) (write_value t ms) (write_fields cs) (λ v. PartIs v t) (λ vs. FieldsAre vs cs) (λ vs. FieldsAre vs (labelled label (present t) cs)) ms ks x r
         (λ y a. part_reads t ms ks y k r one.0 (λ z b. defined_reads t ms ks z k r one.0 b) a) (λ next ls z k r a. fields_reads cs next ls z k r one.1 a) (λ v vs ls us. fields_more label v vs t cs ls us) h
 
-    cases_reads : (cs : Cases) (ms : List Scope) (ks : List Known) (x : List Scope × List (List ℕ × Option ValType)) → Kept 0 (meant mean) ms ks → Ready mean ms ks → OneTreeCases mean cs → write_cases cs ms ≡ Some x → Written ks ms x.0 (CasesAre x.1 cs)
-    cases_reads no_case ms ks x k r one h = subst (λ (x : List Scope × List (List ℕ × Option ValType)). Written ks ms x.0 (CasesAre x.1 no_case)) (same_Some _ _ h) (at_once 0 (meant mean) ks ms _ k (no_cases ks r.is_open))
+    cases_reads : (cs : Cases) (ms : List WrittenScope) (ks : List Known) (x : List WrittenScope × List (List ℕ × Option ValType)) → Kept 0 (meant mean) ms ks → Ready mean ms ks → OneTreeCases mean cs → write_cases cs ms ≡ Some x → Written ks ms x.0 (CasesAre x.1 cs)
+    cases_reads no_case ms ks x k r one h = subst (λ (x : List WrittenScope × List (List ℕ × Option ValType)). Written ks ms x.0 (CasesAre x.1 no_case)) (same_Some _ _ h) (at_once 0 (meant mean) ks ms _ k (no_cases ks r.is_open))
     cases_reads (labelled label p cs) ms ks x k r one h = behind (λ v vs. (label, v) ∷ vs) (write_payload p ms) (write_cases cs) (λ v. PayloadIs v p) (λ vs. CasesAre vs cs) (λ vs. CasesAre vs (labelled label p cs)) ms ks x r
         (λ y a. payload_reads p ms ks y k r one.0 a) (λ next ls z k r a. cases_reads cs next ls z k r one.1 a) (λ v vs ls us. cases_more label v vs p cs ls us) h
 
-    pub payload_reads : (p : Payload) (ms : List Scope) (ks : List Known) (x : List Scope × Option ValType) → Kept 0 (meant mean) ms ks → Ready mean ms ks → OneTreePayload mean p → write_payload p ms ≡ Some x → Written ks ms x.0 (PayloadIs x.1 p)
-    payload_reads absent ms ks x k r one h = subst (λ (x : List Scope × Option ValType). Written ks ms x.0 (PayloadIs x.1 absent)) (same_Some _ _ h) (at_once 0 (meant mean) ks ms _ k (no_payload ks r.is_open))
+    pub payload_reads : (p : Payload) (ms : List WrittenScope) (ks : List Known) (x : List WrittenScope × Option ValType) → Kept 0 (meant mean) ms ks → Ready mean ms ks → OneTreePayload mean p → write_payload p ms ≡ Some x → Written ks ms x.0 (PayloadIs x.1 p)
+    payload_reads absent ms ks x k r one h = subst (λ (x : List WrittenScope × Option ValType). Written ks ms x.0 (PayloadIs x.1 absent)) (same_Some _ _ h) (at_once 0 (meant mean) ks ms _ k (no_payload ks r.is_open))
     payload_reads (present t) ms ks x k r one h = turned Some (write_value t ms) (λ v. PartIs v t) (λ v. PayloadIs v (present t)) ms ks x (λ y a. part_reads t ms ks y k r one (λ z b. defined_reads t ms ks z k r one b) a) (λ v ls. some_is v t ls) h
 
   -- a value type, as a part of another type
-  pub value_reads : (t : ValueTree) (ms : List Scope) (ks : List Known) (x : List Scope × ValType) → Kept 0 (meant mean) ms ks → Ready mean ms ks → OneTree mean t → write_value t ms ≡ Some x → Written ks ms x.0 (PartIs x.1 t)
+  pub value_reads : (t : ValueTree) (ms : List WrittenScope) (ks : List Known) (x : List WrittenScope × ValType) → Kept 0 (meant mean) ms ks → Ready mean ms ks → OneTree mean t → write_value t ms ≡ Some x → Written ks ms x.0 (PartIs x.1 t)
   value_reads t ms ks x k r one h = part_reads t ms ks x k r one (λ y a. defined_reads t ms ks y k r one a) h

@@ -9,21 +9,21 @@ use Rattle.comp_entity.specs.Names.{in_type}
 use Rattle.comp_scope.specs.Spaces.{Spaces, Known, Standing}
 use Rattle.comp_scope.specs.Descriptions.{NewNames, new_brought, new_made, Described, described}
 use Rattle.compose_meaning.specs.Meaning.{Meaning, named_type}
-use Rattle.compose_meaning.specs.Readable.{Side, Importing, Exporting, Spot, brought_keys, new_resources, behind, IsOlder}
+use Rattle.compose_meaning.specs.Readable.{SpotKind, Importing, Exporting, Spot, brought_keys, new_resources, behind, IsOlder}
 use Rattle.compose_meaning.specs.Shows.{Shows}
 
 -- what is new in an import, or in an export
-abbrev pub new_of : Side → Spaces → NewNames
+abbrev pub new_of : SpotKind → Spaces → NewNames
 new_of Importing = new_brought
 new_of Exporting = new_made
 
 -- the imports, or the exports
-abbrev pub listed : Side → Known → List (List ℕ × Standing)
+abbrev pub listed : SpotKind → Known → List (List ℕ × Standing)
 listed Importing k = k.imports
 listed Exporting k = k.exports
 
 -- how many resources were brought, or made
-abbrev pub count : Side → Spaces → ℕ
+abbrev pub count : SpotKind → Spaces → ℕ
 count Importing s = s.brought.resources
 count Exporting s = s.made.resources
 

@@ -6,24 +6,25 @@ use Rattle.std.specs.Str.{str_eq_ignore_ascii_case}
 use Rattle.comp_entity.specs.Entity.{Name, made, brought, ValueTree, TypeShapeTree, Value, Resource, Func, Instance, Component, EntityTree, IsType, IsFunc, IsInstance, IsComponent, IsModule, IsOwnModule, Entries, no_entry, entry}
 use Rattle.comp_entity.specs.Names.{changing, deeper, outside, value_by, entries_by, Mention, OfResource, OfPlace, in_type, in_entries, resource_at, mentions_resource, counts_at}
 use Rattle.comp_entity.specs.Fits.{place_of}
-use Rattle.comp_entity.specs.Places.{same_mention, names_itself, leaves_in}
+use Rattle.comp_entity.specs.Places.{names_itself}
 use Rattle.comp_scope.specs.Closing.{first_mentions, renumbered}
+use Rattle.compose_writing.specs.Conditions.{with_these}
 use Rattle.compose_writing.specs.Keys.{name_outside, mention_outside, from_within}
 use Rattle.compose_meaning.specs.Meaning.{Meaning, placed_entries, named_type, own_bit, func_bit, IsMentioned, OneTree, OneTreeFunc}
 
 -- an import or an export, and what is new in one is named so
-pub data Side : Type 0 where
-  Importing : Side
-  Exporting : Side
+pub data SpotKind : Type 0 where
+  Importing : SpotKind
+  Exporting : SpotKind
 
-abbrev pub new_name : Side → ℕ → Name
+abbrev pub new_name : SpotKind → ℕ → Name
 new_name Importing n = brought n
 new_name Exporting n = made n
 
 -- Where an entity is imported or exported: how many resources its scope has brought or made, which things are known,
 -- and under which names there are imports or exports already.
 pub record Spot : Type 0 where
-  pub side : Side
+  pub side : SpotKind
   pub resources : ℕ
   pub known : Mention → Bool
   pub names : List (List ℕ)
@@ -87,7 +88,7 @@ pub record IsNumbered (is es : Entries) : Type 0 where
 -- ---- where things stand
 
 -- a scope at its begin, in which what is known around it is known
-abbrev pub first_spot : Side → (Mention → Bool) → Spot
+abbrev pub first_spot : SpotKind → (Mention → Bool) → Spot
 first_spot side known = record { side = side; resources = 0; known = known; names = [] }
 
 -- What is known mentions no resource that is new.
@@ -104,14 +105,20 @@ abbrev pub AreApart : Meaning → (Mention → Bool) → Type 0
 AreApart mean known = (r s : Name) → known (OfResource r) ≡ true → known (OfResource s) ≡ true
     → mean.resource r ≡ mean.resource s → r ≡ s
 
--- ---- what an entity brings
+-- ---- what an entity brings, instances gone into
 
-abbrev pub brought_keys : EntityTree → List Mention
-brought_keys (IsInstance es) = flat_map (λ leaf. names_itself leaf.1) (leaves_in [] es)
-brought_keys e = names_itself e
+abbrev mutual
+  pub brought_keys : EntityTree → List Mention
+  brought_keys (IsType t) = names_itself (IsType t)
+  brought_keys (IsFunc f) = []
+  brought_keys (IsInstance es) = keys_among es
+  brought_keys (IsComponent is es) = []
+  brought_keys (IsModule m) = []
+  brought_keys IsOwnModule = []
 
-abbrev pub with_keys : (Mention → Bool) → List Mention → Mention → Bool
-with_keys known keys key = known key || list_any (λ k. same_mention k key) keys
+  pub keys_among : Entries → List Mention
+  keys_among no_entry = []
+  keys_among (entry name e mark es) = brought_keys e ++ keys_among es
 
 abbrev pub new_resources : Meaning → Spot → EntityTree → ℕ
 new_resources mean p (IsType (Resource r)) = if p.known (OfResource r) then 0 else 1
@@ -123,7 +130,7 @@ abbrev pub behind : Meaning → Spot → List ℕ → EntityTree → Spot
 behind mean p name e = record {
   side = p.side;
   resources = p.resources + new_resources mean p e;
-  known = with_keys p.known (brought_keys e);
+  known = with_these p.known (brought_keys e);
   names = p.names ++ name ∷ [];
 }
 

@@ -10,7 +10,7 @@ use Rattle.comp_scope.specs.Spaces.{KnownCoreType, Spaces, Known, Standing, noth
 use Rattle.comp_scope.specs.Aliases.{width}
 use Rattle.comp_scope.specs.Types.{with_decls}
 use Rattle.compose_writing.specs.Keys.{At, Index, InInstance, known_at, mention_outside}
-use Rattle.compose_writing.specs.Scopes.{Scope}
+use Rattle.compose_writing.specs.Scopes.{WrittenScope}
 use Rattle.compose_meaning.specs.Meaning.{Meant, Means}
 
 -- ---- scopes that grow
@@ -36,7 +36,7 @@ spaces_of ks = map (λ k. k.spaces) ks
 
 -- Within these scopes and any into which they grow, the declarations of a scope stand for this, and the scope counts
 -- its types, instances and core types as they are.
-pub record Stands (m : Scope) (k : Known) (around : List Spaces) : Type 0 where
+pub record Stands (m : WrittenScope) (k : Known) (around : List Spaces) : Type 0 where
   pub reads : (outer : List Spaces) → AllGrown around outer
       → with_decls unbounded outer (nothing_known k.spaces.is_closed) m.decls ≡ Ok k
   pub types : m.types ≡ length k.spaces.types
@@ -44,7 +44,7 @@ pub record Stands (m : Scope) (k : Known) (around : List Spaces) : Type 0 where
   pub core_types : m.core_types ≡ length k.spaces.core_types
 
 -- scopes from the innermost
-abbrev pub AllStand : List Scope → List Known → Type 0
+abbrev pub AllStand : List WrittenScope → List Known → Type 0
 AllStand [] [] = Unit {0}
 AllStand (m ∷ ms) (k ∷ ks) = Stands m k (spaces_of ks) × AllStand ms ks
 AllStand [] (k ∷ ks) = ⊥
@@ -78,11 +78,11 @@ abbrev pub further_out : ℕ → (Mention → Meant) → Mention → Meant
 further_out width means key = means (inward width key)
 
 -- what a scope knows stands where it is known. The scope is so far out of the one whose names are used.
-abbrev pub Knows : ℕ → (Mention → Meant) → Scope → Known → Type 0
+abbrev pub Knows : ℕ → (Mention → Meant) → WrittenScope → Known → Type 0
 Knows distance means m k = (key : Mention) (at : At) → known_at m.known key ≡ Some at
     → (s : Standing) × (at_place k.spaces at ≡ Some s) × Means distance (means key) s
 
-abbrev pub AllKnow : ℕ → (Mention → Meant) → List Scope → List Known → Type 0
+abbrev pub AllKnow : ℕ → (Mention → Meant) → List WrittenScope → List Known → Type 0
 AllKnow distance means [] [] = Unit {0}
 AllKnow distance means (m ∷ ms) (k ∷ ks) =
     Knows distance means m k × AllKnow (distance + width k.spaces) (further_out m.width means) ms ks
@@ -90,7 +90,7 @@ AllKnow distance means [] (k ∷ ks) = ⊥
 AllKnow distance means (m ∷ ms) [] = ⊥
 
 -- Scopes that are written stand for these, from the innermost, and know what things mean in the innermost.
-pub record Kept (distance : ℕ) (means : Mention → Meant) (ms : List Scope) (ks : List Known) : Type 0 where
+pub record Kept (distance : ℕ) (means : Mention → Meant) (ms : List WrittenScope) (ks : List Known) : Type 0 where
   pub stand : AllStand ms ks
   pub know : AllKnow distance means ms ks
 
@@ -101,7 +101,7 @@ abbrev pub reach_in : Option At → Option ℕ → Option ℕ
 reach_in (Some at) further = Some 0
 reach_in None further = option_map suc further
 
-unfoldable pub reach : List Scope → Mention → Option ℕ
+unfoldable pub reach : List WrittenScope → Mention → Option ℕ
 reach [] key = None
 reach (m ∷ ms) key = reach_in (known_at m.known key) (option_and_then (reach ms) (mention_outside m.width key))
 
@@ -117,6 +117,6 @@ IsFree (IsType (Value t)) = mentions_resource (Value t) ≡ false
 IsFree _ = ⊥
 
 -- What may be mentioned is known without a component being left, or is a value type that mentions no resource.
-abbrev pub MayBring : (Mention → Bool) → (Mention → Meant) → List Scope → List Known → Type 0
+abbrev pub MayBring : (Mention → Bool) → (Mention → Meant) → List WrittenScope → List Known → Type 0
 MayBring may means ms ks = (key : Mention) (up : ℕ) → may key ≡ true → reach ms key ≡ Some up
     → StaysWithin up ks ⊎ IsFree (means key).entity

@@ -18,7 +18,7 @@ ghost use Rattle.comp_scope.specs.Spaces.{Known, KnownCoreType, OfModules, Stand
 ghost use Rattle.comp_scope.specs.CoreScopes.{core_type_of};
 ghost use Rattle.comp_scope.specs.Shape.{after_parts};
 ghost use Rattle.compose_writing.specs.Conditions.{is_known};
-ghost use Rattle.compose_writing.specs.Scopes.{Scope, outermost};
+ghost use Rattle.compose_writing.specs.Scopes.{WrittenScope, outermost};
 ghost use Rattle.compose_writing.specs.WriteEntities.{at_end, write_also, write_component, write_entity, write_import, write_instance};
 ghost use Rattle.compose_writing.specs.WriteModules.{write_module};
 ghost use Rattle.compose_meaning.specs.Described.{IsDescribed};
@@ -36,7 +36,7 @@ pub fn nothing_is_written()
 /// What is written for an entity, with all that is written in front of it, is described by the shape's definition as
 /// that entity, with each resource called by the name that it means. All that was known is known where it was.
 pub fn what_is_written_reads_back()
-    ensures { (mean : Meaning) (m : Scope) (k : Known) (e : EntityTree) (later : List Scope) (ty : TypeRef)
+    ensures { (mean : Meaning) (m : WrittenScope) (k : Known) (e : EntityTree) (later : List WrittenScope) (ty : TypeRef)
         → Keeps mean m k
         → HasMeaning mean (spot_of m k) e
         → write_entity e (m ∷ []) ≡ Some (later, ty)
@@ -46,7 +46,7 @@ pub fn what_is_written_reads_back()
 /// An import of what describes an entity is that entity, and each resource and named type that it brings is known from
 /// then on. Two resources that are known are one exactly where they mean one name.
 pub fn an_import_reads_back()
-    ensures { (mean : Meaning) (m : Scope) (k : Known) (name : List ℕ) (e : EntityTree) (ty : TypeRef)
+    ensures { (mean : Meaning) (m : WrittenScope) (k : Known) (name : List ℕ) (e : EntityTree) (ty : TypeRef)
         → Keeps mean m k
         → HasMeaning mean (spot_of m k) e
         → IsDescribed mean (spot_of m k) ty e k.spaces
@@ -56,7 +56,7 @@ pub fn an_import_reads_back()
 
 /// What describes an entity describes it still, where more was written and nothing imported.
 pub fn a_description_lasts()
-    ensures { (mean : Meaning) (m : Scope) (k : Known) (later : List Scope) (ty : TypeRef) (e : EntityTree)
+    ensures { (mean : Meaning) (m : WrittenScope) (k : Known) (later : List WrittenScope) (ty : TypeRef) (e : EntityTree)
         → IsDescribed mean (spot_of m k) ty e k.spaces
         → (more : GoesOn mean m k later)
         → IsDescribed mean (spot_of m k) ty e more.known.spaces }
@@ -64,18 +64,18 @@ pub fn a_description_lasts()
 
 /// A further number of a named type may be known where a type stands that means what the number means.
 pub fn another_number_is_known()
-    ensures { (mean : Meaning) (m : Scope) (k : Known) (n : Name) (from : ℕ) (path : Path) (s : Standing)
+    ensures { (mean : Meaning) (m : WrittenScope) (k : Known) (n : Name) (from : ℕ) (path : Path) (s : Standing)
         → Keeps mean m k
         → at_place k.spaces (at_end from path) ≡ Some s
         → Means 0 (meant mean (OfPlace n)) s
         → AllByRecursion (IsOlder mean (spot_of m k)) (in_value 0 (mean.tree n))
-        → (scope : Scope) × (write_also n from path (m ∷ []) ≡ scope ∷ []) × Keeps mean scope k }
+        → (scope : WrittenScope) × (write_also n from path (m ∷ []) ≡ scope ∷ []) × Keeps mean scope k }
 {}
 
 /// The declarations that are written for the exports of an instance are, where they are added as the next type, the
 /// type by which that instance is described.
 pub fn an_instance_type_reads_back()
-    ensures { (mean : Meaning) (m : Scope) (k : Known) (es : Entries) (later : List Scope) (decls : tree.Decls)
+    ensures { (mean : Meaning) (m : WrittenScope) (k : Known) (es : Entries) (later : List WrittenScope) (decls : tree.Decls)
         → Keeps mean m k
         → HasMeaning mean (spot_of m k) (IsInstance es)
         → write_instance es (m ∷ []) ≡ Some (later, decls)
@@ -85,7 +85,7 @@ pub fn an_instance_type_reads_back()
 /// The declarations that are written for the imports and exports of a component are, where they are added as the next
 /// type, the type by which that component is described.
 pub fn a_component_type_reads_back()
-    ensures { (mean : Meaning) (m : Scope) (k : Known) (is es : Entries) (later : List Scope) (decls : tree.Decls)
+    ensures { (mean : Meaning) (m : WrittenScope) (k : Known) (is es : Entries) (later : List WrittenScope) (decls : tree.Decls)
         → Keeps mean m k
         → HasMeaning mean (spot_of m k) (IsComponent is es)
         → write_component is es (m ∷ []) ≡ Some (later, decls)
@@ -111,7 +111,7 @@ pub fn an_instance_brings_what_it_exports()
 
 /// The declarations of the outermost scope, as items of a component, leave what they stand for.
 pub fn declarations_are_items()
-    ensures { (mean : Meaning) (m : Scope) (k : Known)
+    ensures { (mean : Meaning) (m : WrittenScope) (k : Known)
         → Keeps mean m k
         → after_parts unbounded [] (nothing_known true) (parts_for m.decls) ≡ Ok k }
 {}

@@ -32,12 +32,12 @@ use Rattle.comp_entity.specs.Views.{value_tree, func_tree, entries_of, named_ent
 use Rattle.comp_entity.specs.Views.{type_tree as shape_tree}
 use Rattle.compose_writing.specs.Conditions.{KeepsForm, KeepsType, KeepsEntries, KeepsValue, KeepsFunc, KeepsModule}
 use Rattle.compose_writing.specs.Keys.{Index}
-use Rattle.compose_writing.specs.Scopes.{Scope, wrote_as, opened, add_type, add_core_type, on_top, change_top, with_known, then_type, closed, knows}
+use Rattle.compose_writing.specs.Scopes.{WrittenScope, wrote_as, opened, add_type, add_core_type, on_top, change_top, with_known, then_type, closed, knows}
 use Rattle.compose_writing.specs.Scopes.{declared as declare}
 use Rattle.compose_writing.specs.WriteValues.{write_func}
 use Rattle.compose_writing.specs.WriteModules.{write_module}
 use Rattle.compose_writing.specs.WriteEntities.{counted, write_import, write_entity, write_type, write_entries, write_component, write_named, write_resource, with_named, noted, note_here, note_all}
-use Rattle.compose_types.specs.Entities.{leaves_known}
+use Rattle.compose_writing.specs.WriteEntities.{leaves_known}
 use Rattle.compose_types.specs.Scopes.{Declares, item_of}
 use Rattle.compose_types.specs.declared.body.Side.{Side}
 use Rattle.compose_types.proofs.NoteLaws.{instance_is, entity_instance}
@@ -108,68 +108,68 @@ exports_keep s t is k = rw (is, shape_instance t) at k
 
 -- ---- what is written
 
-pub func_ref : (e : Entity) (f : FuncShape) (ms next : List Scope) (i : ℕ) → e ≡ entity.Func f → write_func (func_tree f) ms ≡ Some (next, i) → write_entity (entity_tree e) ms ≡ Some (next, description.Func i)
+pub func_ref : (e : Entity) (f : FuncShape) (ms next : List WrittenScope) (i : ℕ) → e ≡ entity.Func f → write_func (func_tree f) ms ≡ Some (next, i) → write_entity (entity_tree e) ms ≡ Some (next, description.Func i)
 unfolding write_entity
 func_ref e f ms next i is h = rw (is, entity_func f) (ap (wrote_as description.Func) h)
 
-pub instance_ref : (e : Entity) (t : InstanceShape) (ms mid next : List Scope) (ds : Decls) (i : ℕ) → e ≡ entity.Instance t → option_and_then closed (write_entries tree.Export (entries_of (named_entities t.exports.items)) (opened 0 ∷ ms)) ≡ Some (mid, ds)
+pub instance_ref : (e : Entity) (t : InstanceShape) (ms mid next : List WrittenScope) (ds : Decls) (i : ℕ) → e ≡ entity.Instance t → option_and_then closed (write_entries tree.Export (entries_of (named_entities t.exports.items)) (opened 0 ∷ ms)) ≡ Some (mid, ds)
     → on_top (add_type (tree.Instance ds)) mid ≡ Some (next, i) → write_entity (entity_tree e) ms ≡ Some (next, description.Instance i)
 unfolding write_entity
 instance_ref e t ms mid next ds i is h k = rw (is, entity_instance t) (ap (λ w. wrote_as description.Instance (then_type (wrote_as tree.Instance w))) h ∙ ap (wrote_as description.Instance) k)
 
-pub component_ref : (e : Entity) (c : ComponentShape) (ms mid next : List Scope) (ds : Decls) (i : ℕ) → e ≡ entity.Component c → write_component (component_sides c).imports (component_sides c).exports ms ≡ Some (mid, ds)
+pub component_ref : (e : Entity) (c : ComponentShape) (ms mid next : List WrittenScope) (ds : Decls) (i : ℕ) → e ≡ entity.Component c → write_component (component_sides c).imports (component_sides c).exports ms ≡ Some (mid, ds)
     → on_top (add_type (tree.Component ds)) mid ≡ Some (next, i) → write_entity (entity_tree e) ms ≡ Some (next, description.Component i)
 unfolding write_entity
 component_ref e c ms mid next ds i is h k = rw (is, entity_component c) (ap (λ w. wrote_as description.Component (then_type (wrote_as tree.Component w))) h ∙ ap (wrote_as description.Component) k)
 
-pub module_ref : (e : Entity) (m : ModuleShape) (ms next : List Scope) (i : ℕ) → e ≡ entity.Module m → on_top (add_core_type (core.Module (write_module m))) ms ≡ Some (next, i) → write_entity (entity_tree e) ms ≡ Some (next, description.Module i)
+pub module_ref : (e : Entity) (m : ModuleShape) (ms next : List WrittenScope) (i : ℕ) → e ≡ entity.Module m → on_top (add_core_type (core.Module (write_module m))) ms ≡ Some (next, i) → write_entity (entity_tree e) ms ≡ Some (next, description.Module i)
 unfolding write_entity
 module_ref e m ms next i is h = rw (is, entity_module m) (ap (wrote_as description.Module) h)
 
-pub type_of_entity : (e : Entity) (t : TypeShape) (ms next : List Scope) (ty : TypeRef) → e ≡ entity.Ty t → write_type (shape_tree t) ms ≡ Some (next, ty) → write_entity (entity_tree e) ms ≡ Some (next, ty)
+pub type_of_entity : (e : Entity) (t : TypeShape) (ms next : List WrittenScope) (ty : TypeRef) → e ≡ entity.Ty t → write_type (shape_tree t) ms ≡ Some (next, ty) → write_entity (entity_tree e) ms ≡ Some (next, ty)
 unfolding write_entity
 type_of_entity e t ms next ty is h = rw (is, entity_type t) h
 
-pub type_resource : (s : TypeShape) (r : Name) (ms next : List Scope) (ty : TypeRef) → s ≡ shape.Resource r → write_resource r (knows ms (OfResource r)) ms ≡ Some (next, ty) → write_type (shape_tree s) ms ≡ Some (next, ty)
+pub type_resource : (s : TypeShape) (r : Name) (ms next : List WrittenScope) (ty : TypeRef) → s ≡ shape.Resource r → write_resource r (knows ms (OfResource r)) ms ≡ Some (next, ty) → write_type (shape_tree s) ms ≡ Some (next, ty)
 unfolding write_entity
 type_resource s r ms next ty is h = rw (is, shape_resource r) h
 
-pub type_value : (s : TypeShape) (v : ValueShape) (ms next : List Scope) (i : ℕ) → s ≡ shape.Value v → write_named (place_of (value_tree v)) (value_tree v) ms ≡ Some (next, i) → write_type (shape_tree s) ms ≡ Some (next, description.TyEqual i)
+pub type_value : (s : TypeShape) (v : ValueShape) (ms next : List WrittenScope) (i : ℕ) → s ≡ shape.Value v → write_named (place_of (value_tree v)) (value_tree v) ms ≡ Some (next, i) → write_type (shape_tree s) ms ≡ Some (next, description.TyEqual i)
 unfolding write_entity
 type_value s v ms next i is h = rw (is, shape_value v) (ap (wrote_as description.TyEqual) h)
 
-pub type_func : (s : TypeShape) (f : FuncShape) (ms next : List Scope) (i : ℕ) → s ≡ shape.Func f → write_func (func_tree f) ms ≡ Some (next, i) → write_type (shape_tree s) ms ≡ Some (next, description.TyEqual i)
+pub type_func : (s : TypeShape) (f : FuncShape) (ms next : List WrittenScope) (i : ℕ) → s ≡ shape.Func f → write_func (func_tree f) ms ≡ Some (next, i) → write_type (shape_tree s) ms ≡ Some (next, description.TyEqual i)
 unfolding write_entity
 type_func s f ms next i is h = rw (is, shape_func f) (ap (wrote_as description.TyEqual) h)
 
-pub type_instance : (s : TypeShape) (t : InstanceShape) (ms mid next : List Scope) (ds : Decls) (i : ℕ) → s ≡ shape.Instance t → option_and_then closed (write_entries tree.Export (entries_of (named_entities t.exports.items)) (opened 1 ∷ ms)) ≡ Some (mid, ds)
+pub type_instance : (s : TypeShape) (t : InstanceShape) (ms mid next : List WrittenScope) (ds : Decls) (i : ℕ) → s ≡ shape.Instance t → option_and_then closed (write_entries tree.Export (entries_of (named_entities t.exports.items)) (opened 1 ∷ ms)) ≡ Some (mid, ds)
     → on_top (add_type (tree.Instance ds)) mid ≡ Some (next, i) → write_type (shape_tree s) ms ≡ Some (next, description.TyEqual i)
 unfolding write_entity
 type_instance s t ms mid next ds i is h k = rw (is, shape_instance t) (ap (λ w. wrote_as description.TyEqual (then_type (wrote_as tree.Instance w))) h ∙ ap (wrote_as description.TyEqual) k)
 
-pub type_component : (s : TypeShape) (c : ComponentShape) (ms mid next : List Scope) (ds : Decls) (i : ℕ) → s ≡ shape.Component c → write_component (component_sides c).imports (component_sides c).exports ms ≡ Some (mid, ds)
+pub type_component : (s : TypeShape) (c : ComponentShape) (ms mid next : List WrittenScope) (ds : Decls) (i : ℕ) → s ≡ shape.Component c → write_component (component_sides c).imports (component_sides c).exports ms ≡ Some (mid, ds)
     → on_top (add_type (tree.Component ds)) mid ≡ Some (next, i) → write_type (shape_tree s) ms ≡ Some (next, description.TyEqual i)
 unfolding write_entity
 type_component s c ms mid next ds i is h k = rw (is, shape_component c) (ap (λ w. wrote_as description.TyEqual (then_type (wrote_as tree.Component w))) h ∙ ap (wrote_as description.TyEqual) k)
 
-pub instance_written : (es : Entries) (width : ℕ) (ms inner mid next : List Scope) (ds : Decls) → inner ≡ opened width ∷ ms → write_entries tree.Export es inner ≡ Some mid → closed mid ≡ Some (next, ds) → option_and_then closed (write_entries tree.Export es (opened width ∷ ms)) ≡ Some (next, ds)
+pub instance_written : (es : Entries) (width : ℕ) (ms inner mid next : List WrittenScope) (ds : Decls) → inner ≡ opened width ∷ ms → write_entries tree.Export es inner ≡ Some mid → closed mid ≡ Some (next, ds) → option_and_then closed (write_entries tree.Export es (opened width ∷ ms)) ≡ Some (next, ds)
 instance_written es width ms inner mid next ds o h k = ap (λ m. option_and_then closed (write_entries tree.Export es m)) (sym o) ∙ ap (option_and_then closed) h ∙ k
 
-pub component_written : (is es : Entries) (ms inner mid last next : List Scope) (ds : Decls) → inner ≡ opened 2 ∷ ms → write_entries tree.Import is inner ≡ Some mid → write_entries tree.Export es mid ≡ Some last → closed last ≡ Some (next, ds) → write_component is es ms ≡ Some (next, ds)
+pub component_written : (is es : Entries) (ms inner mid last next : List WrittenScope) (ds : Decls) → inner ≡ opened 2 ∷ ms → write_entries tree.Import is inner ≡ Some mid → write_entries tree.Export es mid ≡ Some last → closed last ≡ Some (next, ds) → write_component is es ms ≡ Some (next, ds)
 component_written is es ms inner mid last next ds o h k l =
     ap (λ m. option_and_then closed (option_and_then (write_entries tree.Export es) (write_entries tree.Import is m))) (sym o)
     ∙ ap (λ w. option_and_then closed (option_and_then (write_entries tree.Export es) w)) h ∙ ap (option_and_then closed) k ∙ l
 
-pub entity_named : (side : Side) (name : List ℕ) (e : EntityTree) (ty : TypeRef) (old mid new : List Scope) (types instances : ℕ) → Declares (item_of side name ty) ty old mid types instances → ((m : Scope) → types ≡ m.types → instances ≡ m.instances → new ≡ noted e m mid) → new ≡ with_named (item_of side) name e ty old
+pub entity_named : (side : Side) (name : List ℕ) (e : EntityTree) (ty : TypeRef) (old mid new : List WrittenScope) (types instances : ℕ) → Declares (item_of side name ty) ty old mid types instances → ((m : WrittenScope) → types ≡ m.types → instances ≡ m.instances → new ≡ noted e m mid) → new ≡ with_named (item_of side) name e ty old
 unfolding with_named
 entity_named side name e ty old mid new types instances d h = h d.top d.types_are d.instances_are ∙ ap (noted e d.top) d.is ∙ sym (ap (with_named (item_of side) name e ty) d.was)
 
 -- ---- what is noted
 
-pub instance_noted : (e : Entity) (t : InstanceShape) (m : Scope) (ms new : List Scope) (index : ℕ) → e ≡ entity.Instance t → index ≡ m.instances → new ≡ note_all (leaves_known index (leaves_in [] (entries_of (named_entities t.exports.items)))) ms → new ≡ noted (entity_tree e) m ms
+pub instance_noted : (e : Entity) (t : InstanceShape) (m : WrittenScope) (ms new : List WrittenScope) (index : ℕ) → e ≡ entity.Instance t → index ≡ m.instances → new ≡ note_all (leaves_known index (leaves_in [] (entries_of (named_entities t.exports.items)))) ms → new ≡ noted (entity_tree e) m ms
 instance_noted e t m ms new index is n h = rw (is, entity_instance t) (h ∙ ap (λ i. note_all (leaves_known i (leaves_in [] (entries_of (named_entities t.exports.items)))) ms) n)
 
-pub one_noted : (e : EntityTree) (key : Mention) (m : Scope) (ms : List Scope) (types : ℕ) → key ∷ [] ≡ names_itself e → types ≡ m.types → change_top (with_known key (Index types)) ms ≡ noted e m ms
+pub one_noted : (e : EntityTree) (key : Mention) (m : WrittenScope) (ms : List WrittenScope) (types : ℕ) → key ∷ [] ≡ names_itself e → types ≡ m.types → change_top (with_known key (Index types)) ms ≡ noted e m ms
 unfolding note_here
 one_noted (IsType t) key m ms types is n = ap (λ i. change_top (with_known key (Index i)) ms) n ∙ ap (λ ks. note_here ks m.types ms) is
 one_noted (IsFunc f) key m ms types is n = absurd cc
@@ -180,13 +180,13 @@ one_noted IsOwnModule key m ms types is n = absurd cc
 
 -- ---- imports or exports, one after the other
 
-pub entries_end : (item : List ℕ → TypeRef → DeclTree) (xs : List (List ℕ × Entity)) (i : ℕ) (ms : List Scope) (all : Option (List Scope)) → length xs ≤ i → write_entries item (entries_of (named_entities (drop i xs))) ms ≡ all → all ≡ Some ms
+pub entries_end : (item : List ℕ → TypeRef → DeclTree) (xs : List (List ℕ × Entity)) (i : ℕ) (ms : List WrittenScope) (all : Option (List WrittenScope)) → length xs ≤ i → write_entries item (entries_of (named_entities (drop i xs))) ms ≡ all → all ≡ Some ms
 unfolding write_entity
 entries_end item xs i ms all le h =
     let none : drop i xs ≡ [] = rw drop_all refl in
     sym h ∙ ap (λ ys. write_entries item (entries_of (named_entities ys)) ms) none
 
-pub entries_step : (item : List ℕ → TypeRef → DeclTree) (xs : List (List ℕ × Entity)) (i : ℕ) (x : List ℕ × Entity) (ms mid next : List Scope) (ty : TypeRef) → i < length xs → x ≡ get_or xs i x → write_entity (entity_tree x.1) ms ≡ Some (mid, ty) → next ≡ with_named item x.0 (entity_tree x.1) ty mid
+pub entries_step : (item : List ℕ → TypeRef → DeclTree) (xs : List (List ℕ × Entity)) (i : ℕ) (x : List ℕ × Entity) (ms mid next : List WrittenScope) (ty : TypeRef) → i < length xs → x ≡ get_or xs i x → write_entity (entity_tree x.1) ms ≡ Some (mid, ty) → next ≡ with_named item x.0 (entity_tree x.1) ty mid
     → write_entries item (entries_of (named_entities (drop (i + 1) xs))) next ≡ write_entries item (entries_of (named_entities (drop i xs))) ms
 unfolding write_entity
 entries_step item xs i x ms mid next ty lt is h k =
@@ -196,6 +196,6 @@ entries_step item xs i x ms mid next ty lt is h k =
     ap (write_entries item rest) k ∙ sym (ap (option_and_then (λ y. write_entries item rest (with_named item x.0 (entity_tree x.1) y.1 y.0))) h)
     ∙ sym (ap (λ ys. write_entries item (entries_of (named_entities ys)) ms) cut)
 
-pub import_written : (name : List ℕ) (e : EntityTree) (ty : TypeRef) (top next : Scope) (old mid new : List Scope) → old ≡ top ∷ [] → mid ≡ next ∷ [] → counted ty (declare (tree.Import name ty) top) ≡ next → new ≡ noted e top mid → new ≡ write_import name e ty old
+pub import_written : (name : List ℕ) (e : EntityTree) (ty : TypeRef) (top next : WrittenScope) (old mid new : List WrittenScope) → old ≡ top ∷ [] → mid ≡ next ∷ [] → counted ty (declare (tree.Import name ty) top) ≡ next → new ≡ noted e top mid → new ≡ write_import name e ty old
 unfolding with_named
 import_written name e ty top next old mid new was is c n = n ∙ ap (noted e top) (is ∙ ap (λ m. m ∷ []) (sym c)) ∙ sym (ap (write_import name e ty) was)

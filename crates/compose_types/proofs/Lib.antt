@@ -6,3 +6,5 @@ mod ModuleLaws
 mod NoteLaws
 mod EntityLaws
 mod SightLaws
+mod RefusalLaws
+mod GrowLaws

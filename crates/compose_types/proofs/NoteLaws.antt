@@ -13,10 +13,10 @@ use Rattle.comp_entity.specs.Names.{Mention}
 use Rattle.comp_entity.specs.Places.{Path, leaves_of, leaves_in, names_itself}
 use Rattle.comp_entity.specs.Views.{entries_of, named_entities, Sides, entity_step, type_step, component_step, instance_step, entity_tree, instance_entries}
 use Rattle.compose_writing.specs.Conditions.{KeepsForm, KeepsEntries}
-use Rattle.compose_writing.specs.Keys.{InInstance, Known}
-use Rattle.compose_writing.specs.Scopes.{Scope}
+use Rattle.compose_writing.specs.Keys.{InInstance, KnownThings}
+use Rattle.compose_writing.specs.Scopes.{WrittenScope}
 use Rattle.compose_writing.specs.WriteEntities.{note_new, note_all}
-use Rattle.compose_types.specs.Entities.{leaf_known, leaves_known}
+use Rattle.compose_writing.specs.WriteEntities.{leaf_known, leaves_known}
 
 pub instance_is : (t : InstanceShape) → instance_entries t ≡ entries_of (named_entities t.exports.items)
 instance_is t = fold-roll-InstanceShape EntityTree TypeShapeTree Sides Entries entity_step type_step component_step instance_step (record { exports = t.exports })
@@ -33,15 +33,15 @@ instance_keeps e t is k = rw (is, entity_instance t) at k
 pub leaf_alone : (index : ℕ) (leaf : Path × EntityTree) → leaves_known index (leaf ∷ []) ≡ leaf_known index leaf
 leaf_alone index leaf = append-nil (leaf_known index leaf)
 
-pub leaf_none : (index : ℕ) (path : Path) (e : EntityTree) (ms : List Scope) → names_itself e ≡ [] → note_all (leaf_known index (path, e)) ms ≡ ms
+pub leaf_none : (index : ℕ) (path : Path) (e : EntityTree) (ms : List WrittenScope) → names_itself e ≡ [] → note_all (leaf_known index (path, e)) ms ≡ ms
 unfolding note_all
 leaf_none index path e ms is = ap (λ ks. note_all (map (λ key. (key, InInstance index path)) ks) ms) is
 
-pub leaf_some : (index : ℕ) (path : Path) (e : EntityTree) (key : Mention) (ms : List Scope) → names_itself e ≡ key ∷ [] → note_all (leaf_known index (path, e)) ms ≡ note_new key (InInstance index path) ms
+pub leaf_some : (index : ℕ) (path : Path) (e : EntityTree) (key : Mention) (ms : List WrittenScope) → names_itself e ≡ key ∷ [] → note_all (leaf_known index (path, e)) ms ≡ note_new key (InInstance index path) ms
 unfolding note_all
 leaf_some index path e key ms is = ap (λ ks. note_all (map (λ key. (key, InInstance index path)) ks) ms) is
 
-pub note_append : (a b : Known) (ms : List Scope) → note_all (a ++ b) ms ≡ note_all b (note_all a ms)
+pub note_append : (a b : KnownThings) (ms : List WrittenScope) → note_all (a ++ b) ms ≡ note_all b (note_all a ms)
 unfolding note_all
 note_append [] b ms = refl
 note_append (k ∷ a) b ms = note_append a b (note_new k.0 k.1 ms)
@@ -50,13 +50,13 @@ leaves_append : (index : ℕ) (a b : List (Path × EntityTree)) → leaves_known
 leaves_append index [] b = refl
 leaves_append index (l ∷ a) b = ap (λ ks. leaf_known index l ++ ks) (leaves_append index a b) ∙ sym (append_assoc (leaf_known index l) (leaves_known index a) (leaves_known index b))
 
-pub exports_end : (index : ℕ) (path : Path) (xs : List (List ℕ × Entity)) (i : ℕ) (ms all : List Scope) → length xs ≤ i → note_all (leaves_known index (leaves_in path (entries_of (named_entities (drop i xs))))) ms ≡ all → ms ≡ all
+pub exports_end : (index : ℕ) (path : Path) (xs : List (List ℕ × Entity)) (i : ℕ) (ms all : List WrittenScope) → length xs ≤ i → note_all (leaves_known index (leaves_in path (entries_of (named_entities (drop i xs))))) ms ≡ all → ms ≡ all
 unfolding note_all
 exports_end index path xs i ms all le h =
     let none : drop i xs ≡ [] = rw drop_all refl in
     sym (ap (λ ys. note_all (leaves_known index (leaves_in path (entries_of (named_entities ys)))) ms) none) ∙ h
 
-pub exports_step : (index : ℕ) (path : Path) (xs : List (List ℕ × Entity)) (i : ℕ) (x : List ℕ × Entity) (ms next : List Scope) → i < length xs → x ≡ get_or xs i x → next ≡ note_all (leaves_known index (leaves_of (path ++ x.0 ∷ []) (entity_tree x.1))) ms
+pub exports_step : (index : ℕ) (path : Path) (xs : List (List ℕ × Entity)) (i : ℕ) (x : List ℕ × Entity) (ms next : List WrittenScope) → i < length xs → x ≡ get_or xs i x → next ≡ note_all (leaves_known index (leaves_of (path ++ x.0 ∷ []) (entity_tree x.1))) ms
     → note_all (leaves_known index (leaves_in path (entries_of (named_entities (drop (i + 1) xs))))) next ≡ note_all (leaves_known index (leaves_in path (entries_of (named_entities (drop i xs))))) ms
 exports_step index path xs i x ms next lt is h =
     let more_by_one : suc i ≡ i + 1 = omega arith in

@@ -24,7 +24,8 @@ use Rattle.comp_entity.specs.Places.{names_itself, named_value, same_mention}
 use Rattle.comp_entity.specs.Views.{Sides, component_sides, entity_tree, type_tree, entries_of, named_entities, value_tree, value_step, values_of, fields_of, cases_of, func_tree}
 use Rattle.compose_writing.specs.Conditions.{with_these, all_known, unnamed, if_scope, known_behind, type_known_behind, entries_known_behind, is_known, are_known, sides_known}
 use Rattle.compose_writing.specs.Keys.{from_within}
-use Rattle.compose_types.specs.Sights.{sees, sight_step, brings, all_brought, part_known, field_known, held_known, case_known}
+use Rattle.compose_meaning.specs.Readable.{brought_keys, keys_among}
+use Rattle.compose_types.specs.Sights.{sees, sight_step, part_known, field_known, held_known, case_known}
 use Rattle.compose_types.specs.declared.sights.Sight.{Sight, fold-roll-Sight}
 use Rattle.compose_types.specs.declared.sights.Sight.TheOpen as seen_layer
 use Rattle.compose_types.specs.declared.sights.Sight.TheVariants as seen
@@ -62,7 +63,7 @@ with_none : (known : Mention → Bool) → with_these known [] ≡ known
 with_none known = λ i key. none_more (known key) i
 
 with_both : (known : Mention → Bool) (a b : List Mention) → with_these (with_these known a) b ≡ with_these known (a ++ b)
-with_both known a b = λ i key. (one_more (known key) (list_any (same_mention key) a) (list_any (same_mention key) b) ∙ ap (λ c. known key || c) (sym (list_any-append (same_mention key) a b))) i
+with_both known a b = λ i key. (one_more (known key) (list_any (λ k. same_mention k key) a) (list_any (λ k. same_mention k key) b) ∙ ap (λ c. known key || c) (sym (list_any-append (λ k. same_mention k key) a b))) i
 
 type_then : (t : TypeShapeTree) (known next : Mention → Bool) → type_known_behind known t ≡ Some next → next ≡ with_these known (names_itself (IsType t))
 type_then (Value t) known next h = sym (all_next (all_known known (in_value 0 (unnamed t))) (with_these known (named_value (place_of t))) next h)
@@ -73,7 +74,7 @@ type_then (Component is es) known next h =
     sym (scope_next known next (option_and_then (λ next. entries_known_behind next es) (entries_known_behind (from_within 2 known) is)) h) ∙ sym (with_none known)
 
 mutual
-  pub known_then : (e : EntityTree) (known next : Mention → Bool) → known_behind known e ≡ Some next → next ≡ with_these known (brings e)
+  pub known_then : (e : EntityTree) (known next : Mention → Bool) → known_behind known e ≡ Some next → next ≡ with_these known (brought_keys e)
   known_then (IsType t) known next h = type_then t known next h
   known_then (IsFunc f) known next h = sym (all_next (all_known known (in_func 0 f)) known next h) ∙ sym (with_none known)
   known_then (IsInstance es) known next h = entries_then es known next h
@@ -82,21 +83,21 @@ mutual
   known_then (IsModule m) known next h = sym (some_is known next h) ∙ sym (with_none known)
   known_then IsOwnModule known next h = absurd cc
 
-  pub entries_then : (es : Entries) (known next : Mention → Bool) → entries_known_behind known es ≡ Some next → next ≡ with_these known (all_brought es)
+  pub entries_then : (es : Entries) (known next : Mention → Bool) → entries_known_behind known es ≡ Some next → next ≡ with_these known (keys_among es)
   entries_then no_entry known next h = sym (some_is known next h) ∙ sym (with_none known)
   entries_then (entry name e mark es) known next h =
       option_and_then_some (λ next. entries_known_behind next es) (known_behind known e) next h (λ mid first later.
-      entries_then es mid next later ∙ ap (λ f. with_these f (all_brought es)) (known_then e known mid first) ∙ with_both known (brings e) (all_brought es))
+      entries_then es mid next later ∙ ap (λ f. with_these f (keys_among es)) (known_then e known mid first) ∙ with_both known (brought_keys e) (keys_among es))
 
 -- ---- entries, one after the other
 
-brought_push : (xs : List (List ℕ × Entity)) (x : List ℕ × Entity) → all_brought (entries_of (named_entities (xs ++ x ∷ []))) ≡ all_brought (entries_of (named_entities xs)) ++ brings (entity_tree x.1)
-brought_push [] x = append-nil (brings (entity_tree x.1))
-brought_push (y ∷ xs) x = ap (λ ks. brings (entity_tree y.1) ++ ks) (brought_push xs x) ∙ sym (append_assoc (brings (entity_tree y.1)) (all_brought (entries_of (named_entities xs))) (brings (entity_tree x.1)))
+brought_push : (xs : List (List ℕ × Entity)) (x : List ℕ × Entity) → keys_among (entries_of (named_entities (xs ++ x ∷ []))) ≡ keys_among (entries_of (named_entities xs)) ++ brought_keys (entity_tree x.1)
+brought_push [] x = append-nil (brought_keys (entity_tree x.1))
+brought_push (y ∷ xs) x = ap (λ ks. brought_keys (entity_tree y.1) ++ ks) (brought_push xs x) ∙ sym (append_assoc (brought_keys (entity_tree y.1)) (keys_among (entries_of (named_entities xs))) (brought_keys (entity_tree x.1)))
 
 -- what is known behind the first so many entries
 abbrev pub known_after : (Mention → Bool) → List (List ℕ × Entity) → ℕ → Mention → Bool
-known_after known xs i = with_these known (all_brought (entries_of (named_entities (take i xs))))
+known_after known xs i = with_these known (keys_among (entries_of (named_entities (take i xs))))
 
 abbrev pub from_there : (Mention → Bool) → List (List ℕ × Entity) → ℕ → Bool
 from_there known xs i = are_known (known_after known xs i) (entries_of (named_entities (drop i xs)))
@@ -115,10 +116,10 @@ module _ (known : Mention → Bool) (xs : List (List ℕ × Entity)) where
       let more_by_one : suc i ≡ i + 1 = omega arith in
       drop-cons xs i x lt ∙ ap (λ z. z ∷ drop (suc i) xs) (sym is) ∙ ap (λ n. x ∷ drop n xs) more_by_one
 
-  after_one : (i : ℕ) (x : List ℕ × Entity) → i < length xs → x ≡ get_or xs i x → with_these (known_after known xs i) (brings (entity_tree x.1)) ≡ known_after known xs (i + 1)
+  after_one : (i : ℕ) (x : List ℕ × Entity) → i < length xs → x ≡ get_or xs i x → with_these (known_after known xs i) (brought_keys (entity_tree x.1)) ≡ known_after known xs (i + 1)
   after_one i x lt is =
-      with_both known (all_brought (entries_of (named_entities (take i xs)))) (brings (entity_tree x.1))
-      ∙ ap (with_these known) (sym (brought_push (take i xs) x) ∙ ap (λ ys. all_brought (entries_of (named_entities ys))) (ap (λ z. take i xs ++ z ∷ []) is ∙ sym (take_more xs i x lt)))
+      with_both known (keys_among (entries_of (named_entities (take i xs)))) (brought_keys (entity_tree x.1))
+      ∙ ap (with_these known) (sym (brought_push (take i xs) x) ∙ ap (λ ys. keys_among (entries_of (named_entities ys))) (ap (λ z. take i xs ++ z ∷ []) is ∙ sym (take_more xs i x lt)))
 
   pub seen_stop : (i : ℕ) (x : List ℕ × Entity) → i < length xs → x ≡ get_or xs i x → is_some (known_behind (known_after known xs i) (entity_tree x.1)) ≡ false → from_there known xs i ≡ false
   seen_stop i x lt is h = ap (λ ys. are_known (known_after known xs i) (entries_of (named_entities ys))) (cut i x lt is) ∙ nothing (known_behind (known_after known xs i) (entity_tree x.1)) h
@@ -137,11 +138,11 @@ module _ (known : Mention → Bool) (xs : List (List ℕ × Entity)) where
       something (Some f) e h = ap (λ f. are_known f (entries_of (named_entities (drop (i + 1) xs)))) (known_then (entity_tree x.1) (known_after known xs i) f e ∙ after_one i x lt is)
 
 -- the exports of a component behind its imports
-pub sides_seen : (known : Mention → Bool) (is es : Entries) → are_known (from_within 2 known) is ≡ true → are_known (with_these (from_within 2 known) (all_brought is)) es ≡ sides_known known is es
+pub sides_seen : (known : Mention → Bool) (is es : Entries) → are_known (from_within 2 known) is ≡ true → are_known (with_these (from_within 2 known) (keys_among is)) es ≡ sides_known known is es
 sides_seen known is es h = something (entries_known_behind (from_within 2 known) is) refl h
   where
     something : (o : Option (Mention → Bool)) → entries_known_behind (from_within 2 known) is ≡ o → is_some o ≡ true
-        → are_known (with_these (from_within 2 known) (all_brought is)) es ≡ is_some (option_and_then (λ next. entries_known_behind next es) o)
+        → are_known (with_these (from_within 2 known) (keys_among is)) es ≡ is_some (option_and_then (λ next. entries_known_behind next es) o)
     something None e h = absurd cc
     something (Some f) e h = ap (λ f. are_known f es) (sym (entries_then is (from_within 2 known) f e))
 
@@ -154,28 +155,28 @@ sides_unseen known is es h = nothing (entries_known_behind (from_within 2 known)
 
 -- ---- what stands before, looked through
 
-pub instance_brings : (e : Entity) (t : InstanceShape) → e ≡ entity.Instance t → brings (entity_tree e) ≡ all_brought (entries_of (named_entities t.exports.items))
-instance_brings e t is = ap brings (ap entity_tree is ∙ entity_instance t)
+pub instance_brings : (e : Entity) (t : InstanceShape) → e ≡ entity.Instance t → brought_keys (entity_tree e) ≡ keys_among (entries_of (named_entities t.exports.items))
+instance_brings e t is = ap brought_keys (ap entity_tree is ∙ entity_instance t)
 
 module _ (p : Mention → Bool) (xs : List (List ℕ × Entity)) where
   abbrev pub some_from : ℕ → Bool
-  some_from i = list_any p (all_brought (entries_of (named_entities (drop i xs))))
+  some_from i = list_any p (keys_among (entries_of (named_entities (drop i xs))))
 
-  first_or_rest : (i : ℕ) (x : List ℕ × Entity) → i < length xs → x ≡ get_or xs i x → some_from i ≡ list_any p (brings (entity_tree x.1)) || some_from (i + 1)
+  first_or_rest : (i : ℕ) (x : List ℕ × Entity) → i < length xs → x ≡ get_or xs i x → some_from i ≡ list_any p (brought_keys (entity_tree x.1)) || some_from (i + 1)
   first_or_rest i x lt is =
-      ap (λ ys. list_any p (all_brought (entries_of (named_entities ys)))) (cut (λ m. true) xs i x lt is)
-      ∙ list_any-append p (brings (entity_tree x.1)) (all_brought (entries_of (named_entities (drop (i + 1) xs))))
+      ap (λ ys. list_any p (keys_among (entries_of (named_entities ys)))) (cut (λ m. true) xs i x lt is)
+      ∙ list_any-append p (brought_keys (entity_tree x.1)) (keys_among (entries_of (named_entities (drop (i + 1) xs))))
 
-  pub brings_found : (i : ℕ) (x : List ℕ × Entity) → i < length xs → x ≡ get_or xs i x → list_any p (brings (entity_tree x.1)) ≡ true → some_from i ≡ true
+  pub brings_found : (i : ℕ) (x : List ℕ × Entity) → i < length xs → x ≡ get_or xs i x → list_any p (brought_keys (entity_tree x.1)) ≡ true → some_from i ≡ true
   brings_found i x lt is h = first_or_rest i x lt is ∙ ap (λ b. b || some_from (i + 1)) h
 
-  pub brings_later : (i : ℕ) (x : List ℕ × Entity) → i < length xs → x ≡ get_or xs i x → list_any p (brings (entity_tree x.1)) ≡ false → some_from (i + 1) ≡ some_from i
+  pub brings_later : (i : ℕ) (x : List ℕ × Entity) → i < length xs → x ≡ get_or xs i x → list_any p (brought_keys (entity_tree x.1)) ≡ false → some_from (i + 1) ≡ some_from i
   brings_later i x lt is h = sym (first_or_rest i x lt is ∙ ap (λ b. b || some_from (i + 1)) h)
 
   pub brings_end : (i : ℕ) → length xs ≤ i → some_from i ≡ false
   brings_end i le =
       let none : drop i xs ≡ [] = rw drop_all refl in
-      ap (λ ys. list_any p (all_brought (entries_of (named_entities ys)))) none
+      ap (λ ys. list_any p (keys_among (entries_of (named_entities ys)))) none
 
 -- ---- parts of value types
 
@@ -265,7 +266,7 @@ module _ (known : Mention → Bool) where
 pub sees_within : (width : ℕ) (around : Bor Sight) → sees (seen.Within width around) ≡ from_within width (sees around.now)
 sees_within width around = ap sees (sym (seen.rolls-Within width around)) ∙ fold-roll-Sight (Mention → Bool) sight_step (seen_layer.Within width around)
 
-pub sees_behind : (entries : Bor (List (List ℕ × Entity))) (around : Bor Sight) → sees (seen.Behind entries around) ≡ with_these (sees around.now) (all_brought (entries_of (named_entities entries.now)))
+pub sees_behind : (entries : Bor (List (List ℕ × Entity))) (around : Bor Sight) → sees (seen.Behind entries around) ≡ with_these (sees around.now) (keys_among (entries_of (named_entities entries.now)))
 sees_behind entries around = ap sees (sym (seen.rolls-Behind entries around)) ∙ fold-roll-Sight (Mention → Bool) sight_step (seen_layer.Behind entries around)
 
 pub instance_seen : (known : Mention → Bool) (e : Entity) (t : InstanceShape) (xs : List (List ℕ × Entity)) → e ≡ entity.Instance t → xs ≡ t.exports.items → are_known known (entries_of (named_entities xs)) ≡ is_known known (entity_tree e)
@@ -283,15 +284,15 @@ instance_type_seen known inner s t xs is at within =
     scope_is (Some f) = refl
 
 pub component_seen : (known inner outer : Mention → Bool) (c : ComponentShape) (a b d : List (List ℕ × Entity)) → a ≡ c.imports.items → d ≡ c.imports.items → b ≡ c.exports.items → inner ≡ from_within 2 known
-    → outer ≡ with_these inner (all_brought (entries_of (named_entities d))) → are_known inner (entries_of (named_entities a)) ≡ true
+    → outer ≡ with_these inner (keys_among (entries_of (named_entities d))) → are_known inner (entries_of (named_entities a)) ≡ true
     → are_known outer (entries_of (named_entities b)) ≡ sides_known known (component_sides c).imports (component_sides c).exports
 component_seen known inner outer c a b d a_is d_is b_is inner_is outer_is h =
     let is = entries_of (named_entities c.imports.items) in
     let es = entries_of (named_entities c.exports.items) in
     let there : are_known (from_within 2 known) is ≡ true = sym (ap (λ f. are_known f (entries_of (named_entities a))) inner_is ∙ ap (λ xs. are_known (from_within 2 known) (entries_of (named_entities xs))) a_is) ∙ h in
-    ap (λ f. are_known f (entries_of (named_entities b))) (outer_is ∙ ap (λ f. with_these f (all_brought (entries_of (named_entities d)))) inner_is)
-    ∙ ap (λ xs. are_known (with_these (from_within 2 known) (all_brought (entries_of (named_entities xs)))) (entries_of (named_entities b))) d_is
-    ∙ ap (λ xs. are_known (with_these (from_within 2 known) (all_brought is)) (entries_of (named_entities xs))) b_is
+    ap (λ f. are_known f (entries_of (named_entities b))) (outer_is ∙ ap (λ f. with_these f (keys_among (entries_of (named_entities d)))) inner_is)
+    ∙ ap (λ xs. are_known (with_these (from_within 2 known) (keys_among (entries_of (named_entities xs)))) (entries_of (named_entities b))) d_is
+    ∙ ap (λ xs. are_known (with_these (from_within 2 known) (keys_among is)) (entries_of (named_entities xs))) b_is
     ∙ sides_seen known is es there ∙ sym (ap (λ (s : Sides). sides_known known s.imports s.exports) (component_is c))
 
 module _ (known outer : Mention → Bool) (xs : List (List ℕ × Entity)) (i : ℕ) (x : List ℕ × Entity) (r : Bool) (behind : outer ≡ known_after known xs i) (lt : i < length xs) (is : x ≡ get_or xs i x) (told : r ≡ is_known outer (entity_tree x.1)) (so_far : from_there known xs i ≡ from_there known xs 0) where

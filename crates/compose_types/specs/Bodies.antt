@@ -3,7 +3,7 @@ use Rattle.std.specs.Prelude.{◌≡◌, true, false, List, [], ◌∷◌}
 use Rattle.comp_format.specs.Forms.{AreDecls}
 use Rattle.comp_format.specs.Definitions as tree
 use Rattle.comp_format.specs.Definitions.{Decls}
-use Rattle.comp_format.specs.Items.{CoreTy, Component, Instance, Aliased, Ty, Import, Export}
+use Rattle.comp_format.specs.Items.{CoreTy, Aliased, Ty, Import}
 use Rattle.comp_format.specs.Views.{instance_type_tree, component_type_tree}
 use Rattle.comp_encoder.specs.Builder.{entries_of}
 use Rattle.comp_encoder.specs.Writing.{Entry, Single}

@@ -3,5 +3,5 @@ pub mod Views
 pub mod Scopes
 pub mod Values
 pub mod Modules
-pub mod Entities
 pub mod Sights
+pub mod Largest

@@ -1,10 +1,10 @@
 -- The scopes that a state holds, from the innermost.
 use Rattle.std.specs.Prelude.{◌≡◌, ℕ, List, [], ◌∷◌, ◌++◌, map, reverse}
-use Rattle.compose_writing.specs.Keys.{Known}
+use Rattle.compose_writing.specs.Keys.{KnownThings}
 use Rattle.comp_format.specs.declared.types.TypeRef.{TypeRef}
 use Rattle.comp_format.specs.Definitions as tree
 use Rattle.comp_format.specs.Definitions.{DeclTree}
-use Rattle.compose_writing.specs.Scopes.{Scope}
+use Rattle.compose_writing.specs.Scopes.{WrittenScope}
 use Rattle.compose_writing.specs.Scopes.{declared as declare}
 use Rattle.compose_writing.specs.WriteEntities.{counted}
 use Rattle.compose_types.specs.declared.body.Side.{Side}
@@ -14,22 +14,26 @@ use Rattle.compose_types.specs.Bodies.{declared, kind_in}
 use Rattle.compose_types.specs.declared.open.Declared.{Declared}
 use Rattle.compose_types.specs.declared.open.Open.{Open}
 
-abbrev pub with_names : ℕ → Known → Declared → Scope
+abbrev pub with_names : ℕ → KnownThings → Declared → WrittenScope
 with_names width known d =
     record { width = width; decls = declared d.body; types = d.types; instances = d.instances; core_types = d.core_types; known = known }
 
-abbrev pub scope_of : Open → Scope
+abbrev pub scope_of : Open → WrittenScope
 scope_of o = with_names o.width o.known o.declared
 
-abbrev pub scopes_in : List Open → Open → List Scope
+abbrev pub scopes_in : List Open → Open → List WrittenScope
 scopes_in inner outermost = reverse (map scope_of inner) ++ scope_of outermost ∷ []
 
--- the scopes of a state: the outermost, and those within it, the innermost last
-abbrev pub scopes : Open × List Open → List Scope
+-- A state: the outermost scope, and those within it, the innermost last.
+abbrev pub State : Type 0
+State = Open × List Open
+
+-- its scopes, from the innermost
+abbrev pub scopes : State → List WrittenScope
 scopes s = scopes_in s.1 s.0
 
 -- the component that a state builds
-abbrev pub outermost_scope : Open × List Open → Scope
+abbrev pub outermost_scope : State → WrittenScope
 outermost_scope s = scope_of s.0
 
 -- The outermost scope is a component.
@@ -42,9 +46,9 @@ item_of side.Imports name ty = tree.Import name ty
 item_of side.Exports name ty = tree.Export name ty
 
 -- An import or export of this description was declared in the innermost scope. So many types and instances stood before it.
-pub record Declares (d : DeclTree) (ty : TypeRef) (old new : List Scope) (types instances : ℕ) : Type 0 where
-  pub top : Scope
-  pub around : List Scope
+pub record Declares (d : DeclTree) (ty : TypeRef) (old new : List WrittenScope) (types instances : ℕ) : Type 0 where
+  pub top : WrittenScope
+  pub around : List WrittenScope
   pub was : old ≡ top ∷ around
   pub is : new ≡ counted ty (declare d top) ∷ around
   pub types_are : types ≡ top.types

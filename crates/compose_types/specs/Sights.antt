@@ -1,36 +1,21 @@
 -- What may be mentioned where an entity stands: what a state knows, and what stands before it.
-use Rattle.std.specs.Prelude.{ℕ, Bool, List, [], ◌++◌, Option}
-use Rattle.comp_entity.specs.Entity.{EntityTree, IsType, IsFunc, IsInstance, IsComponent, IsModule, IsOwnModule, Entries, no_entry, entry}
+use Rattle.std.specs.Prelude.{ℕ, Bool, List, Option}
 use Rattle.comp_entity.specs.Names.{Mention, in_value, in_payload}
-use Rattle.comp_entity.specs.Places.{names_itself}
 use Rattle.comp_entity.specs.Views.{value_tree, entries_of, named_entities}
 use Rattle.comp_entity.specs.declared.entity.ValueShape.{ValueShape}
 use Rattle.compose_writing.specs.Conditions.{with_these, all_known}
 use Rattle.compose_writing.specs.Keys.{from_within}
 use Rattle.compose_writing.specs.Scopes.{knows}
+use Rattle.compose_meaning.specs.Readable.{keys_among}
 use Rattle.compose_types.specs.declared.sights.Sight.{Sight, fold-Sight}
 use Rattle.compose_types.specs.declared.sights.Sight.TheOpen.{Sight-F}
 use Rattle.compose_types.specs.declared.sights.Sight.TheOpen as layer
 use Rattle.compose_types.specs.Scopes.{scopes}
 use Rattle.compose_types.specs.Values.{held_tree}
 
--- what an entity brings, instances gone into
-abbrev mutual
-  pub brings : EntityTree → List Mention
-  brings (IsType t) = names_itself (IsType t)
-  brings (IsFunc f) = []
-  brings (IsInstance es) = all_brought es
-  brings (IsComponent is es) = []
-  brings (IsModule m) = []
-  brings IsOwnModule = []
-
-  pub all_brought : Entries → List Mention
-  all_brought no_entry = []
-  all_brought (entry name e mark es) = brings e ++ all_brought es
-
 abbrev pub sight_step : Sight-F (Mention → Bool) → Mention → Bool
 sight_step (layer.State s) = knows (scopes s.now)
-sight_step (layer.Behind entries around) = with_these around.now (all_brought (entries_of (named_entities entries.now)))
+sight_step (layer.Behind entries around) = with_these around.now (keys_among (entries_of (named_entities entries.now)))
 sight_step (layer.Within width around) = from_within width around.now
 
 abbrev pub sees : Sight → Mention → Bool

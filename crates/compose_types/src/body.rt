@@ -12,6 +12,7 @@ ghost use Rattle.comp_format.specs.declared.types.Sort.TheVariants as sort;
 ghost use Rattle.comp_encoder.specs.Builder.{entries_of};
 ghost use Rattle.comp_encoder.specs.Writing.{Single, described_sort, next_index};
 ghost use Rattle.compose_types.specs.Bodies.{declared, entries_for, kind_in};
+ghost use Rattle.compose_types.specs.Largest.{IsTooLarge, decls_size};
 
 use comp_encoder::ComponentBuilder;
 use comp_format::{
@@ -79,7 +80,8 @@ impl Model for Body {
 fn add_type(alloc: Global, builder: &mut ComponentBuilder, ty: &DefType) -> Result<(), EncodeError>
     requires resource { is_resource (type_tree ty.now) ≡ false }
     requires form { IsDefinition (type_tree ty.now) }
-    ensures added { OnOk result (entries_of builder.new ≡ entries_of builder.old ++ Single (Ty (type_tree ty.now)) ∷ []) }
+    ensures added { OnOk result (entries_of builder.new
+        ≡ entries_of builder.old ++ Single (Ty (type_tree ty.now)) ∷ []) }
     ensures unchanged { OnErr result (builder.new ≡ builder.old) }
     ensures too_large { (n : ℕ) → result ≡ Err (EncodeError.TooLarge n) → 2 ^ 32 ≤ n }
 {
@@ -239,7 +241,8 @@ impl Body {
         ensures kind { kind_in self.new ≡ kind_in self.old }
         ensures added { OnOk result (declared self.new ≡ with_decl (declared self.old) (tree.Import name.now ty)) }
         ensures index { IfOk result (λ i. i ≡ next_index (described_sort ty) (entries_for (declared self.old))) }
-        ensures too_large { (n : ℕ) → result ≡ Err (EncodeError.TooLarge n) → 2 ^ 32 ≤ n }
+        ensures too_large { (n : ℕ) → result ≡ Err (EncodeError.TooLarge n)
+            → IsTooLarge n (decls_size (with_decl (declared self.old) (tree.Import name.now ty))) }
     {
         match &mut self.items {
             Items::OfBuilder(builder) => {

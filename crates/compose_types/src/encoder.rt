@@ -17,9 +17,10 @@ ghost use Rattle.compose_meaning.specs.Meaning.{Meaning};
 ghost use Rattle.compose_meaning.specs.Readable.{HasMeaning};
 ghost use Rattle.comp_entity.specs.Views.{entity_tree, entries_of, named_entities};
 ghost use Rattle.compose_writing.specs.Conditions.{KeepsEntries, KeepsForm, KeepsModule, are_known, is_known, sides_known};
-ghost use Rattle.compose_writing.specs.Scopes.{Scope as Written, knows};
+ghost use Rattle.compose_writing.specs.Scopes.{WrittenScope, knows};
 ghost use Rattle.compose_writing.specs.WriteEntities.{write_component, write_entity, write_instance};
 ghost use Rattle.compose_writing.specs.WriteModules.{write_module};
+ghost use Rattle.compose_types.specs.Largest.{IsTooLarge, module_size};
 ghost use Rattle.compose_types.specs.Scopes.{scopes};
 
 use crate::body::{Scope, Side};
@@ -90,12 +91,13 @@ impl<'a> TypeEncoder<'a> {
         requires known { sides_known (knows (scopes state.old)) (entries_of (named_entities imports.now))
             (entries_of (named_entities exports.now)) ≡ true }
         ensures written { IfOk result (λ t. write_component (entries_of (named_entities imports.now))
-            (entries_of (named_entities exports.now)) (scopes state.old) ≡ Some (scopes state.new, component_type_tree t)) }
+            (entries_of (named_entities exports.now)) (scopes state.old)
+            ≡ Some (scopes state.new, component_type_tree t)) }
         ensures form { IfOk result (λ t. AreDecls true (component_type_tree t)) }
-        ensures possible { (x : List Written × Decls) × (write_component (entries_of (named_entities imports.now))
+        ensures possible { (x : List WrittenScope × Decls) × (write_component (entries_of (named_entities imports.now))
             (entries_of (named_entities exports.now)) (scopes state.old) ≡ Some x) }
-        ensures reads_back { (mean : Meaning) (m : Written) (k : Known) → scopes state.old ≡ m ∷ [] → Keeps mean m k
-            → HasMeaning mean (spot_of m k)
+        ensures reads_back { (mean : Meaning) (m : WrittenScope) (k : Known) → scopes state.old ≡ m ∷ []
+            → Keeps mean m k → HasMeaning mean (spot_of m k)
             (IsComponent (entries_of (named_entities imports.now)) (entries_of (named_entities exports.now)))
             → IfOk result (λ t. IsNextType mean m k (scopes state.new) (tree.Component (component_type_tree t))
             description.Component
@@ -123,10 +125,10 @@ impl<'a> TypeEncoder<'a> {
         ensures written { IfOk result (λ t. write_instance (entries_of (named_entities exports.now)) (scopes state.old)
             ≡ Some (scopes state.new, instance_type_tree t)) }
         ensures form { IfOk result (λ t. AreDecls false (instance_type_tree t)) }
-        ensures possible { (x : List Written × Decls)
+        ensures possible { (x : List WrittenScope × Decls)
             × (write_instance (entries_of (named_entities exports.now)) (scopes state.old) ≡ Some x) }
-        ensures reads_back { (mean : Meaning) (m : Written) (k : Known) → scopes state.old ≡ m ∷ [] → Keeps mean m k
-            → HasMeaning mean (spot_of m k) (IsInstance (entries_of (named_entities exports.now)))
+        ensures reads_back { (mean : Meaning) (m : WrittenScope) (k : Known) → scopes state.old ≡ m ∷ []
+            → Keeps mean m k → HasMeaning mean (spot_of m k) (IsInstance (entries_of (named_entities exports.now)))
             → IfOk result (λ t. IsNextType mean m k (scopes state.new) (tree.Instance (instance_type_tree t))
             description.Instance (IsInstance (entries_of (named_entities exports.now)))) }
         ensures too_large { (n : ℕ) → result ≡ Err (EncodeError.TooLarge n) → 2 ^ 32 ≤ n }
@@ -139,14 +141,16 @@ impl<'a> TypeEncoder<'a> {
 
     /// The type of core modules like this one (`Binary.md`, `core:moduletype`).
     ///
-    /// `TooLarge` has a number of 2^32 or more that would have to be written.
+    /// `TooLarge` has a number of 2^32 or more, which is not above the largest length, count or index that would have
+    /// to be written.
     pub fn module(&self, alloc: Global, module: &ModuleShape) -> Result<ModuleType, EncodeError>
         requires { KeepsModule «module».now }
         ensures written { IfOk result (λ t. module_tree t ≡ write_module «module».now) }
         ensures form { IfOk result (λ t. AreModuleDecls (module_tree t)) }
         ensures reads_back { IfOk result (λ t. (scopes : List (List KnownCoreType))
             → core_type_of unbounded scopes (core.Module (module_tree t)) ≡ Ok (OfModules «module».now)) }
-        ensures too_large { (n : ℕ) → result ≡ Err (EncodeError.TooLarge n) → 2 ^ 32 ≤ n }
+        ensures too_large { (n : ℕ) → result ≡ Err (EncodeError.TooLarge n)
+            → IsTooLarge n (module_size (write_module «module».now)) }
     {
         a_module_reads_back();
         let ty = module_type(alloc, module)?;
@@ -167,10 +171,10 @@ impl<'a> TypeEncoder<'a> {
         requires known { is_known (knows (scopes state.old)) (entity_tree entity.now) ≡ true }
         ensures written { IfOk result (λ ty. write_entity (entity_tree entity.now) (scopes state.old)
             ≡ Some (scopes state.new, ty)) }
-        ensures possible { (x : List Written × TypeRef)
+        ensures possible { (x : List WrittenScope × TypeRef)
             × (write_entity (entity_tree entity.now) (scopes state.old) ≡ Some x) }
-        ensures reads_back { (mean : Meaning) (m : Written) (k : Known) → scopes state.old ≡ m ∷ [] → Keeps mean m k
-            → HasMeaning mean (spot_of m k) (entity_tree entity.now)
+        ensures reads_back { (mean : Meaning) (m : WrittenScope) (k : Known) → scopes state.old ≡ m ∷ []
+            → Keeps mean m k → HasMeaning mean (spot_of m k) (entity_tree entity.now)
             → IfOk result (λ ty. IsWritten mean m k (scopes state.new) ty (entity_tree entity.now)) }
         ensures too_large { (n : ℕ) → result ≡ Err (EncodeError.TooLarge n) → 2 ^ 32 ≤ n }
     {

@@ -1,6 +1,6 @@
 //! Entities, written into scopes.
 
-ghost use Rattle.std.specs.Prelude.{◌≡◌, ◌<◌, ◌≤◌, ◌^◌, ◌∷◌, ℕ, false, true, length, IfOk, OnOk, Err, Some, option_and_then};
+ghost use Rattle.std.specs.Prelude.{◌≡◌, ◌<◌, ◌≤◌, ◌^◌, ◌∷◌, ℕ, false, true, length, IfErr, IfOk, OnOk, Err, Some, option_and_then};
 ghost use Rattle.comp_format.specs.Definitions as tree;
 ghost use Rattle.comp_format.specs.Forms.{AreDecls};
 ghost use Rattle.comp_format.specs.Views.{component_type_tree, instance_type_tree};
@@ -9,7 +9,7 @@ ghost use Rattle.comp_entity.specs.Names.{OfResource};
 ghost use Rattle.comp_entity.specs.Views.{component_sides, entity_tree, entries_of, named_entities, type_tree as shape_tree, value_tree};
 ghost use Rattle.compose_writing.specs.Conditions.{KeepsEntries, KeepsForm, KeepsType, KeepsValue};
 ghost use Rattle.compose_writing.specs.WriteEntities.{noted, with_named, write_component, write_entity, write_entries, write_named, write_resource, write_type};
-ghost use Rattle.compose_writing.specs.Scopes.{Scope as scope_of_types, closed, knows, opened};
+ghost use Rattle.compose_writing.specs.Scopes.{WrittenScope, closed, knows, opened};
 ghost use Rattle.compose_types.specs.Scopes.{item_of, scopes};
 
 use crate::body::{Scope, Side};
@@ -27,7 +27,8 @@ use warg_values::Text;
 fn named_index(alloc: Global, state: &mut TypeState, ty: &ValueShape) -> Result<u32, EncodeError>
     requires { KeepsValue (value_tree ty.now) }
     ensures written { IfOk result (λ i.
-        write_named (place_of (value_tree ty.now)) (value_tree ty.now) (scopes state.old) ≡ Some (scopes state.new, i)) }
+        write_named (place_of (value_tree ty.now)) (value_tree ty.now) (scopes state.old)
+        ≡ Some (scopes state.new, i)) }
     ensures too_large { (n : ℕ) → result ≡ Err (EncodeError.TooLarge n) → 2 ^ 32 ≤ n }
 {
     match place_of(ty) {
@@ -53,7 +54,8 @@ fn resource_ref(
     state: &mut TypeState,
     name: ResourceNo,
 ) -> Result<TypeRef, EncodeError>
-    ensures written { IfOk result (λ ty. write_resource name (knows (scopes state.old) (OfResource name)) (scopes state.old)
+    ensures written { IfOk result (λ ty.
+        write_resource name (knows (scopes state.old) (OfResource name)) (scopes state.old)
         ≡ Some (scopes state.new, ty)) }
     ensures too_large { (n : ℕ) → result ≡ Err (EncodeError.TooLarge n) → 2 ^ 32 ≤ n }
 {
@@ -76,9 +78,9 @@ pub fn note_entity(
     instances: u32,
 ) -> Result<(), EncodeError>
     requires { KeepsForm (entity_tree entity.now) }
-    ensures noted { OnOk result ((m : scope_of_types) → types ≡ m.types → instances ≡ m.instances
+    ensures noted { OnOk result ((m : WrittenScope) → types ≡ m.types → instances ≡ m.instances
         → scopes state.new ≡ noted (entity_tree entity.now) m (scopes state.old)) }
-    ensures too_large { (n : ℕ) → result ≡ Err (EncodeError.TooLarge n) → 2 ^ 32 ≤ n }
+    ensures err { IfErr result (λ e. e ≡ EncodeError.Memory) }
 {
     match key_of(entity) {
         Some(key) => {
@@ -161,7 +163,8 @@ pub fn entity_ref(
 #[tactic(auto, using(crate::proofs::EntityLaws::type_resource, crate::proofs::EntityLaws::type_value, crate::proofs::EntityLaws::type_func, crate::proofs::EntityLaws::type_instance, crate::proofs::EntityLaws::type_component, crate::proofs::EntityLaws::value_keeps, crate::proofs::EntityLaws::func_keeps, crate::proofs::EntityLaws::sides_keep, crate::proofs::EntityLaws::exports_keep, crate::proofs::EntityLaws::tree_instance, crate::proofs::EntityLaws::tree_component))]
 fn type_ref(alloc: Global, state: &mut TypeState, ty: &TypeShape) -> Result<TypeRef, EncodeError>
     requires { KeepsType (shape_tree ty.now) }
-    ensures written { IfOk result (λ t. write_type (shape_tree ty.now) (scopes state.old) ≡ Some (scopes state.new, t)) }
+    ensures written { IfOk result (λ t. write_type (shape_tree ty.now) (scopes state.old)
+        ≡ Some (scopes state.new, t)) }
     ensures too_large { (n : ℕ) → result ≡ Err (EncodeError.TooLarge n) → 2 ^ 32 ≤ n }
 {
     match ty {
@@ -243,7 +246,8 @@ pub fn write_entries(
     entries: &[(Text, Entity)],
 ) -> Result<(), EncodeError>
     requires { KeepsEntries (entries_of (named_entities entries.now)) }
-    ensures written { OnOk result (write_entries (item_of side) (entries_of (named_entities entries.now)) (scopes state.old)
+    ensures written { OnOk result (
+        write_entries (item_of side) (entries_of (named_entities entries.now)) (scopes state.old)
         ≡ Some (scopes state.new)) }
     ensures too_large { (n : ℕ) → result ≡ Err (EncodeError.TooLarge n) → 2 ^ 32 ≤ n }
 {

@@ -1,12 +1,13 @@
 //! What is known of resources and named types, and where.
 
-ghost use Rattle.std.specs.Prelude.{◌≡◌, ◌∷◌, ◌++◌, [], OnOk, IfSome, is_some, if◌then◌else◌, option_map};
+ghost use Rattle.std.specs.Prelude.{◌≡◌, ◌∷◌, ◌++◌, [], OnOk, IfSome, is_some, if◌then◌else◌, option_map, slice_get};
 ghost use Rattle.comp_entity.specs.Names.{OfResource, OfPlace};
 ghost use Rattle.compose_writing.specs.Keys.{known_at, mention_outside};
-ghost use Rattle.compose_types.specs.Views.{IsNamed, at_of, known_of, mention_of};
+ghost use Rattle.compose_types.specs.Views.{IsNamed, at_of, at_there, known_of, mention_of};
 
 use comp_entity::{ResourceNo, TypeNo};
 use std::alloc::Global;
+use std::collections::BTreeMap;
 use std::marker::Model;
 use warg_values::{Memory, Sequence, Text};
 
@@ -68,45 +69,42 @@ impl Key {
 
 /// What is known in a scope, and where it has it.
 #[derive(Debug, Drop)]
-pub struct Known {
+pub struct KnownThings {
     /// What is known, in the order in which it was noted, with its places.
     places: Vec<(Key, At)>,
+    /// Where each of these stands.
+    first: BTreeMap<Key, usize>,
 }
 
-impl Model for Known {
-    ghost use Rattle.compose_writing.specs.Keys.{Known};
-    ghost use Rattle.compose_types.specs.Views.{AreNamed, known_of};
+impl Model for KnownThings {
+    ghost use Rattle.compose_writing.specs.Keys.{KnownThings};
+    ghost use Rattle.compose_types.specs.Views.{AreFound, known_of};
 
-    ghost Value = { Known };
+    ghost Value = { KnownThings };
 
     ghost view = { λ k. known_of k.places.items };
 
-    ghost invariant = { λ k. AreNamed (known_of k.places.items) };
+    ghost invariant = { λ k. AreFound k.first k.places.items };
 }
 
-/// Where the first of some things is that is this one.
-fn find(places: &[(Key, At)], key: Key) -> Option<&At>
-    ensures { option_map (λ at. at_of at.now) result ≡ known_at (known_of places.now) (mention_of key) }
-{
-    match places {
-        [] => None,
-        [place, rest @ ..] => {
-            if place.0 == key {
-                Some(&place.1)
-            } else {
-                find(rest, key)
-            }
-        }
-    }
-}
-
-impl Known {
+impl KnownThings {
     /// Nothing.
     pub fn new(alloc: Global) -> Self
         ensures { result ≡ [] }
     {
-        Known {
+        KnownThings {
             places: Vec::new(alloc),
+            first: BTreeMap::new(alloc),
+        }
+    }
+
+    /// Where the scope has what stands at this place among what is known.
+    fn at_place(&self, place: usize) -> Option<&At>
+        ensures { option_map (λ at. at_of at.now) result ≡ option_map at_there (slice_get self.now place) }
+    {
+        match self.places.get(place) {
+            Some(known) => Some(&known.1),
+            None => None,
         }
     }
 
@@ -115,7 +113,10 @@ impl Known {
         ensures found { option_map (λ at. at_of at.now) result ≡ known_at self.now (mention_of key) }
         ensures named { IfSome result (λ at. IsNamed (at_of at.now)) }
     {
-        find(self.places.as_slice(), key)
+        match self.first.get(&key) {
+            Some(place) => self.at_place(*place),
+            None => None,
+        }
     }
 
     /// Whether the scope knows this.
@@ -132,12 +133,14 @@ impl Known {
             (self.new ≡ (if is_some (known_at self.old (mention_of key)) then self.old
             else self.old ++ (mention_of key, at_of at) ∷ [])) }
     {
-        match find(self.places.as_slice(), key) {
-            Some(_) => Ok(()),
-            None => {
-                self.places.push((key, at))?;
-                Ok(())
-            }
+        if self.knows(key) {
+            return Ok(());
         }
+        let place = self.places.len();
+        self.places.reserve(1)?;
+        self.first.insert(key, place)?;
+        // There is room for it now, so that what the map finds is there.
+        self.places.push((key, at))?;
+        Ok(())
     }
 }

@@ -7,6 +7,7 @@ mod body;
 mod encoder;
 mod entities;
 mod known;
+pub mod laws;
 mod modules;
 mod notes;
 mod open;

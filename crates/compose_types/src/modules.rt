@@ -1,12 +1,13 @@
 //! Types of core modules, written.
 
-ghost use Rattle.std.specs.Prelude.{◌≡◌, ◌≤◌, ◌^◌, ℕ, IfOk, OnOk, Err, All};
+ghost use Rattle.std.specs.Prelude.{◌≡◌, ◌≤◌, ◌^◌, ℕ, IfErr, IfOk, OnOk, Err, All};
 ghost use Rattle.comp_format.specs.CoreTypes as core;
 ghost use Rattle.comp_format.specs.Forms.{AreModuleDecls};
 ghost use Rattle.comp_format.specs.Views.{module_tree};
 ghost use Rattle.compose_writing.specs.Conditions.{KeepsModule};
 ghost use Rattle.compose_writing.specs.WriteModules.{before, core_description, module_exports, module_imports, write_module};
-ghost use Rattle.compose_types.specs.Modules.{module_scope};
+ghost use Rattle.compose_types.specs.Largest.{IsTooLarge, module_size};
+ghost use Rattle.compose_types.specs.Modules.{IsCounted, module_scope};
 
 use crate::open::next;
 use comp_entity::{CoreShape, CoreVal, ModuleShape};
@@ -26,7 +27,7 @@ pub struct Module {
 /// A copy of types of core values.
 fn copies(alloc: Global, values: &[CoreVal]) -> Result<Sequence<CoreVal>, EncodeError>
     ensures value { IfOk result (λ copy. copy ≡ values.now) }
-    ensures too_large { (n : ℕ) → result ≡ Err (EncodeError.TooLarge n) → 2 ^ 32 ≤ n }
+    ensures err { IfErr result (λ e. e ≡ EncodeError.Memory) }
 {
     let copies = Vec::from_slice(alloc, values)?;
     Ok(Sequence::from_vec(copies))
@@ -38,7 +39,8 @@ impl Module {
     fn describe(&mut self, alloc: Global, shape: &CoreShape) -> Result<CoreDesc, EncodeError>
         ensures before { OnOk result (module_scope self.new ≡ before shape.now (module_scope self.old)) }
         ensures described { IfOk result (λ desc. desc ≡ core_description shape.now self.old.types) }
-        ensures too_large { (n : ℕ) → result ≡ Err (EncodeError.TooLarge n) → 2 ^ 32 ≤ n }
+        ensures too_large { IsCounted (module_scope self.old) → (n : ℕ) → result ≡ Err (EncodeError.TooLarge n)
+            → IsTooLarge n (module_size (before shape.now (module_scope self.old)).decls) }
     {
         match shape {
             CoreShape::Func { params, results } => {
@@ -69,7 +71,8 @@ impl Module {
         imports: &[(Text, Text, CoreShape)],
     ) -> Result<(), EncodeError>
         ensures written { OnOk result (module_scope self.new ≡ module_imports imports.now (module_scope self.old)) }
-        ensures too_large { (n : ℕ) → result ≡ Err (EncodeError.TooLarge n) → 2 ^ 32 ≤ n }
+        ensures too_large { IsCounted (module_scope self.old) → (n : ℕ) → result ≡ Err (EncodeError.TooLarge n)
+            → IsTooLarge n (module_size (module_imports imports.now (module_scope self.old)).decls) }
     {
         for import in imports {
             let desc = self.describe(alloc, &import.2)?;
@@ -82,7 +85,8 @@ impl Module {
     /// Declares exports, in order.
     fn export(&mut self, alloc: Global, exports: &[(Text, CoreShape)]) -> Result<(), EncodeError>
         ensures written { OnOk result (module_scope self.new ≡ module_exports exports.now (module_scope self.old)) }
-        ensures too_large { (n : ℕ) → result ≡ Err (EncodeError.TooLarge n) → 2 ^ 32 ≤ n }
+        ensures too_large { IsCounted (module_scope self.old) → (n : ℕ) → result ≡ Err (EncodeError.TooLarge n)
+            → IsTooLarge n (module_size (module_exports exports.now (module_scope self.old)).decls) }
     {
         for export in exports {
             let desc = self.describe(alloc, &export.1)?;
@@ -98,7 +102,8 @@ pub fn module_type(alloc: Global, module: &ModuleShape) -> Result<ModuleType, En
     requires { KeepsModule «module».now }
     ensures written { IfOk result (λ ty. module_tree ty ≡ write_module «module».now) }
     ensures form { IfOk result (λ ty. AreModuleDecls (module_tree ty)) }
-    ensures too_large { (n : ℕ) → result ≡ Err (EncodeError.TooLarge n) → 2 ^ 32 ≤ n }
+    ensures too_large { (n : ℕ) → result ≡ Err (EncodeError.TooLarge n)
+        → IsTooLarge n (module_size (write_module «module».now)) }
 {
     let mut written = Module {
         ty: ModuleType::new(alloc),

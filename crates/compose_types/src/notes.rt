@@ -1,11 +1,11 @@
 //! What entities bring, noted in the innermost scope.
 
-ghost use Rattle.std.specs.Prelude.{◌≡◌, ◌<◌, ◌≤◌, ◌^◌, ◌++◌, ◌∷◌, [], ℕ, All, length, IfOk, OnOk, Err, map, option_to_list};
+ghost use Rattle.std.specs.Prelude.{◌≡◌, ◌<◌, ◌++◌, ◌∷◌, [], All, length, IfErr, IfOk, OnOk, map, option_to_list};
 ghost use Rattle.comp_entity.specs.Places.{leaves_in, leaves_of, names_itself};
 ghost use Rattle.comp_entity.specs.Views.{entity_tree, entries_of, named_entities};
 ghost use Rattle.compose_writing.specs.Conditions.{KeepsEntries, KeepsForm};
 ghost use Rattle.compose_writing.specs.WriteEntities.{note_all};
-ghost use Rattle.compose_types.specs.Entities.{leaf_known, leaves_known};
+ghost use Rattle.compose_writing.specs.WriteEntities.{leaf_known, leaves_known};
 ghost use Rattle.compose_types.specs.Scopes.{scopes};
 ghost use Rattle.compose_types.specs.Views.{mention_of};
 
@@ -34,7 +34,7 @@ pub fn key_of(entity: &Entity) -> Option<Key>
 /// A copy of a path.
 fn copy_of(alloc: Global, path: &[Text]) -> Result<Sequence<Text>, EncodeError>
     ensures value { IfOk result (λ copy. copy ≡ path.now) }
-    ensures too_large { (n : ℕ) → result ≡ Err (EncodeError.TooLarge n) → 2 ^ 32 ≤ n }
+    ensures err { IfErr result (λ e. e ≡ EncodeError.Memory) }
 {
     let mut copy = Sequence::new(alloc);
     for name in path {
@@ -46,7 +46,7 @@ fn copy_of(alloc: Global, path: &[Text]) -> Result<Sequence<Text>, EncodeError>
 /// A copy of a path, and a name behind it.
 fn below(alloc: Global, path: &[Text], name: &Text) -> Result<Sequence<Text>, EncodeError>
     ensures value { IfOk result (λ below. below ≡ path.now ++ name.now ∷ []) }
-    ensures too_large { (n : ℕ) → result ≡ Err (EncodeError.TooLarge n) → 2 ^ 32 ≤ n }
+    ensures err { IfErr result (λ e. e ≡ EncodeError.Memory) }
 {
     let mut below = copy_of(alloc, path)?;
     below.push(name.try_clone(alloc)?)?;
@@ -66,7 +66,7 @@ fn note_leaves(
     requires { All (λ name. 0 < length name) path.now × KeepsForm (entity_tree entity.now) }
     ensures noted { OnOk result (scopes state.new
         ≡ note_all (leaves_known index (leaves_of path.now (entity_tree entity.now))) (scopes state.old)) }
-    ensures too_large { (n : ℕ) → result ≡ Err (EncodeError.TooLarge n) → 2 ^ 32 ≤ n }
+    ensures err { IfErr result (λ e. e ≡ EncodeError.Memory) }
 {
     match entity {
         Entity::Instance(instance) => {
@@ -92,7 +92,7 @@ fn note_leaf(
     requires { All (λ name. 0 < length name) path.now }
     ensures noted { OnOk result (scopes state.new
         ≡ note_all (leaf_known instance (path.now, entity_tree entity.now)) (scopes state.old)) }
-    ensures too_large { (n : ℕ) → result ≡ Err (EncodeError.TooLarge n) → 2 ^ 32 ≤ n }
+    ensures err { IfErr result (λ e. e ≡ EncodeError.Memory) }
 {
     match key_of(entity) {
         Some(key) => {
@@ -116,8 +116,9 @@ pub fn note_exports(
 ) -> Result<(), EncodeError>
     requires { All (λ name. 0 < length name) path.now × KeepsEntries (entries_of (named_entities exports.now)) }
     ensures noted { OnOk result (scopes state.new
-        ≡ note_all (leaves_known index (leaves_in path.now (entries_of (named_entities exports.now)))) (scopes state.old)) }
-    ensures too_large { (n : ℕ) → result ≡ Err (EncodeError.TooLarge n) → 2 ^ 32 ≤ n }
+        ≡ note_all (leaves_known index (leaves_in path.now (entries_of (named_entities exports.now))))
+        (scopes state.old)) }
+    ensures err { IfErr result (λ e. e ≡ EncodeError.Memory) }
 {
     for export in exports {
         let inner = below(alloc, path, &export.0)?;

@@ -8,17 +8,18 @@ ghost use Rattle.comp_format.specs.Forms.{AreModuleDecls, IsDefinition};
 ghost use Rattle.comp_format.specs.Views.{module_tree, type_tree};
 ghost use Rattle.comp_format.specs.declared.types.Alias.TheVariants as alias;
 ghost use Rattle.comp_format.specs.declared.types.Sort.TheVariants as sort;
-ghost use Rattle.compose_writing.specs.Keys.{Known as Things, known_at};
+ghost use Rattle.compose_writing.specs.Keys.{KnownThings, known_at};
 ghost use Rattle.compose_writing.specs.Scopes.{add_alias, add_core_type, add_instance, add_type, along, index_in, opened};
 ghost use Rattle.compose_writing.specs.Scopes.{declared as declare};
 ghost use Rattle.compose_writing.specs.WriteEntities.{counted};
 ghost use Rattle.comp_encoder.specs.Writing.{described_sort, next_index};
 ghost use Rattle.compose_types.specs.Bodies.{declared as decls_of_body, entries_for, kind_in};
+ghost use Rattle.compose_types.specs.Largest.{IsTooLarge, scope_size};
 ghost use Rattle.compose_types.specs.Scopes.{item_of, scope_of, with_names};
 ghost use Rattle.compose_types.specs.Views.{mention_of};
 
 use crate::body::{Body, Scope, Side};
-use crate::known::{At, Key, Known};
+use crate::known::{At, Key, KnownThings};
 use comp_format::{DefType, EncodeError, ModuleType, Sort, TypeRef};
 use std::alloc::Global;
 use warg_values::Text;
@@ -44,13 +45,14 @@ pub struct Open {
     /// What is declared in it.
     pub declared: Declared,
     /// What is known in it.
-    pub known: Known,
+    pub known: KnownThings,
 }
 
 /// How many there are with one more.
 pub fn next(count: u32) -> Result<u32, EncodeError>
     ensures value { IfOk result (λ n. n ≡ suc count) }
     ensures too_large { (n : ℕ) → result ≡ Err (EncodeError.TooLarge n) → 2 ^ 32 ≤ n }
+    ensures number { (n : ℕ) → result ≡ Err (EncodeError.TooLarge n) → n ≡ suc count }
 {
     match count.checked_add(1) {
         Some(next) => Ok(next),
@@ -63,7 +65,7 @@ impl Declared {
     pub fn add_type(&mut self, alloc: Global, ty: DefType) -> Result<u32, EncodeError>
         requires resource { is_resource (type_tree ty) ≡ false }
         requires form { IsDefinition (type_tree ty) }
-        ensures added { IfOk result (λ i. (width : ℕ) (known : Things)
+        ensures added { IfOk result (λ i. (width : ℕ) (known : KnownThings)
             → add_type (type_tree ty) (with_names width known self.old) ≡ (with_names width known self.new, i)) }
         ensures kind { kind_in self.new.body ≡ kind_in self.old.body }
         ensures too_large { (n : ℕ) → result ≡ Err (EncodeError.TooLarge n) → 2 ^ 32 ≤ n }
@@ -78,7 +80,7 @@ impl Declared {
     /// Declares a type of core modules, and gives its index.
     pub fn add_core_type(&mut self, alloc: Global, ty: ModuleType) -> Result<u32, EncodeError>
         requires { AreModuleDecls (module_tree ty) }
-        ensures added { IfOk result (λ i. (width : ℕ) (known : Things)
+        ensures added { IfOk result (λ i. (width : ℕ) (known : KnownThings)
             → add_core_type (core.Module (module_tree ty)) (with_names width known self.old)
             ≡ (with_names width known self.new, i)) }
         ensures kind { kind_in self.new.body ≡ kind_in self.old.body }
@@ -99,7 +101,7 @@ impl Declared {
         name: &Text,
     ) -> Result<u32, EncodeError>
         requires { 0 < length name.now }
-        ensures added { IfOk result (λ i. (width : ℕ) (known : Things)
+        ensures added { IfOk result (λ i. (width : ℕ) (known : KnownThings)
             → add_alias (alias.Export sort.Ty instance name.now) (with_names width known self.old)
             ≡ (with_names width known self.new, i)) }
         ensures kind { kind_in self.new.body ≡ kind_in self.old.body }
@@ -114,7 +116,7 @@ impl Declared {
 
     /// Declares an alias of a type of a scope that is so many scopes further out, and gives its index.
     pub fn add_outer(&mut self, alloc: Global, count: u32, index: u32) -> Result<u32, EncodeError>
-        ensures added { IfOk result (λ i. (width : ℕ) (known : Things)
+        ensures added { IfOk result (λ i. (width : ℕ) (known : KnownThings)
             → add_alias (alias.Outer sort.Ty count index) (with_names width known self.old)
             ≡ (with_names width known self.new, i)) }
         ensures kind { kind_in self.new.body ≡ kind_in self.old.body }
@@ -135,7 +137,7 @@ impl Declared {
         name: &Text,
     ) -> Result<u32, EncodeError>
         requires { 0 < length name.now }
-        ensures added { IfOk result (λ i. (width : ℕ) (known : Things)
+        ensures added { IfOk result (λ i. (width : ℕ) (known : KnownThings)
             → add_instance instance name.now (with_names width known self.old)
             ≡ (with_names width known self.new, i)) }
         ensures kind { kind_in self.new.body ≡ kind_in self.old.body }
@@ -153,7 +155,7 @@ impl Declared {
     #[tactic(auto, using(crate::proofs::ScopeLaws::along_none, crate::proofs::ScopeLaws::along_last, crate::proofs::ScopeLaws::along_more))]
     pub fn along(&mut self, alloc: Global, from: u32, path: &[Text]) -> Result<u32, EncodeError>
         requires { All (λ name. 0 < length name) path.now }
-        ensures added { IfOk result (λ i. (width : ℕ) (known : Things)
+        ensures added { IfOk result (λ i. (width : ℕ) (known : KnownThings)
             → along from path.now (with_names width known self.old) ≡ (with_names width known self.new, i)) }
         ensures kind { kind_in self.new.body ≡ kind_in self.old.body }
         ensures too_large { (n : ℕ) → result ≡ Err (EncodeError.TooLarge n) → 2 ^ 32 ≤ n }
@@ -182,7 +184,7 @@ impl Declared {
         ty: TypeRef,
     ) -> Result<(), EncodeError>
         requires { 0 < length name.now }
-        ensures named { OnOk result ((width : ℕ) (known : Things)
+        ensures named { OnOk result ((width : ℕ) (known : KnownThings)
             → counted ty (declare (item_of side name.now ty) (with_names width known self.old))
             ≡ with_names width known self.new) }
         ensures kind { kind_in self.new.body ≡ kind_in self.old.body }
@@ -200,13 +202,15 @@ impl Declared {
     pub fn import(&mut self, alloc: Global, name: &str, ty: TypeRef) -> Result<u32, EncodeError>
         requires kind { kind_in self.old.body ≡ Scope.Builder }
         requires name { 0 < length name.now }
-        ensures named { OnOk result ((width : ℕ) (known : Things)
+        ensures named { OnOk result ((width : ℕ) (known : KnownThings)
             → counted ty (declare (tree.Import name.now ty) (with_names width known self.old))
             ≡ with_names width known self.new) }
         ensures index { IfOk result (λ i.
             i ≡ next_index (described_sort ty) (entries_for (decls_of_body self.old.body))) }
         ensures kind { kind_in self.new.body ≡ kind_in self.old.body }
-        ensures too_large { (n : ℕ) → result ≡ Err (EncodeError.TooLarge n) → 2 ^ 32 ≤ n }
+        ensures too_large { (width : ℕ) (known : KnownThings) (n : ℕ) → result ≡ Err (EncodeError.TooLarge n)
+            → IsTooLarge n
+            (scope_size (counted ty (declare (tree.Import name.now ty) (with_names width known self.old)))) }
     {
         let index = self.body.import_item(alloc, name, ty)?;
         self.count(ty)?;
@@ -215,10 +219,11 @@ impl Declared {
 
     /// Counts an import or export of this description.
     fn count(&mut self, ty: TypeRef) -> Result<(), EncodeError>
-        ensures counted { OnOk result ((width : ℕ) (known : Things)
+        ensures counted { OnOk result ((width : ℕ) (known : KnownThings)
             → counted ty (with_names width known self.old) ≡ with_names width known self.new) }
         ensures body { self.new.body ≡ self.old.body }
-        ensures too_large { (n : ℕ) → result ≡ Err (EncodeError.TooLarge n) → 2 ^ 32 ≤ n }
+        ensures too_large { (width : ℕ) (known : KnownThings) (n : ℕ) → result ≡ Err (EncodeError.TooLarge n)
+            → IsTooLarge n (scope_size (counted ty (with_names width known self.old))) }
     {
         match ty {
             TypeRef::TyEqual(_) | TypeRef::TyFresh => self.types = next(self.types)?,
@@ -243,7 +248,7 @@ impl Open {
                 instances: 0,
                 core_types: 0,
             },
-            known: Known::new(alloc),
+            known: KnownThings::new(alloc),
         }
     }
 

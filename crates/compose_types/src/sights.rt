@@ -6,7 +6,8 @@ ghost use Rattle.comp_entity.specs.Names.{in_func, in_payload, in_value};
 ghost use Rattle.comp_entity.specs.Places.{same_mention};
 ghost use Rattle.comp_entity.specs.Views.{component_sides, entity_tree, entries_of, func_tree, named_entities, type_tree as shape_tree, value_tree};
 ghost use Rattle.compose_writing.specs.Conditions.{all_known, are_known, is_known, sides_known, type_known_behind, unnamed};
-ghost use Rattle.compose_types.specs.Sights.{all_brought, brings, case_known, field_known, held_known, part_known, sees};
+ghost use Rattle.compose_meaning.specs.Readable.{brought_keys, keys_among};
+ghost use Rattle.compose_types.specs.Sights.{case_known, field_known, held_known, part_known, sees};
 ghost use Rattle.compose_types.specs.Values.{boxed_tree};
 ghost use Rattle.compose_types.specs.Views.{mention_of};
 
@@ -38,7 +39,7 @@ pub enum Sight<'a> {
 #[cycle(bringing)]
 #[tactic(auto, using(crate::proofs::SightLaws::instance_brings))]
 fn brings(entity: &Entity, key: Key) -> bool
-    ensures { result ≡ list_any (same_mention (mention_of key)) (brings (entity_tree entity.now)) }
+    ensures { result ≡ list_any (λ k. same_mention k (mention_of key)) (brought_keys (entity_tree entity.now)) }
 {
     match entity {
         Entity::Instance(instance) => some_brings(&instance.exports, key),
@@ -51,7 +52,8 @@ fn brings(entity: &Entity, key: Key) -> bool
 /// Whether some of these entries bring a thing.
 #[cycle(bringing)]
 fn some_brings(entries: &[(Text, Entity)], key: Key) -> bool
-    ensures { result ≡ list_any (same_mention (mention_of key)) (all_brought (entries_of (named_entities entries.now))) }
+    ensures { result ≡ list_any (λ k. same_mention k (mention_of key))
+        (keys_among (entries_of (named_entities entries.now))) }
 {
     for entry in entries {
         if brings(&entry.1, key) {

@@ -7,7 +7,7 @@ ghost use Rattle.comp_format.specs.Forms.{AreDecls, AreModuleDecls, IsDefinition
 ghost use Rattle.comp_format.specs.Views.{component_type_tree, instance_type_tree, module_tree, type_tree};
 ghost use Rattle.comp_format.specs.declared.types.Alias.TheVariants as alias;
 ghost use Rattle.comp_format.specs.declared.types.Sort.TheVariants as sort;
-ghost use Rattle.compose_writing.specs.Scopes.{Scope as Written, add_alias, add_core_type, add_type, change_top, closed, knows, on_top, opened, outermost, standing, type_index, with_known};
+ghost use Rattle.compose_writing.specs.Scopes.{WrittenScope, add_alias, add_core_type, add_type, change_top, closed, knows, on_top, opened, outermost, standing, type_index, with_known};
 ghost use Rattle.compose_writing.specs.WriteEntities.{at_end, note_new, write_also, write_import};
 ghost use Rattle.compose_writing.specs.Conditions.{KeepsForm, is_known};
 ghost use Rattle.compose_meaning.specs.Described.{IsDescribed};
@@ -23,6 +23,7 @@ ghost use Rattle.comp_entity.specs.Views.{entity_tree};
 ghost use Rattle.comp_encoder.specs.Writing.{described_sort, next_index};
 ghost use Rattle.comp_encoder.specs.Builder.{entries_of};
 ghost use Rattle.compose_types.specs.Bodies.{entries_for};
+ghost use Rattle.compose_types.specs.Largest.{IsTooLarge, scopes_size};
 ghost use Rattle.compose_types.specs.Scopes.{Declares, item_of, outermost_scope, scopes, scopes_in};
 ghost use Rattle.compose_types.specs.Views.{IsNamed, at_of, mention_of};
 
@@ -82,7 +83,8 @@ impl TypeState {
     pub(crate) fn add_type(&mut self, alloc: Global, ty: DefType) -> Result<u32, EncodeError>
         requires resource { is_resource (type_tree ty) ≡ false }
         requires form { IsDefinition (type_tree ty) }
-        ensures added { IfOk result (λ i. on_top (add_type (type_tree ty)) (scopes self.old) ≡ Some (scopes self.new, i)) }
+        ensures added { IfOk result (λ i. on_top (add_type (type_tree ty)) (scopes self.old)
+            ≡ Some (scopes self.new, i)) }
         ensures too_large { (n : ℕ) → result ≡ Err (EncodeError.TooLarge n) → 2 ^ 32 ≤ n }
     {
         match self.inner.pop() {
@@ -302,7 +304,8 @@ impl TypeState {
     /// From then on the state knows each resource and named type that the entity brings.
     ///
     /// The description is the one that `TypeEncoder::entity` gave for the entity in this state. `TooLarge` has a number
-    /// of 2^32 or more that would have to be written. After a refusal the state is spent.
+    /// of 2^32 or more, which is not above the largest length, count or index that would have to be written. After a
+    /// refusal the state is spent.
     pub fn import(
         &mut self,
         alloc: Global,
@@ -316,34 +319,15 @@ impl TypeState {
             (scopes self.new ≡ write_import name.now (entity_tree entity.now) ty.now (scopes self.old)) }
         ensures index { IfOk result (λ i.
             i ≡ next_index (described_sort ty.now) (entries_for (outermost_scope self.old).decls)) }
-        ensures reads_back { (mean : Meaning) (m : Written) (k : Known) → scopes self.old ≡ m ∷ [] → Keeps mean m k
+        ensures reads_back { (mean : Meaning) (m : WrittenScope) (k : Known) → scopes self.old ≡ m ∷ [] → Keeps mean m k
             → HasMeaning mean (spot_of m k) (entity_tree entity.now)
             → IsDescribed mean (spot_of m k) ty.now (entity_tree entity.now) k.spaces
             → list_any (str_eq_ignore_ascii_case name.now) (spot_of m k).names ≡ false
             → OnOk result (IsImported mean m k (scopes self.new) name.now (entity_tree entity.now)) }
-        ensures too_large { (n : ℕ) → result ≡ Err (EncodeError.TooLarge n) → 2 ^ 32 ≤ n }
+        ensures too_large { (n : ℕ) → result ≡ Err (EncodeError.TooLarge n)
+            → IsTooLarge n (scopes_size (write_import name.now (entity_tree entity.now) ty.now (scopes self.old))) }
     {
         an_import_reads_back();
-        let index = self.add_import(alloc, name, entity, ty)?;
-        Ok(index)
-    }
-
-    /// Writes an import of this entity and description into the component, and gives the index of what is imported.
-    fn add_import(
-        &mut self,
-        alloc: Global,
-        name: &str,
-        entity: &Entity,
-        ty: &TypeRef,
-    ) -> Result<u32, EncodeError>
-        requires name { 0 < length name.now }
-        requires form { KeepsForm (entity_tree entity.now) }
-        ensures written { OnOk result
-            (scopes self.new ≡ write_import name.now (entity_tree entity.now) ty.now (scopes self.old)) }
-        ensures index { IfOk result (λ i.
-            i ≡ next_index (described_sort ty.now) (entries_for (outermost_scope self.old).decls)) }
-        ensures too_large { (n : ℕ) → result ≡ Err (EncodeError.TooLarge n) → 2 ^ 32 ≤ n }
-    {
         match self.inner.pop() {
             Some(_) => Err(EncodeError::Memory),
             None => {
@@ -367,10 +351,10 @@ impl TypeState {
     ) -> Result<(), EncodeError>
         requires { All (λ name. 0 < length name) path }
         ensures written { OnOk result (scopes self.new ≡ write_also number from path (scopes self.old)) }
-        ensures reads_back { (mean : Meaning) (m : Written) (k : Known) (s : Standing) → scopes self.old ≡ m ∷ []
+        ensures reads_back { (mean : Meaning) (m : WrittenScope) (k : Known) (s : Standing) → scopes self.old ≡ m ∷ []
             → Keeps mean m k → at_place k.spaces (at_end from path) ≡ Some s → Means 0 (meant mean (OfPlace number)) s
             → AllByRecursion (IsOlder mean (spot_of m k)) (in_value 0 (mean.tree number))
-            → OnOk result ((scope : Written) × (scopes self.new ≡ scope ∷ []) × Keeps mean scope k) }
+            → OnOk result ((scope : WrittenScope) × (scopes self.new ≡ scope ∷ []) × Keeps mean scope k) }
         ensures err { IfErr result (λ e. e ≡ EncodeError.Memory) }
     {
         another_number_is_known();
@@ -407,8 +391,8 @@ impl TypeState {
     }
 
     /// Whether the state knows each resource and named type that an entity mentions and does not itself bring, there or
-    /// earlier. It takes no memory, and so looks back over what the entity brings at each mention: its time grows with the
-    /// square of that.
+    /// earlier. It takes no memory, and so looks back over what the entity brings at each mention: its time grows with
+    /// the square of that.
     pub fn knows(&self, entity: &Entity) -> bool
         ensures { result ≡ is_known (knows (scopes self.now)) (entity_tree entity.now) }
     {

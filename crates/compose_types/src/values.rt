@@ -1,6 +1,6 @@
 //! Types of values and of functions, written into scopes.
 
-ghost use Rattle.std.specs.Prelude.{◌≡◌, ◌≤◌, ◌^◌, ℕ, All, IfOk, Err, Some};
+ghost use Rattle.std.specs.Prelude.{◌≡◌, ◌≤◌, ◌^◌, ℕ, All, IfErr, IfOk, Err, Some};
 ghost use Rattle.comp_format.specs.Forms.{IsDefined};
 ghost use Rattle.comp_entity.specs.Fits.{place_of};
 ghost use Rattle.comp_entity.specs.Names.{OfPlace, OfResource};
@@ -44,7 +44,7 @@ fn add_defined(alloc: Global, state: &mut TypeState, ty: DefinedType) -> Result<
 /// Copies of labels, in order.
 fn copies(alloc: Global, labels: &[Text]) -> Result<Sequence<Text>, EncodeError>
     ensures value { IfOk result (λ copies. copies ≡ labels.now) }
-    ensures too_large { (n : ℕ) → result ≡ Err (EncodeError.TooLarge n) → 2 ^ 32 ≤ n }
+    ensures err { IfErr result (λ e. e ≡ EncodeError.Memory) }
 {
     let mut copies = Sequence::new(alloc);
     for label in labels {
@@ -84,53 +84,36 @@ pub fn defined_of(
     ty: &ValueShape,
 ) -> Result<DefinedType, EncodeError>
     requires { KeepsValue (value_tree ty.now) }
-    ensures written { IfOk result (λ d. write_defined (value_tree ty.now) (scopes state.old) ≡ Some (scopes state.new, d)) }
+    ensures written { IfOk result (λ d. write_defined (value_tree ty.now) (scopes state.old)
+        ≡ Some (scopes state.new, d)) }
     ensures form { IfOk result (λ d. IsDefined d) }
     ensures too_large { (n : ℕ) → result ≡ Err (EncodeError.TooLarge n) → 2 ^ 32 ≤ n }
 {
     match ty {
         ValueShape::Primitive(primitive) => Ok(DefinedType::Primitive(*primitive)),
-        ValueShape::TupleOf(parts) => {
-            let parts = parts_of(alloc, state, parts)?;
-            Ok(DefinedType::TupleOf(parts))
-        }
-        ValueShape::RecordOf(_, fields) => {
-            let fields = fields_of(alloc, state, fields)?;
-            Ok(DefinedType::RecordOf(fields))
-        }
-        ValueShape::VariantOf(_, cases) => {
-            let cases = cases_of(alloc, state, cases)?;
-            Ok(DefinedType::VariantOf(cases))
-        }
-        ValueShape::ListOf(item) => {
-            let item = value_of(alloc, state, item)?;
-            Ok(DefinedType::ListOf(item))
-        }
-        ValueShape::FlagsOf(_, labels) => {
-            let labels = copies(alloc, labels.as_slice())?;
-            Ok(DefinedType::FlagsOf(labels))
-        }
-        ValueShape::EnumOf(_, labels) => {
-            let labels = copies(alloc, labels.as_slice())?;
-            Ok(DefinedType::EnumOf(labels))
-        }
-        ValueShape::OptionOf(item) => {
-            let item = value_of(alloc, state, item)?;
-            Ok(DefinedType::OptionOf(item))
-        }
+        ValueShape::TupleOf(parts) => Ok(DefinedType::TupleOf(parts_of(alloc, state, parts)?)),
+        ValueShape::RecordOf(_, fields) => Ok(DefinedType::RecordOf(fields_of(
+            alloc, state, fields,
+        )?)),
+        ValueShape::VariantOf(_, cases) => Ok(DefinedType::VariantOf(cases_of(
+            alloc, state, cases,
+        )?)),
+        ValueShape::ListOf(item) => Ok(DefinedType::ListOf(value_of(alloc, state, item)?)),
+        ValueShape::FlagsOf(_, labels) => Ok(DefinedType::FlagsOf(copies(
+            alloc,
+            labels.as_slice(),
+        )?)),
+        ValueShape::EnumOf(_, labels) => Ok(DefinedType::EnumOf(copies(alloc, labels.as_slice())?)),
+        ValueShape::OptionOf(item) => Ok(DefinedType::OptionOf(value_of(alloc, state, item)?)),
         ValueShape::ResultOf { ok, err } => {
             let ok = boxed_of(alloc, state, ok)?;
             let err = boxed_of(alloc, state, err)?;
             Ok(DefinedType::ResultOf { ok, err })
         }
-        ValueShape::Own(resource) => {
-            let index = resource_index(alloc, state, *resource)?;
-            Ok(DefinedType::Own(index))
-        }
-        ValueShape::Borrow(resource) => {
-            let index = resource_index(alloc, state, *resource)?;
-            Ok(DefinedType::Borrow(index))
-        }
+        ValueShape::Own(resource) => Ok(DefinedType::Own(resource_index(alloc, state, *resource)?)),
+        ValueShape::Borrow(resource) => Ok(DefinedType::Borrow(resource_index(
+            alloc, state, *resource,
+        )?)),
     }
 }
 
@@ -142,7 +125,8 @@ pub fn value_of(
     ty: &ValueShape,
 ) -> Result<ValType, EncodeError>
     requires { KeepsValue (value_tree ty.now) }
-    ensures written { IfOk result (λ t. write_value (value_tree ty.now) (scopes state.old) ≡ Some (scopes state.new, t)) }
+    ensures written { IfOk result (λ t. write_value (value_tree ty.now) (scopes state.old)
+        ≡ Some (scopes state.new, t)) }
     ensures too_large { (n : ℕ) → result ≡ Err (EncodeError.TooLarge n) → 2 ^ 32 ≤ n }
 {
     if let ValueShape::Primitive(primitive) = ty {
@@ -276,7 +260,8 @@ pub fn func_index(
     func: &FuncShape,
 ) -> Result<u32, EncodeError>
     requires { KeepsFunc (func_tree func.now) }
-    ensures written { IfOk result (λ i. write_func (func_tree func.now) (scopes state.old) ≡ Some (scopes state.new, i)) }
+    ensures written { IfOk result (λ i. write_func (func_tree func.now) (scopes state.old)
+        ≡ Some (scopes state.new, i)) }
     ensures too_large { (n : ℕ) → result ≡ Err (EncodeError.TooLarge n) → 2 ^ 32 ≤ n }
 {
     let params = fields_of(alloc, state, &func.params)?;

@@ -7,8 +7,8 @@ use Rattle.comp_entity.specs.Entity.{Name}
 use Rattle.comp_entity.specs.Names.{Mention, OfResource, OfPlace}
 use Rattle.comp_entity.specs.Fits.{same_name}
 use Rattle.comp_entity.specs.Places.{same_mention}
-use Rattle.compose_writing.specs.Keys.{At, Index, Known, known_at, from_within}
-use Rattle.compose_writing.specs.Scopes.{Scope, change_top, knows, with_known}
+use Rattle.compose_writing.specs.Keys.{At, Index, KnownThings, known_at, from_within}
+use Rattle.compose_writing.specs.Scopes.{WrittenScope, change_top, knows, with_known}
 use Rattle.compose_writing.specs.WriteEntities.{note_new, note_all, note_here}
 use Rattle.compose_writing.specs.Conditions.{with_these}
 use Rattle.compose_writing.proofs.ValueLaws.{both, name_of, names_of, known_by, knows_is}
@@ -39,7 +39,7 @@ kept : (b : Bool) (at : At) (o p : Option At) → (is_some o ≡ true → is_som
 kept true at o p f h = refl
 kept false at o p f h = f h
 
-known_more : (ks more : Known) (key : Mention) → is_some (known_at ks key) ≡ true → is_some (known_at (ks ++ more) key) ≡ true
+known_more : (ks more : KnownThings) (key : Mention) → is_some (known_at ks key) ≡ true → is_some (known_at (ks ++ more) key) ≡ true
 known_more [] more key h = absurd cc
 known_more (k ∷ ks) more key h = kept (same_mention k.0 key) k.1 (known_at ks key) (known_at (ks ++ more) key) (known_more ks more key) h
 
@@ -47,7 +47,7 @@ found : (b : Bool) (at : At) (o : Option At) → is_some o ≡ true → is_some 
 found true at o h = refl
 found false at o h = h
 
-known_last : (ks : Known) (key : Mention) (at : At) → is_some (known_at (ks ++ (key, at) ∷ []) key) ≡ true
+known_last : (ks : KnownThings) (key : Mention) (at : At) → is_some (known_at (ks ++ (key, at) ∷ []) key) ≡ true
 known_last [] key at = ap (λ b. is_some (if b then Some at else None)) (mention_itself key)
 known_last (k ∷ ks) key at = found (same_mention k.0 key) k.1 (known_at (ks ++ (key, at) ∷ []) key) (known_last ks key at)
 
@@ -59,7 +59,7 @@ either false false c f h = h
 first : (a b : Bool) → a ≡ true → a || b ≡ true
 first a b h = ap (λ a. a || b) h
 
-module _ (key : Mention) (at : At) (m : Scope) (ns : List (ℕ × Known)) where
+module _ (key : Mention) (at : At) (m : WrittenScope) (ns : List (ℕ × KnownThings)) where
   known_grows : (k : Mention) → known_by (name_of m ∷ ns) k ≡ true → known_by (name_of (with_known key at m) ∷ ns) k ≡ true
   known_grows k h = grows (is_some (known_at m.known key))
     where
@@ -77,38 +77,38 @@ module _ (key : Mention) (at : At) (m : Scope) (ns : List (ℕ × Known)) where
 -- ---- what is noted is known
 
 -- what is known is known in these scopes
-abbrev pub Covers : (Mention → Bool) → List (ℕ × Known) → Type 0
+abbrev pub Covers : (Mention → Bool) → List (ℕ × KnownThings) → Type 0
 Covers known ns = (key : Mention) → known key ≡ true → known_by ns key ≡ true
 
 -- The scopes around the innermost are called and know what they did, and with the innermost they know what is known.
-pub record Noted (known : Mention → Bool) (ns : List (ℕ × Known)) (ms : List Scope) : Type 0 where
-  pub top : ℕ × Known
+pub record Noted (known : Mention → Bool) (ns : List (ℕ × KnownThings)) (ms : List WrittenScope) : Type 0 where
+  pub top : ℕ × KnownThings
   pub names : names_of ms ≡ top ∷ ns
   pub covers : Covers known (top ∷ ns)
 
-pub noted_less : (more less : Mention → Bool) (ns : List (ℕ × Known)) (ms : List Scope) → ((key : Mention) → less key ≡ true → more key ≡ true) → Noted more ns ms → Noted less ns ms
+pub noted_less : (more less : Mention → Bool) (ns : List (ℕ × KnownThings)) (ms : List WrittenScope) → ((key : Mention) → less key ≡ true → more key ≡ true) → Noted more ns ms → Noted less ns ms
 noted_less more less ns ms h n = record { top = n.top; names = n.names; covers = λ key k. n.covers key (h key k) }
 
-covers_one : (known : Mention → Bool) (key : Mention) (ns : List (ℕ × Known)) → Covers known ns → known_by ns key ≡ true → Covers (with_these known (key ∷ [])) ns
-covers_one known key ns covers is k h = one (known k) (same_mention k key) refl refl h
+covers_one : (known : Mention → Bool) (key : Mention) (ns : List (ℕ × KnownThings)) → Covers known ns → known_by ns key ≡ true → Covers (with_these known (key ∷ [])) ns
+covers_one known key ns covers is k h = one (known k) (same_mention key k) refl refl h
   where
-    one : (a b : Bool) → known k ≡ a → same_mention k key ≡ b → a || (b || false) ≡ true → known_by ns k ≡ true
+    one : (a b : Bool) → known k ≡ a → same_mention key k ≡ b → a || (b || false) ≡ true → known_by ns k ≡ true
     one true b p q h = covers k p
-    one false true p q h = ap (known_by ns) (mention_is k key q) ∙ is
+    one false true p q h = ap (known_by ns) (sym (mention_is key k q)) ∙ is
     one false false p q h = absurd cc
 
-abbrev head_of : (ℕ × Known) → List (ℕ × Known) → ℕ × Known
+abbrev head_of : (ℕ × KnownThings) → List (ℕ × KnownThings) → ℕ × KnownThings
 head_of d [] = d
 head_of d (n ∷ ns) = n
 
-abbrev pub tail_of : List (ℕ × Known) → List (ℕ × Known)
+abbrev pub tail_of : List (ℕ × KnownThings) → List (ℕ × KnownThings)
 tail_of [] = []
 tail_of (n ∷ ns) = ns
 
-pub never : {P : Type 0} (n : ℕ × Known) (ns : List (ℕ × Known)) → [] ≡ n ∷ ns → P
+pub never : {P : Type 0} (n : ℕ × KnownThings) (ns : List (ℕ × KnownThings)) → [] ≡ n ∷ ns → P
 never n ns h = absurd cc
 
-here_noted : (known : Mention → Bool) (ns : List (ℕ × Known)) (key : Mention) (at : At) (ms : List Scope) → Noted known ns ms → Noted (with_these known (key ∷ [])) ns (change_top (with_known key at) ms)
+here_noted : (known : Mention → Bool) (ns : List (ℕ × KnownThings)) (key : Mention) (at : At) (ms : List WrittenScope) → Noted known ns ms → Noted (with_these known (key ∷ [])) ns (change_top (with_known key at) ms)
 unfolding change_top
 here_noted known ns key at [] n = never n.top ns n.names
 here_noted known ns key at (m ∷ ms) n =
@@ -120,7 +120,7 @@ here_noted known ns key at (m ∷ ms) n =
       covers = covers_one known key (top ∷ ns) (λ k h. known_grows key at m ns k (ap (λ x. known_by (x ∷ ns) k) was ∙ n.covers k h)) (known_here key at m ns);
     }
 
-new_noted : (known : Mention → Bool) (ns : List (ℕ × Known)) (key : Mention) (at : At) (ms : List Scope) → Noted known ns ms → Noted (with_these known (key ∷ [])) ns (note_new key at ms)
+new_noted : (known : Mention → Bool) (ns : List (ℕ × KnownThings)) (key : Mention) (at : At) (ms : List WrittenScope) → Noted known ns ms → Noted (with_these known (key ∷ [])) ns (note_new key at ms)
 new_noted known ns key at ms n = new (knows ms key) refl
   where
     new : (b : Bool) → knows ms key ≡ b → Noted (with_these known (key ∷ [])) ns (if b then ms else change_top (with_known key at) ms)
@@ -136,18 +136,18 @@ one_more true b c h = refl
 one_more false true c h = refl
 one_more false false c h = h
 
-pub all_noted : (keys : List Mention) (known : Mention → Bool) (ns : List (ℕ × Known)) (at : At) (ms : List Scope) → Noted known ns ms → Noted (with_these known keys) ns (note_all (map (λ key. (key, at)) keys) ms)
+pub all_noted : (keys : List Mention) (known : Mention → Bool) (ns : List (ℕ × KnownThings)) (at : At) (ms : List WrittenScope) → Noted known ns ms → Noted (with_these known keys) ns (note_all (map (λ key. (key, at)) keys) ms)
 unfolding note_all
 all_noted [] known ns at ms n = noted_less known (with_these known []) ns ms (λ key h. none_more (known key) h) n
 all_noted (k ∷ ks) known ns at ms n =
     let after = note_all (map (λ key. (key, at)) ks) (note_new k at ms) in
-    noted_less (with_these (with_these known (k ∷ [])) ks) (with_these known (k ∷ ks)) ns after (λ key h. one_more (known key) (same_mention key k) (list_any (same_mention key) ks) h)
+    noted_less (with_these (with_these known (k ∷ [])) ks) (with_these known (k ∷ ks)) ns after (λ key h. one_more (known key) (same_mention k key) (list_any (λ x. same_mention x key) ks) h)
     (all_noted ks (with_these known (k ∷ [])) ns at (note_new k at ms) (new_noted known ns k at ms n))
 
-pub all_here : (keys : List Mention) (known : Mention → Bool) (ns : List (ℕ × Known)) (index : ℕ) (ms : List Scope) → Noted known ns ms → Noted (with_these known keys) ns (note_here keys index ms)
+pub all_here : (keys : List Mention) (known : Mention → Bool) (ns : List (ℕ × KnownThings)) (index : ℕ) (ms : List WrittenScope) → Noted known ns ms → Noted (with_these known keys) ns (note_here keys index ms)
 unfolding note_here
 all_here [] known ns index ms n = noted_less known (with_these known []) ns ms (λ key h. none_more (known key) h) n
 all_here (k ∷ ks) known ns index ms n =
     let after = note_here ks index (change_top (with_known k (Index index)) ms) in
-    noted_less (with_these (with_these known (k ∷ [])) ks) (with_these known (k ∷ ks)) ns after (λ key h. one_more (known key) (same_mention key k) (list_any (same_mention key) ks) h)
+    noted_less (with_these (with_these known (k ∷ [])) ks) (with_these known (k ∷ ks)) ns after (λ key h. one_more (known key) (same_mention k key) (list_any (λ x. same_mention x key) ks) h)
     (all_here ks (with_these known (k ∷ [])) ns index (change_top (with_known k (Index index)) ms) (here_noted known ns k (Index index) ms n))

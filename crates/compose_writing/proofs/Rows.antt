@@ -18,7 +18,7 @@ use Rattle.comp_format.specs.Definitions.{TypeTree, Decls, decls_of, definition_
 use Rattle.comp_entity.specs.Entity.{made, brought, Primitive, TupleOf, Own, Borrow, none, more, Value, Resource, IsType, IsFunc, IsInstance, IsComponent, Entries, no_entry, entry, EntityTree}
 use Rattle.comp_entity.specs.Names.{OfResource}
 use Rattle.compose_writing.specs.Keys.{InInstance}
-use Rattle.compose_writing.specs.Scopes.{Scope, outermost, standing, type_index, on_top, closed, knows, along, change_top}
+use Rattle.compose_writing.specs.Scopes.{WrittenScope, outermost, standing, type_index, on_top, closed, knows, along, change_top}
 use Rattle.compose_writing.specs.Scopes.{brought as brought_in}
 use Rattle.compose_writing.specs.WriteValues.{write_defined, write_params, write_result, write_func}
 use Rattle.compose_writing.specs.WriteEntities.{note_here, note_all, with_named, write_entity, write_import, write_component}
@@ -75,10 +75,10 @@ taking_type = tree.Instance (decls_of
     ∷ tree.Export (codes "g") (description.Func 2)
     ∷ []))
 
-before_import : Scope
+before_import : WrittenScope
 before_import = record outermost { decls = decls_of (tree.Ty borrowing_type ∷ []); types = 1 }
 
-after_import : Scope
+after_import : WrittenScope
 after_import = record outermost {
   decls = decls_of (tree.Ty borrowing_type ∷ tree.Import (codes "i") (description.Instance 0) ∷ []);
   types = 1;
@@ -134,7 +134,7 @@ nested_decls = decls_of
     ∷ tree.Export (codes "n") (description.Instance 0)
     ∷ [])
 
-knows_nested : Scope
+knows_nested : WrittenScope
 knows_nested = record outermost {
   decls = decls_of (tree.Ty (tree.Instance nested_decls) ∷ tree.Import (codes "i") (description.Instance 0) ∷ []);
   types = 1;

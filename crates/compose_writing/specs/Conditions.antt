@@ -97,7 +97,7 @@ abbrev mutual
 -- ---- Entities that mention nothing but what is known, or what they themselves bring, there or before.
 
 abbrev pub with_these : (Mention → Bool) → List Mention → Mention → Bool
-with_these known keys m = known m || list_any (same_mention m) keys
+with_these known keys m = known m || list_any (λ key. same_mention key m) keys
 
 abbrev pub all_known : (Mention → Bool) → List (ℕ × Mention) → Bool
 all_known known ms = list_all (λ m. known m.1) ms

@@ -12,10 +12,10 @@ pub data At : Type 0 where
   InInstance : ℕ → Path → At
 
 -- things that are known, each once, with the place where a scope has it
-abbrev pub Known : Type 0
-Known = List (Mention × At)
+abbrev pub KnownThings : Type 0
+KnownThings = List (Mention × At)
 
-abbrev pub known_at : Known → Mention → Option At
+abbrev pub known_at : KnownThings → Mention → Option At
 known_at [] m = None
 known_at (k ∷ ks) m = if same_mention k.0 m then Some k.1 else known_at ks m
 

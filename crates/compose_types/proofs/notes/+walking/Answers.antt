@@ -3,7 +3,7 @@ use Rattle.comp_entity.specs.declared.entity.Entity.{the_lemmas}
 use Rattle.comp_entity.specs.Places.{leaves_of}
 use Rattle.comp_entity.specs.Views.{entity_tree}
 use Rattle.compose_writing.specs.WriteEntities.{note_all}
-use Rattle.compose_types.specs.Entities.{leaves_known}
+use Rattle.compose_writing.specs.WriteEntities.{leaves_known}
 use Rattle.compose_types.specs.Scopes.{scopes}
 use Rattle.compose_types.proofs.NoteLaws.{entry_keeps, path_keeps, exports_step, exports_end}
 use Rattle.compose_types.proofs.notes.+walking.Goals as goal

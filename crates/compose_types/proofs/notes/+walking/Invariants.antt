@@ -2,7 +2,7 @@ use Rattle.std.proofs.Common.{◌≡◌, drop}
 use Rattle.comp_entity.specs.Places.{leaves_in}
 use Rattle.comp_entity.specs.Views.{entries_of, named_entities}
 use Rattle.compose_writing.specs.WriteEntities.{note_all}
-use Rattle.compose_types.specs.Entities.{leaves_known}
+use Rattle.compose_writing.specs.WriteEntities.{leaves_known}
 use Rattle.compose_types.specs.Scopes.{scopes}
 use Rattle.compose_types.proofs.notes.+walking.Given as goal
 

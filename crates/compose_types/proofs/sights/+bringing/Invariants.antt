@@ -6,4 +6,4 @@ use Rattle.compose_types.proofs.sights.+bringing.Given as goal
 
 abbrev pub invariant-some_brings-loop-entry : goal.invariant-some_brings-loop-entry
 invariant-some_brings-loop-entry l =
-    some_from (same_mention (mention_of l.key)) l.entries l.entry-index ≡ some_from (same_mention (mention_of l.key)) l.entries 0
+    some_from (λ k. same_mention k (mention_of l.key)) l.entries l.entry-index ≡ some_from (λ k. same_mention k (mention_of l.key)) l.entries 0

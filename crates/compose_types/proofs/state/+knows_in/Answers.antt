@@ -1,4 +1,4 @@
-use Rattle.std.proofs.Common.{◌-◌, take, length, true, false, sym, ◌∙◌}
+use Rattle.std.proofs.Common.{◌-◌, take, length, sym, ◌∙◌}
 use Rattle.compose_types.specs.Views.{mention_of}
 use Rattle.compose_types.proofs.ScopeLaws.{last_cut, knows_outermost, knows_here, knows_further, knows_nowhere}
 use Rattle.compose_types.proofs.state.+knows_in.Goals as goal

@@ -16,29 +16,29 @@ defined_of-fields_of-requires t c = (search (rules, the_lemmas), rw c.deref-in-R
 pub defined_of-cases_of-requires : goal.defined_of-cases_of-requires
 defined_of-cases_of-requires t c = (search (rules, the_lemmas), rw c.deref-in-VariantOf.ensures.value (variant_keeps c.args.ty.now c.in-VariantOf.field-0 c.in-VariantOf.cases c.in-VariantOf.is c.requires))
 
-pub defined_of-returns-in_ok-parts-in-TupleOf-clause-written : goal.defined_of-returns-in_ok-parts-in-TupleOf-clause-written
-defined_of-returns-in_ok-parts-in-TupleOf-clause-written t c =
-    tuple_written c.args.ty.now c.in-TupleOf.parts (scopes c.args.state.now) (scopes c.parts_of.new.state) c.in_ok-parts-in-TupleOf.parts c.in-TupleOf.is (rw (sym c.deref.ensures.value) c.in_ok-parts-in-TupleOf.ensures.written)
+pub defined_of-returns-in_ok-parts_of-in-TupleOf-clause-written : goal.defined_of-returns-in_ok-parts_of-in-TupleOf-clause-written
+defined_of-returns-in_ok-parts_of-in-TupleOf-clause-written t c =
+    tuple_written c.args.ty.now c.in-TupleOf.parts (scopes c.args.state.now) (scopes c.parts_of.new.state) c.in_ok-parts_of-in-TupleOf.field-0 c.in-TupleOf.is (rw (sym c.deref.ensures.value) c.in_ok-parts_of-in-TupleOf.ensures.written)
 
-pub defined_of-returns-in_ok-parts-in-TupleOf-clause-form : goal.defined_of-returns-in_ok-parts-in-TupleOf-clause-form
-defined_of-returns-in_ok-parts-in-TupleOf-clause-form t c =
-    tuple_form c.args.ty.now c.in-TupleOf.parts (scopes c.args.state.now) (scopes c.parts_of.new.state) c.in_ok-parts-in-TupleOf.parts c.in-TupleOf.is c.requires (rw (sym c.deref.ensures.value) c.in_ok-parts-in-TupleOf.ensures.written)
+pub defined_of-returns-in_ok-parts_of-in-TupleOf-clause-form : goal.defined_of-returns-in_ok-parts_of-in-TupleOf-clause-form
+defined_of-returns-in_ok-parts_of-in-TupleOf-clause-form t c =
+    tuple_form c.args.ty.now c.in-TupleOf.parts (scopes c.args.state.now) (scopes c.parts_of.new.state) c.in_ok-parts_of-in-TupleOf.field-0 c.in-TupleOf.is c.requires (rw (sym c.deref.ensures.value) c.in_ok-parts_of-in-TupleOf.ensures.written)
 
-pub defined_of-returns-in_ok-fields-in-RecordOf-clause-written : goal.defined_of-returns-in_ok-fields-in-RecordOf-clause-written
-defined_of-returns-in_ok-fields-in-RecordOf-clause-written t c =
-    record_written c.args.ty.now c.in-RecordOf.field-0 c.in-RecordOf.fields (scopes c.args.state.now) (scopes c.fields_of.new.state) c.in_ok-fields-in-RecordOf.fields c.in-RecordOf.is (rw (sym c.deref-in-RecordOf.ensures.value) c.in_ok-fields-in-RecordOf.ensures.written)
+pub defined_of-returns-in_ok-fields_of-in-RecordOf-clause-written : goal.defined_of-returns-in_ok-fields_of-in-RecordOf-clause-written
+defined_of-returns-in_ok-fields_of-in-RecordOf-clause-written t c =
+    record_written c.args.ty.now c.in-RecordOf.field-0 c.in-RecordOf.fields (scopes c.args.state.now) (scopes c.fields_of.new.state) c.in_ok-fields_of-in-RecordOf.field-0 c.in-RecordOf.is (rw (sym c.deref-in-RecordOf.ensures.value) c.in_ok-fields_of-in-RecordOf.ensures.written)
 
-pub defined_of-returns-in_ok-fields-in-RecordOf-clause-form : goal.defined_of-returns-in_ok-fields-in-RecordOf-clause-form
-defined_of-returns-in_ok-fields-in-RecordOf-clause-form t c =
-    record_form c.args.ty.now c.in-RecordOf.field-0 c.in-RecordOf.fields (scopes c.args.state.now) (scopes c.fields_of.new.state) c.in_ok-fields-in-RecordOf.fields c.in-RecordOf.is c.requires (rw (sym c.deref-in-RecordOf.ensures.value) c.in_ok-fields-in-RecordOf.ensures.written)
+pub defined_of-returns-in_ok-fields_of-in-RecordOf-clause-form : goal.defined_of-returns-in_ok-fields_of-in-RecordOf-clause-form
+defined_of-returns-in_ok-fields_of-in-RecordOf-clause-form t c =
+    record_form c.args.ty.now c.in-RecordOf.field-0 c.in-RecordOf.fields (scopes c.args.state.now) (scopes c.fields_of.new.state) c.in_ok-fields_of-in-RecordOf.field-0 c.in-RecordOf.is c.requires (rw (sym c.deref-in-RecordOf.ensures.value) c.in_ok-fields_of-in-RecordOf.ensures.written)
 
-pub defined_of-returns-in_ok-cases-in-VariantOf-clause-written : goal.defined_of-returns-in_ok-cases-in-VariantOf-clause-written
-defined_of-returns-in_ok-cases-in-VariantOf-clause-written t c =
-    variant_written c.args.ty.now c.in-VariantOf.field-0 c.in-VariantOf.cases (scopes c.args.state.now) (scopes c.cases_of.new.state) c.in_ok-cases-in-VariantOf.cases c.in-VariantOf.is (rw (sym c.deref-in-VariantOf.ensures.value) c.in_ok-cases-in-VariantOf.ensures.written)
+pub defined_of-returns-in_ok-cases_of-in-VariantOf-clause-written : goal.defined_of-returns-in_ok-cases_of-in-VariantOf-clause-written
+defined_of-returns-in_ok-cases_of-in-VariantOf-clause-written t c =
+    variant_written c.args.ty.now c.in-VariantOf.field-0 c.in-VariantOf.cases (scopes c.args.state.now) (scopes c.cases_of.new.state) c.in_ok-cases_of-in-VariantOf.field-0 c.in-VariantOf.is (rw (sym c.deref-in-VariantOf.ensures.value) c.in_ok-cases_of-in-VariantOf.ensures.written)
 
-pub defined_of-returns-in_ok-cases-in-VariantOf-clause-form : goal.defined_of-returns-in_ok-cases-in-VariantOf-clause-form
-defined_of-returns-in_ok-cases-in-VariantOf-clause-form t c =
-    variant_form c.args.ty.now c.in-VariantOf.field-0 c.in-VariantOf.cases (scopes c.args.state.now) (scopes c.cases_of.new.state) c.in_ok-cases-in-VariantOf.cases c.in-VariantOf.is c.requires (rw (sym c.deref-in-VariantOf.ensures.value) c.in_ok-cases-in-VariantOf.ensures.written)
+pub defined_of-returns-in_ok-cases_of-in-VariantOf-clause-form : goal.defined_of-returns-in_ok-cases_of-in-VariantOf-clause-form
+defined_of-returns-in_ok-cases_of-in-VariantOf-clause-form t c =
+    variant_form c.args.ty.now c.in-VariantOf.field-0 c.in-VariantOf.cases (scopes c.args.state.now) (scopes c.cases_of.new.state) c.in_ok-cases_of-in-VariantOf.field-0 c.in-VariantOf.is c.requires (rw (sym c.deref-in-VariantOf.ensures.value) c.in_ok-cases_of-in-VariantOf.ensures.written)
 
 pub parts_of-loop-part-init : goal.parts_of-loop-part-init
 parts_of-loop-part-init t c = rw c.new-written.ensures (each_begin write_part c.args.parts.now (scopes c.args.state.now))

@@ -1,3 +1,5 @@
+use Rattle.std.specs.Prelude.{[]}
+use Rattle.compose_types.proofs.RefusalLaws.{told}
 use Rattle.std.proofs.Common.{sym, ap, ◌∙◌}
 use Rattle.compose_writing.specs.WriteEntities.{counted}
 use Rattle.compose_types.specs.Scopes.{with_names}
@@ -14,3 +16,7 @@ returns-clause-named c = λ width known.
           rw w.in-Exports.is (ap (λ ds. counted c.args.ty (record (with_names width known c.args.self.now) { decls = ds })) (sym w.in_ok-export-in-Exports.ensures.added))
           ∙ ap (λ d. counted c.args.ty (with_names width known d)) (sym w.self-is) ∙ c.in_ok-count.ensures.counted width known
     ]
+
+pub returns-in_err-count-clause-too_large : goal.returns-in_err-count-clause-too_large
+returns-in_err-count-clause-too_large c = λ n e.
+    (c.in_err-count.ensures.too_large 0 [] n (told c.from_residual-in_err-count.result _ n c.from_residual-in_err-count.ensures.1 e)).large

@@ -1,0 +1,4 @@
+mod Agreeing
+mod Meanings
+mod Whole
+mod Rows

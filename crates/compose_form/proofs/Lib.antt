@@ -1,0 +1,5 @@
+mod ChangeLaws
+mod FormLaws
+mod StandLaws
+mod TypeLaws
+mod ScopeLaws
