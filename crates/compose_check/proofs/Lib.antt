@@ -1,0 +1,7 @@
+pub mod CircleLaws
+pub mod WaitLaws
+pub mod InstanceLaws
+pub mod ShapeLaws
+pub mod MergeLaws
+pub mod AskedLaws
+pub mod RefusalLaws

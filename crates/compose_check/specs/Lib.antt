@@ -1,0 +1,7 @@
+pub mod Composition
+pub mod Circles
+pub mod Spread
+pub mod Open
+pub mod Checked
+pub mod Shapes
+pub mod Merging
