@@ -1,0 +1,16 @@
+mod ListLaws
+mod SpaceLaws
+mod QuietLaws
+mod ImportLaws
+mod PassLaws
+mod SeenImportLaws
+mod BegunLaws
+mod OrderLaws
+mod OpenLaws
+mod ImportedLaws
+mod InstanceLaws
+mod ImageLaws
+mod GivenLaws
+mod NameLaws
+mod UsedLaws
+mod Rows

@@ -1,0 +1,4 @@
+pub mod Imports
+pub mod Instances
+pub mod CompositionImage
+pub mod Writable
