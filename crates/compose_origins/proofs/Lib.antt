@@ -1,0 +1,9 @@
+mod Types
+mod Paths
+mod Merged
+mod Narrowed
+mod Spots
+mod Numbers
+mod Along
+mod Whole
+mod Rows
