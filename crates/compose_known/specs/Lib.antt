@@ -1,0 +1,5 @@
+pub mod InOrder
+pub mod Named
+pub mod Whole
+pub mod Settled
+pub mod Importable
