@@ -1,0 +1,4 @@
+mod ListLaws
+mod HeldLaws
+mod LookLaws
+mod Errors
