@@ -10,3 +10,5 @@ mod GraphLaws
 mod HeldLaws
 mod FaultLaws
 mod WiringLaws
+mod ComposedLaws
+mod PlaceLaws

@@ -24,7 +24,7 @@ use Rattle.compose_graph.proofs.ListLaws.{all_push, all_kept, all_weaker, filter
 use Rattle.compose_graph.proofs.LooseLaws.{loosened_kept}
 use Rattle.compose_graph.proofs.NameLaws.{names_added, names_kept, found_added, found_removed}
 
-twice : {X Y Z : Type 0} (f : Y → Z) (g : X → Y) (xs : List X) → map f (map g xs) ≡ map (λ x. f (g x)) xs
+pub twice : {X Y Z : Type 0} (f : Y → Z) (g : X → Y) (xs : List X) → map f (map g xs) ≡ map (λ x. f (g x)) xs
 twice f g [] = refl
 twice f g (x ∷ xs) = λ i. f (g x) ∷ twice f g xs i
 

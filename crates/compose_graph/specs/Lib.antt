@@ -9,3 +9,5 @@ pub mod Refusal
 pub mod Joining
 pub mod Faults
 pub mod Wiring
+pub mod Composed
+pub mod Judged

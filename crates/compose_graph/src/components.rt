@@ -1,6 +1,6 @@
 //! The components of a graph.
 
-ghost use Rattle.std.specs.Prelude.{◌≡◌, ◌↔◌, ◌<◌, ◌++◌, ◌∷◌, [], ◌==◌, false, ℕ, List, None, Some, suc, IfOk, IsTrue, OnErr, OnOk, filter, not, option_map, slice_get, string_bytes};
+ghost use Rattle.std.specs.Prelude.{◌≡◌, ◌↔◌, ◌<◌, ◌++◌, ◌∷◌, [], ◌==◌, false, ℕ, List, None, Some, suc, IfOk, IsTrue, OnErr, OnOk, filter, map, not, option_map, slice_get, string_bytes};
 ghost use Rattle.std.specs.BTreeMap.{Updates, insert_entry, is_at};
 ghost use Rattle.std.specs.List.{AllByRecursion};
 ghost use Rattle.std.specs.Map.{remove_entry};
@@ -9,8 +9,10 @@ ghost use Rattle.std.specs.String.{string_cmp};
 ghost use Rattle.comp_entity.specs.Entity.{EntityTree};
 ghost use Rattle.comp_entity.specs.Fits.{fits_loosely};
 ghost use Rattle.comp_table.specs.Trees.{PlainTree};
+ghost use Rattle.compose_check.specs.Composition.{component_tree};
 ghost use Rattle.compose_component.specs.Component.{name_of, shape_of};
 ghost use Rattle.compose_fit.specs.Wires.{Given, given_of};
+ghost use Rattle.compose_graph.specs.Composed.{composed_component};
 ghost use Rattle.compose_graph.specs.Graph.{ComponentEntry, component_at, component_named, given_entity};
 ghost use Rattle.compose_graph.specs.Listed.{component_entries, entry_of, held_component};
 ghost use Rattle.compose_graph.specs.Loose.{IsLoosened};
@@ -143,6 +145,29 @@ impl<'a> Components<'a> {
             ≡ option_map (λ c. c.id) (component_named (component_entries self.now.entries) name.now) }
     {
         self.numbers.get(name).copied()
+    }
+
+    /// The numbers of the components, in the order added.
+    pub fn ids(&self, alloc: Global) -> Result<Vec<usize>, Memory>
+        ensures { IfOk result (λ ids. ids.items ≡ map (λ c. c.id) (component_entries self.now.entries)) }
+    {
+        let mut ids = Vec::new(alloc);
+        for (id, _) in &self.parts {
+            ids.push(*id)?;
+        }
+        Ok(ids)
+    }
+
+    /// The components, in the order added.
+    pub fn list(&self, alloc: Global) -> Result<Vec<&Component<'a>>, Memory>
+        ensures { IfOk result (λ list. map component_tree list.items
+            ≡ map composed_component (component_entries self.now.entries)) }
+    {
+        let mut list = Vec::new(alloc);
+        for (_, part) in &self.parts {
+            list.push(&part.component)?;
+        }
+        Ok(list)
     }
 
     /// Whether all numbers were given.

@@ -87,6 +87,13 @@ impl Connections {
         }
     }
 
+    /// The connections, in the order made.
+    pub fn list(&self) -> &[Connection]
+        ensures { result.now ≡ self.now }
+    {
+        &self.list
+    }
+
     /// Whether something is given to an import.
     pub fn is_connected(&self, target: usize, import: usize) -> bool
         ensures { result ≡ is_some (connection_into self.now target import) }

@@ -6,14 +6,18 @@ ghost use Rattle.compose_fit.specs.Wires.{given_of};
 ghost use Rattle.compose_graph.specs.Joining.{joining};
 
 use crate::components::Components;
+use crate::composed::wires;
 use crate::connection::Connection;
 use crate::connections::Connections;
 use crate::error::GraphError;
 use crate::ids::{ComponentId, InstanceId};
 use crate::instances::Instances;
+use crate::places::Places;
+use compose_check::{CheckError, Composition, check};
 use compose_component::{Component, ExportIndex, ImportIndex};
 use std::alloc::Global;
 use std::marker::Model;
+use warg_values::Memory;
 
 /// Components, instances of them, and connections between the instances: which instance, or which export of one, is
 /// given to which import (Component Model, `Explainer.md`, "Instance Definitions").
@@ -77,6 +81,9 @@ fn gives(component: &Component<'_>, export: Option<usize>) -> bool
 
 impl<'a> CompositionGraph<'a> {
     ghost use Rattle.compose_graph.specs.Graph.{component_at, component_named, component_of, connect_fault, instance_at, no_graph, with_component, with_connection, with_instance, without_component, without_connection, without_instance};
+    ghost use Rattle.compose_check.specs.Composition.{composition_tree};
+    ghost use Rattle.compose_graph.specs.Composed.{composed};
+    ghost use Rattle.compose_graph.specs.Judged.{CanBeWritten, IsJudgement};
     ghost use Rattle.compose_graph.specs.Joining.{joining};
     ghost use Rattle.compose_graph.specs.Kept.{IsGraph};
     ghost use Rattle.compose_graph.specs.Faults.{fault_at};
@@ -150,6 +157,41 @@ impl<'a> CompositionGraph<'a> {
         let id = self.instances.component_of(instance.0)?;
         let component = self.components.get(id)?;
         Some((ComponentId(id), component))
+    }
+
+    /// The graph as a composition: its components, instances and connections by their places.
+    pub fn composition(&self, alloc: Global) -> Result<Composition<'_>, Memory>
+        ensures { IfOk result (λ c. composition_tree c ≡ composed (graph_of self.now)) }
+    {
+        let component_ids = self.components.ids(alloc)?;
+        let instance_ids = self.instances.ids(alloc)?;
+        let made_of = self.instances.components(alloc)?;
+        let components = Places::of(alloc, &component_ids)?;
+        let instances = Places::of(alloc, &instance_ids)?;
+        Ok(Composition {
+            components: self.components.list(alloc)?,
+            instances: components.each(alloc, &made_of)?,
+            wires: wires(alloc, &instances, self.connections.list())?,
+        })
+    }
+
+    /// Checks whether the graph can be written.
+    ///
+    /// `Cycle` is answered where instances are given to each other in a circle, with the number of the one that was made
+    /// last on a circle, and the name of its component; `Incompatible` where else a connection does not fit with the
+    /// origins of resources in place of their names, or where what is left open does not agree.
+    pub fn check(&self, alloc: Global) -> Result<(), CheckError>
+        ensures sound { OnOk result (CanBeWritten (graph_of self.now)) }
+        ensures refused { IfErr result (IsJudgement (graph_of self.now)) }
+    {
+        let ids = self.instances.ids(alloc)?;
+        let composition = self.composition(alloc)?;
+        match check(alloc, &composition) {
+            Ok(_agreed) => Ok(()),
+            Err(CheckError::Cycle(place, name)) => Err(CheckError::Cycle(ids[place], name)),
+            Err(CheckError::Incompatible(why)) => Err(CheckError::Incompatible(why)),
+            Err(CheckError::Memory) => Err(CheckError::Memory),
+        }
     }
 
     /// Removes a component, its instances, and their connections. What is not there is left alone.

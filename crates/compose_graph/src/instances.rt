@@ -1,6 +1,7 @@
 //! The instances of a graph.
 
-ghost use Rattle.std.specs.Prelude.{◌≡◌, ◌↔◌, ◌<◌, ◌++◌, ◌∷◌, [], ◌==◌, false, suc, IfOk, IsTrue, OnErr, filter, not, option_map};
+ghost use Rattle.std.specs.Prelude.{◌≡◌, ◌↔◌, ◌<◌, ◌++◌, ◌∷◌, [], ◌==◌, false, suc, IfOk, IsTrue, OnErr, filter, map, not, option_map};
+ghost use Rattle.compose_graph.specs.Wiring.{instance_id};
 ghost use Rattle.compose_graph.specs.Graph.{instance_at, is_of};
 
 use std::alloc::Global;
@@ -47,6 +48,28 @@ impl Instances {
         ensures { result ≡ option_map (λ i. i.component) (instance_at self.now.entries id) }
     {
         self.components.get(&id).copied()
+    }
+
+    /// The numbers of the instances, in the order made.
+    pub fn ids(&self, alloc: Global) -> Result<Vec<usize>, Memory>
+        ensures { IfOk result (λ ids. ids.items ≡ map instance_id self.now.entries) }
+    {
+        let mut ids = Vec::new(alloc);
+        for (id, _) in &self.components {
+            ids.push(*id)?;
+        }
+        Ok(ids)
+    }
+
+    /// The numbers of their components.
+    pub fn components(&self, alloc: Global) -> Result<Vec<usize>, Memory>
+        ensures { IfOk result (λ ids. ids.items ≡ map (λ i. i.component) self.now.entries) }
+    {
+        let mut ids = Vec::new(alloc);
+        for (_, component) in &self.components {
+            ids.push(*component)?;
+        }
+        Ok(ids)
     }
 
     /// Whether an instance is one of a component.

@@ -2,6 +2,7 @@
 #![tactic(auto)]
 
 mod components;
+mod composed;
 mod connection;
 mod connections;
 mod error;
@@ -11,6 +12,7 @@ mod instances;
 pub mod laws;
 mod loose;
 mod part;
+mod places;
 
 pub use compose_component::{Component, ExportIndex, ImportIndex};
 pub use error::GraphError;
