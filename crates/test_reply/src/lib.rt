@@ -1,0 +1,5 @@
+//! Tests of `warg_reply`: the bytes of each body.
+#![tactic(auto)]
+
+#[cfg(test)]
+mod replies;

@@ -1,0 +1,5 @@
+pub mod BodyLaws
+pub mod ErrorLaws
+pub mod OrderLaws
+pub mod RecordLaws
+pub mod ReplyLaws
