@@ -14,7 +14,7 @@ use warg_values::Memory;
 /// made no earlier than the one that it goes to.
 pub fn placed_entity(
     alloc: Global,
-    shapes: &[Shape],
+    shapes: &[&Shape],
     wires: &[Wire],
     at: usize,
     entity: &Entity,

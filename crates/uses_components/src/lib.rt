@@ -3,6 +3,7 @@
 #![tactic(auto)]
 
 mod agree;
+mod causes;
 mod completions;
 mod component;
 mod compose;
@@ -33,12 +34,13 @@ mod views;
 mod wires;
 
 pub use agree::instance_order;
+pub use causes::settings_of_text;
 pub use completions::emitted_events_begin_a_document;
 pub use component::imports_of_bytes;
 pub use compose::link_bytes;
 pub use declarations::one_resource;
 pub use definitions::made_resource;
-pub use documents::{number_of, take_scalar};
+pub use documents::{next_or_form, number_of, take_scalar};
 pub use encoder::import_resource;
 pub use entities::serves_both;
 pub use examples::saved_sample;
@@ -58,6 +60,6 @@ pub use spaces::one_type;
 pub use texts::push_field;
 pub use typed_reads::port;
 pub use types::{are_equal, list_of};
-pub use values::saved;
+pub use values::{hold_the_same, saved};
 pub use views::put_in_and_taken_out;
 pub use wires::unfit_wire;

@@ -16,7 +16,7 @@ use warg_values::Memory;
 pub fn unfit_wire(
     alloc: Global,
     table: &mut TypeTable,
-    shapes: &[Shape],
+    shapes: &[&Shape],
     components: &[ShapeNumbers],
     instances: &[usize],
     wires: &[Wire],

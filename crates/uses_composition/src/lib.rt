@@ -2,10 +2,14 @@
 //! crate, whose page quotes it.
 #![tactic(auto)]
 
+mod check;
 mod graph;
 mod needs;
+mod order;
 mod types;
 
+pub use check::written_order;
 pub use graph::reconnect;
-pub use needs::names_in_order;
+pub use needs::can_be_imported;
+pub use order::names_in_order;
 pub use types::import_empty;

@@ -1,43 +1,19 @@
 //! A caller of `compose_needs`.
 
-ghost use Rattle.std.specs.Prelude.{◌≡◌, map, IfOk, IfSome};
-ghost use Rattle.compose_left.specs.Numbers.{AreOrigins};
-ghost use Rattle.compose_left.specs.Wiring.{Wiring};
-ghost use Rattle.compose_needs.specs.Agreed.{AreOrdered, name_of};
-ghost use Rattle.compose_needs.specs.Known.{Imports, left_tree, merged_left};
-ghost use Rattle.compose_needs.specs.Needs.{lefts_of};
+ghost use Rattle.std.specs.Prelude.{◌≡◌, ◌↔◌, None, IfOk, IsTrue};
+ghost use Rattle.comp_entity.specs.Views.{shape_tree};
+ghost use Rattle.compose_needs.specs.Exports.{component_hides};
 
-use compose_left::{MergedImport, Origins};
-use compose_needs::{LeftImport, OrderError, ordered};
+use comp_shape::Shape;
+use compose_needs::component_needs;
 use std::alloc::Global;
-use warg_values::{Memory, Text};
+use warg_values::Memory;
 
-/// The names of left imports.
-fn names_of(alloc: Global, lefts: &[LeftImport]) -> Result<Vec<Text>, Memory>
-    ensures { IfOk result (λ names. names.items ≡ map name_of (map left_tree lefts.now)) }
+/// Whether all that a component's imports and exports mention is brought or exported there or earlier, so that the
+/// component can be imported.
+pub fn can_be_imported(alloc: Global, shape: &Shape) -> Result<bool, Memory>
+    ensures { IfOk result (λ can. IsTrue can ↔ (component_hides (shape_tree shape.now) ≡ None)) }
 {
-    let mut names = Vec::new(alloc);
-    for left in lefts {
-        names.push(left.name.try_clone(alloc)?)?;
-    }
-    Ok(names)
-}
-
-/// The names of left imports, in the order in which they are written. `None` where they do not agree.
-pub fn names_in_order(
-    alloc: Global,
-    origins: &Origins,
-    list: Vec<MergedImport>,
-) -> Result<Option<Vec<Text>>, Memory>
-    ensures { (w : Wiring) → AreOrigins origins.now w → IfOk result (λ found. IfSome found (λ names. (out : Imports)
-        × AreOrdered (lefts_of w) (map merged_left list.items) out × (names.items ≡ map name_of out))) }
-{
-    match ordered(alloc, origins, list) {
-        Ok(lefts) => {
-            let names = names_of(alloc, &lefts)?;
-            Ok(Some(names))
-        }
-        Err(OrderError::Memory) => Err(Memory),
-        Err(_) => Ok(None),
-    }
+    let found = component_needs(alloc, shape)?;
+    Ok(found.is_none())
 }

@@ -19,6 +19,7 @@ pub mod prover;
 pub mod record;
 pub mod recorded;
 pub mod registry_url;
+pub mod reply;
 pub mod request;
 pub mod store;
 pub mod update;

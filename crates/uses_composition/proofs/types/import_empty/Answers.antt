@@ -1,5 +1,5 @@
 use Rattle.std.proofs.Common.{refl, ap, ◌∙◌}
-use Rattle.compose_writing.specs.Scopes.{Scope}
+use Rattle.compose_writing.specs.Scopes.{WrittenScope}
 use Rattle.compose_types.specs.Bodies.{entries_for}
 use Rattle.uses_composition.proofs.EmptyLaws.{with_import, described, imported, outermost_is, first_index}
 use Rattle.uses_composition.proofs.types.import_empty.Goals as goal
@@ -17,7 +17,7 @@ pub returns-clause-written : goal.returns-clause-written
 returns-clause-written c =
     let d = described _ _ _ _ c.requires.empty c.new-state.ensures c.in_ok-ty.ensures.written in
     c.into_builder.ensures
-    ∙ ap (λ (m : Scope). entries_for m.decls) (outermost_is c.import.new.self (with_import c.args.name.now) (imported c.args.name.now _ _ _ _ c.requires.empty d.0 d.1 c.in_ok-index.ensures.written))
+    ∙ ap (λ (m : WrittenScope). entries_for m.decls) (outermost_is c.import.new.self (with_import c.args.name.now) (imported c.args.name.now _ _ _ _ c.requires.empty d.0 d.1 c.in_ok-index.ensures.written))
 
 pub returns-clause-index : goal.returns-clause-index
 returns-clause-index c =
