@@ -16,6 +16,7 @@ use Rattle.comp_format.specs.Spaces.{core_space, space_of}
 use Rattle.comp_encoder.specs.Builder.{Kept, Item, Whole, IsKept, IsBuilt, IsBytesOf, item_of, entry_of, entries_of}
 use Rattle.comp_encoder.specs.Writing.{Entry, Single, GivenSection, items_of, item_sort, numbers, numbered, next_index}
 use Rattle.comp_encoder.proofs.SectionLaws.{entries_append}
+use Rattle.comp_encoder.proofs.KeepLaws.{bytes_of_it}
 use Rattle.comp_encoder.proofs.RawLaws.{section_read, section_kept}
 
 pub items_append : (front back : List Entry) → items_of (front ++ back) ≡ items_of front ++ items_of back
@@ -96,6 +97,21 @@ one_built ks counts id bytes of size long built is sorted next fits = record {
       ∙ sym (ap (next_index kind) (entries_append ks (Item id bytes ∷ [])) ∙ next_append kind (entries_of ks) (Single (item_of id bytes) ∷ []) ∙ omega arith);
 }
 
+-- what is kept once an item is added, whose sort is not asked
+pub item_built : (ks : List Kept) (counts sizes : List ℕ) (item : ItemTree) (id : ℕ) (bytes : List ℕ) → IsBuilt ks counts → IsBytesOf item id bytes
+    → ((kind : Sort) → slice_index sizes (space_of kind) ≡ slice_index counts (space_of kind) + numbered kind (item ∷ [])) → ((kind : Sort) → slice_index sizes (space_of kind) < 2 ^ 32) → IsBuilt (ks ++ Item id bytes ∷ []) sizes
+unfolding entries_of entry_of
+item_built ks counts sizes item id bytes built is counted small = record {
+  small = small;
+  fit = kept_push ks (Item id bytes) built.fit (bytes_of_it item id bytes is);
+  counted = λ kind.
+      counted kind ∙ ap (λ n. n + numbered kind (item ∷ [])) (built.counted kind)
+      ∙ sym (
+      ap (next_index kind) (entries_append ks (Item id bytes ∷ [])) ∙ next_append kind (entries_of ks) (Single (item_of id bytes) ∷ [])
+      ∙ ap (λ (i : ItemTree). next_index kind (entries_of ks) + numbered kind (i ∷ [])) is.is
+      );
+}
+
 -- what is kept once a section is added
 pub section_built : (ks : List Kept) (counts sizes : List ℕ) (id : ℕ) (content : List ℕ) (s : Section) → IsBuilt ks counts → section_id s ≡ id → ContentForm s content
     → ((kind : Sort) → slice_index sizes (space_of kind) ≡ slice_index counts (space_of kind) + numbered kind (section_items s)) → ((kind : Sort) → slice_index sizes (space_of kind) < 2 ^ 32) → IsBuilt (ks ++ Whole id content ∷ []) sizes
@@ -116,6 +132,10 @@ section_built ks counts sizes id content s built id_is form counted small = reco
 pub entries_push : (ks : List Kept) (id : ℕ) (bytes : List ℕ) → entries_of (ks ++ Item id bytes ∷ []) ≡ entries_of ks ++ Single (item_of id bytes) ∷ []
 unfolding entries_of entry_of
 entries_push ks id bytes = entries_append ks (Item id bytes ∷ [])
+
+-- the same, of an item that is known
+pub entries_item : (ks : List Kept) (item : ItemTree) (id : ℕ) (bytes : List ℕ) → IsBytesOf item id bytes → entries_of (ks ++ Item id bytes ∷ []) ≡ entries_of ks ++ Single item ∷ []
+entries_item ks item id bytes is = entries_push ks id bytes ∙ ap (λ (i : ItemTree). entries_of ks ++ Single i ∷ []) is.is
 
 zero_at : (kind : Sort) → slice_index (0 ∷ 0 ∷ 0 ∷ 0 ∷ 0 ∷ 0 ∷ 0 ∷ 0 ∷ 0 ∷ 0 ∷ 0 ∷ []) (space_of kind) ≡ 0
 zero_at (sort.Core core.Func) = refl

@@ -9,3 +9,4 @@ pub mod RawLaws
 pub mod CountLaws
 pub mod SizeLaws
 pub mod RunLaws
+pub mod ReadLaws

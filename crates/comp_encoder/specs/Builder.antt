@@ -10,10 +10,12 @@ use Rattle.comp_format.specs.declared.types.Sort.{Sort}
 use Rattle.comp_format.specs.SectionIds as ids
 use Rattle.comp_format.specs.Fault.{Fault}
 use Rattle.comp_format.specs.Numbers.{number_text}
+use Rattle.comp_format.specs.Vectors.{any_name_at}
 use Rattle.comp_format.specs.CoreTypes.{core_at}
 use Rattle.comp_format.specs.Definitions.{definition_at}
-use Rattle.comp_format.specs.Parts.{instance_at, alias_at}
-use Rattle.comp_format.specs.Items.{ItemTree, Custom, CoreTy, Component, Instance, Aliased, Ty, Import, Export, import_at, export_at}
+use Rattle.comp_format.specs.Canons.{canon_at}
+use Rattle.comp_format.specs.Parts.{core_instance_at, instance_at, alias_at}
+use Rattle.comp_format.specs.Items.{ItemTree, Custom, CoreModule, CoreMade, CoreTy, Component, Instance, Aliased, Ty, Canonical, Import, Export, import_at, export_at}
 use Rattle.comp_format.specs.Sections.{Section, ContentForm, section_id, section_items, content_at, header}
 use Rattle.comp_format.specs.Fits.{FitsItem}
 use Rattle.comp_format.specs.Spaces.{space_of}
@@ -49,14 +51,23 @@ abbrev pub read_as : {X : Type 0} → (X → ItemTree) → Result (X × List ℕ
 read_as item (Ok x) = item x.0
 read_as item (Err fault) = Custom [] []
 
+-- the custom section that was read: its name, and the bytes behind it
+abbrev pub custom_of : Result (List ℕ × List ℕ) Fault → ItemTree
+custom_of (Ok name) = Custom name.0 name.1
+custom_of (Err fault) = Custom [] []
+
 -- the item of these bytes, in a section of this id
 unfoldable pub item_of : ℕ → List ℕ → ItemTree
 item_of id bytes =
-    if id == ids.core_types then read_as CoreTy (core_at (length bytes) bytes)
+    if id == ids.custom then custom_of (any_name_at bytes)
+    else if id == ids.core_modules then CoreModule bytes
+    else if id == ids.core_instances then read_as CoreMade (core_instance_at bytes)
+    else if id == ids.core_types then read_as CoreTy (core_at (length bytes) bytes)
     else if id == ids.component then Component bytes
     else if id == ids.instances then read_as Instance (instance_at bytes)
     else if id == ids.aliases then read_as Aliased (alias_at bytes)
     else if id == ids.types then read_as Ty (definition_at (length bytes) bytes)
+    else if id == ids.canons then read_as Canonical (canon_at bytes)
     else if id == ids.imports then read_as Import (import_at bytes)
     else if id == ids.exports then read_as Export (export_at bytes)
     else Custom [] []
@@ -117,7 +128,8 @@ shared_section id kepts = record { id = id; items = map (λ k. item_of id (kept_
 abbrev pub first_section : List Kept → WrittenSection
 first_section [] = shared_section 0 []
 first_section (Item id bytes ∷ kepts) = shared_section id (Item id bytes ∷ kepts)
-first_section (Whole id content ∷ kepts) = record { id = id; items = items_read (content_at (length content) id content); raw = Some content }
+first_section (Whole id content ∷ kepts) =
+    record { id = id; items = items_read (content_at (length content) id content); raw = Some content }
 
 -- an item of this id
 abbrev pub IsItem : ℕ → Kept → Type 0
@@ -143,7 +155,8 @@ run_content count bytes = number_text count ++ bytes
 -- that section, where there are any
 abbrev pub run_text : ℕ → ℕ → List ℕ → List ℕ
 run_text id zero bytes = []
-run_text id (suc more) bytes = id ∷ (number_text (length (run_content (suc more) bytes)) ++ run_content (suc more) bytes)
+run_text id (suc more) bytes =
+    id ∷ (number_text (length (run_content (suc more) bytes)) ++ run_content (suc more) bytes)
 
 abbrev pub run_sections : ℕ → List Kept → List WrittenSection
 run_sections id [] = []
@@ -163,14 +176,19 @@ pub record IsRunLong (n count : ℕ) (bytes : List ℕ) : Type 0 where
 -- The section was written behind the others, or a number of it is too large.
 abbrev pub IsEnded : ℕ → ℕ → List ℕ → List ℕ → Option ℕ → List ℕ → Option ℕ → Type 0
 IsEnded id count bytes out told new fault =
-    ((fault ≡ told) × (new ≡ begun out ++ run_text id count bytes) × (0 < count → IsRunShort count bytes)) ⊎ ((n : ℕ) × (fault ≡ Some n) × IsRunLong n count bytes)
+    ((fault ≡ told) × (new ≡ begun out ++ run_text id count bytes) × (0 < count → IsRunShort count bytes))
+    ⊎ ((n : ℕ) × (fault ≡ Some n) × IsRunLong n count bytes)
 
--- Sections were written, and neighbouring items of a kind are to share the next, so many of these bytes. Where a section
--- can't be written, its count or length is told, and nothing is known of what was written.
-pub record IsLaid (kepts : List Kept) (out : List ℕ) (id count : ℕ) (bytes : List ℕ) (fault : Option ℕ) : Type 0 where
+-- Sections were written, and neighbouring items of a kind are to share the next, so many of these bytes. Where a
+-- section can't be written, its count or length is told, and nothing is known of what was written.
+pub record IsLaid
+    (kepts : List Kept) (out : List ℕ) (id count : ℕ) (bytes : List ℕ) (fault : Option ℕ)
+    : Type 0 where
   pub before : List WrittenSection
   pub run : List Kept
-  pub cut : (rest : List Kept) → AllByRecursion IsKept rest → sections_of (entries_of (kepts ++ rest)) ≡ before ++ sections_of (entries_of (run ++ rest))
+  pub cut : (rest : List Kept)
+      → AllByRecursion IsKept rest
+      → sections_of (entries_of (kepts ++ rest)) ≡ before ++ sections_of (entries_of (run ++ rest))
   pub fit : AllByRecursion IsKept run
   pub alike : AllByRecursion (IsItem id) run
   pub shared : is_shared id ≡ true

@@ -13,6 +13,8 @@ use Rattle.comp_format.specs.declared.types.TypeRef.TheVariants as description
 use Rattle.comp_format.specs.declared.types.Arg.{Arg}
 use Rattle.comp_format.specs.declared.types.Alias.{Alias}
 use Rattle.comp_format.specs.declared.types.Alias.TheVariants as alias
+use Rattle.comp_format.specs.declared.types.CanonOption.{CanonOption}
+use Rattle.comp_format.specs.declared.types.CanonOption.TheVariants as option
 use Rattle.comp_format.specs.CoreTypes as core
 use Rattle.comp_format.specs.CoreTypes.{CoreTree, ModuleDeclTree, ModuleDecls, module_count}
 use Rattle.comp_format.specs.Definitions as tree
@@ -45,6 +47,12 @@ abbrev pub alias_largest : Alias → ℕ
 alias_largest (alias.Export kind from name) = max from (length name)
 alias_largest (alias.CoreExport kind from name) = max from (length name)
 alias_largest (alias.Outer kind count index) = max count index
+
+abbrev pub option_largest : CanonOption → ℕ
+option_largest (option.Encoding code) = 0
+option_largest (option.Memory i) = i
+option_largest (option.Realloc i) = i
+option_largest (option.PostReturn i) = i
 
 abbrev pub value_largest : ValType → ℕ
 value_largest (value.Primitive p) = 0

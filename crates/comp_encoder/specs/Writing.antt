@@ -1,6 +1,6 @@
 -- The bytes that the builder writes: each length, count and index in its shortest spelling, and neighbouring items of
--- one kind in one section. Core types, instances, aliases, types, imports and exports share a section; every other item
--- has its own, as has a section that was given as its bytes.
+-- one kind in one section. A custom section, a core module and a nested component have each a section of their own, as
+-- has a section that was given as its bytes.
 use Rattle.std.specs.Prelude.{◌≡◌, ℕ, ◌<◌, ◌^◌, Bool, false, List, [], ◌∷◌, ◌++◌, length, Option, Some, None, is_none, unwrap_or, ◌==◌, ◌&&◌, ◌||◌, ◌⊎◌, ◌≤◌, if◌then◌else◌, count_by, Contains}
 use Rattle.std.specs.List.{flat_map}
 use Rattle.comp_format.specs.declared.types.CoreSort.TheVariants as core
@@ -63,7 +63,9 @@ item_text (Export item) = export_text item
 
 -- the sections that items share, and those that are no vector of items
 abbrev pub is_shared : ℕ → Bool
-is_shared id = id == ids.core_types || id == ids.instances || id == ids.aliases || id == ids.types || id == ids.imports || id == ids.exports
+is_shared id =
+    id == ids.core_instances || id == ids.core_types || id == ids.instances || id == ids.aliases || id == ids.types
+    || id == ids.canons || id == ids.imports || id == ids.exports
 
 abbrev pub is_plain : ℕ → Bool
 is_plain id = id == ids.custom || id == ids.core_modules || id == ids.component
@@ -85,13 +87,15 @@ joins item g = item_id item == g.id && is_shared g.id && is_none g.raw
 -- An item in front of sections joins the first, where it shares that, and else begins one.
 abbrev pub joined : ItemTree → List WrittenSection → List WrittenSection
 joined item [] = alone item ∷ []
-joined item (g ∷ gs) = if joins item g then record { id = g.id; items = item ∷ g.items; raw = g.raw } ∷ gs else alone item ∷ g ∷ gs
+joined item (g ∷ gs) =
+    if joins item g then record { id = g.id; items = item ∷ g.items; raw = g.raw } ∷ gs else alone item ∷ g ∷ gs
 
 -- what was added, cut into sections
 abbrev pub sections_of : List Entry → List WrittenSection
 sections_of [] = []
 sections_of (Single item ∷ entries) = joined item (sections_of entries)
-sections_of (GivenSection id content items ∷ entries) = record { id = id; items = items; raw = Some content } ∷ sections_of entries
+sections_of (GivenSection id content items ∷ entries) =
+    record { id = id; items = items; raw = Some content } ∷ sections_of entries
 
 -- the content of a section of some items
 abbrev pub items_text : ℕ → List ItemTree → List ℕ

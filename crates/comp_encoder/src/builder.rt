@@ -11,26 +11,27 @@ ghost use Rattle.comp_format.specs.Parts.{is_outer};
 ghost use Rattle.comp_format.specs.CoreTypes as core_tree;
 ghost use Rattle.comp_format.specs.Definitions as tree;
 ghost use Rattle.comp_format.specs.Views.{module_tree, instance_type_tree, component_type_tree};
-ghost use Rattle.comp_format.specs.Items.{ItemTree, CoreTy, Component, Instance, Aliased, Ty, Import, Export};
+ghost use Rattle.comp_format.specs.Items.{ItemTree, item_tree, CoreTy, Component, Instance, Aliased, Ty, Import, Export};
 ghost use Rattle.comp_format.specs.Sections.{Reads};
-ghost use Rattle.comp_format.specs.Fits.{IsComponent};
+ghost use Rattle.comp_format.specs.Fits.{FitsItem, IsComponent};
 ghost use Rattle.comp_format.specs.Forms.{IsDefined, IsFunc, AreDecls, AreModuleDecls};
 ghost use Rattle.comp_format.specs.Spaces.{space_of};
 ghost use Rattle.comp_encoder.specs.Largest.{vector_largest, arg_largest, defined_largest, func_largest, core_largest, definition_largest};
-ghost use Rattle.comp_encoder.specs.Writing.{Single, GivenSection, numbered, IsTooLongAmong, IsShort, items_of, described_sort, is_shared, is_plain, item_sort, sections_of, component_text, next_index};
+ghost use Rattle.comp_encoder.specs.Writing.{Single, GivenSection, item_id, item_text, numbered, IsTooLongAmong, IsShort, items_of, described_sort, is_shared, is_plain, item_sort, sections_of, component_text, next_index};
 ghost use Rattle.comp_encoder.specs.Builder.{IsBytesOf, IsContent, IsContentOf, item_of, entries_of};
 
+use crate::any_item::{encode_item, section_of};
 use crate::built::{Built, Kind};
 use crate::items::{
     encode_alias_export, encode_alias_outer, encode_component, encode_component_type,
     encode_core_module, encode_defined, encode_export, encode_function, encode_import,
     encode_instance, encode_instance_type, encode_resource,
 };
-use crate::raw::count_section;
+use crate::raw::{count_item, count_section};
 use crate::spaces::{described_sort, space_of};
 use comp_format::{
-    Arg, ComponentType, CoreSort, DefinedType, EncodeError, FuncType, InstanceType, ModuleType,
-    Sort, TypeRef, section,
+    Arg, ComponentType, CoreSort, DefinedType, EncodeError, FuncType, InstanceType, Item,
+    ModuleType, Sort, TypeRef, section,
 };
 use std::alloc::Global;
 use std::marker::Model;
@@ -90,7 +91,7 @@ impl ComponentBuilder {
         }
     }
 
-    /// The buffer for an item, which `add_written` brings back.
+    /// The buffer for an item, which `add` and `push_item` bring back.
     fn take_buffer(&mut self, alloc: Global) -> Vec<u8>
         ensures { self.new ≡ self.old }
     {
@@ -124,7 +125,7 @@ impl ComponentBuilder {
         ensures unchanged { OnErr result (self.new ≡ self.old) }
         ensures too_large { (n : ℕ) → result ≡ Err (EncodeError.TooLarge n) → (n ≡ length bytes.now) × (2 ^ 32 ≤ n) }
     {
-        self.built.push_section(Kind::Item(id), bytes)?;
+        self.built.push_section(Kind::Item(id), &[], bytes)?;
         self.counts[space_of(sort)] = size;
         Ok(())
     }
@@ -436,6 +437,39 @@ impl ComponentBuilder {
         Ok(index)
     }
 
+    /// Adds any item that was read: it is read again as the same.
+    ///
+    /// `TooLarge` has the length of the item's bytes, or the number of items of its sort with this one, where that is
+    /// above 2^32 - 1.
+    pub fn push_item(&mut self, alloc: Global, item: &Item<'_>) -> Result<(), EncodeError>
+        requires { FitsItem (item_tree item.now) }
+        ensures added { OnOk result
+            (entries_of self.new ≡ entries_of self.old ++ Single (item_tree item.now) ∷ []) }
+        ensures unchanged { OnErr result (self.new ≡ self.old) }
+        ensures short { OnOk result
+            (is_plain (item_id (item_tree item.now)) ≡ true → length (item_text (item_tree item.now)) < 2 ^ 32) }
+        ensures small { OnOk result ((kind : sort_of_item) → next_index kind (entries_of self.new) < 2 ^ 32) }
+        ensures too_large { (n : ℕ) → result ≡ Err (EncodeError.TooLarge n)
+            → (2 ^ 32 ≤ n)
+            × ((n ≡ length (item_text (item_tree item.now)))
+            ⊎ ((kind : sort_of_item)
+            × (item_sort (item_tree item.now) ≡ Some kind)
+            × (n ≡ next_index kind (entries_of self.old) + 1))) }
+    {
+        let counts = count_item(self.counts, item)?;
+        let id = section_of(item);
+        let (written, lent) = encode_item(self.take_buffer(alloc), item)?;
+        match lent {
+            None => self.buffer = self.built.push_item(id, written)?,
+            Some(lent) => {
+                self.built.push_section(Kind::Item(id), &written, lent)?;
+                self.buffer = written;
+            }
+        }
+        self.counts = counts;
+        Ok(())
+    }
+
     /// Adds the section of this id and content, with the items that it holds, in order. It is written as it is.
     ///
     /// `TooLarge` has the length of `content`, or the number of items that an index space would have with these, where
@@ -456,7 +490,7 @@ impl ComponentBuilder {
             ⊎ ((kind : sort_of_item) × (n ≡ next_index kind (entries_of self.old) + numbered kind items))) }
     {
         let counts = count_section(alloc, self.counts, id, content)?;
-        self.built.push_section(Kind::Section(id), content)?;
+        self.built.push_section(Kind::Section(id), &[], content)?;
         self.counts = counts;
         Ok(())
     }
@@ -464,8 +498,8 @@ impl ComponentBuilder {
     /// The component as bytes. They read as the items that were added, in order, and as nothing else.
     ///
     /// Lengths, counts and indices have their shortest spelling, but in sections that were given as bytes.
-    /// Neighbouring core types, instances, aliases, types, imports and exports share a section; every other item has
-    /// its own. `TooLarge` has the length of a section's content, or the number of its items, where that is above
+    /// Neighbouring items of one kind share a section; a custom section, a core module and a nested component have each
+    /// their own. `TooLarge` has the length of a section's content, or the number of its items, where that is above
     /// 2^32 - 1.
     pub fn finish(self, alloc: Global) -> Result<Vec<u8>, EncodeError>
         ensures reads { IfOk result (λ bytes. Reads bytes.items (items_of (entries_of self))) }

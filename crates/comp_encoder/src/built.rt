@@ -70,25 +70,29 @@ fn id_of(kind: Kind) -> u8
     }
 }
 
-/// Ends the section of a run, and writes one of this content behind it.
+/// Ends the section of a run, and writes one of this content behind it, which is given in two pieces.
 fn write_alone(
     out: &mut Vec<u8>,
     run: &Run,
     told: Option<u64>,
     kind: Kind,
+    head: &[u8],
     content: &[u8],
 ) -> Result<Option<u64>, EncodeError>
     ensures ended { IfOk result
         (λ fault.
         (mid : List ℕ)
         × IsEnded run.now.id run.now.count run.now.bytes.items out.old.items told mid fault
-        × (out.new.items ≡ mid ++ (kind_id kind ∷ (number_text (length content.now) ++ content.now)))) }
-    ensures short { OnOk result (length content.now < 2 ^ 32) }
+        × (out.new.items
+        ≡ mid
+        ++ (kind_id kind ∷ (number_text (length (head.now ++ content.now)) ++ (head.now ++ content.now))))) }
+    ensures short { OnOk result (length (head.now ++ content.now) < 2 ^ 32) }
     ensures front { BeginsWith out.old.items out.new.items }
-    ensures too_large { (n : ℕ) → result ≡ Err (EncodeError.TooLarge n) → (n ≡ length content.now) × (2 ^ 32 ≤ n) }
+    ensures too_large { (n : ℕ) → result ≡ Err (EncodeError.TooLarge n)
+        → (n ≡ length (head.now ++ content.now)) × (2 ^ 32 ≤ n) }
 {
     let too_large = end_run(out, run, told)?;
-    write_section(out, id_of(kind), content)?;
+    write_section(out, id_of(kind), head, content)?;
     Ok(too_large)
 }
 
@@ -144,20 +148,34 @@ impl Built {
         Ok(ended.bytes)
     }
 
-    /// Adds what has a section of its own, with this content.
-    pub fn push_section(&mut self, kind: Kind, content: &[u8]) -> Result<(), EncodeError>
-        requires kept { IsKept (kept kind content.now) }
+    /// Adds what has a section of its own, with this content, which is given in two pieces.
+    pub fn push_section(
+        &mut self,
+        kind: Kind,
+        head: &[u8],
+        content: &[u8],
+    ) -> Result<(), EncodeError>
+        requires kept { IsKept (kept kind (head.now ++ content.now)) }
         requires alone { IsAlone kind }
-        ensures added { OnOk result (self.new ≡ self.old ++ kept kind content.now ∷ []) }
+        ensures added { OnOk result (self.new ≡ self.old ++ kept kind (head.now ++ content.now) ∷ []) }
         ensures unchanged { OnErr result (self.new ≡ self.old) }
-        ensures too_large { (n : ℕ) → result ≡ Err (EncodeError.TooLarge n) → (n ≡ length content.now) × (2 ^ 32 ≤ n) }
+        ensures short { OnOk result (length (head.now ++ content.now) < 2 ^ 32) }
+        ensures too_large { (n : ℕ) → result ≡ Err (EncodeError.TooLarge n)
+            → (n ≡ length (head.now ++ content.now)) × (2 ^ 32 ≤ n) }
     {
         let place = Place {
             kind,
-            len: content.len(),
+            len: head.len() + content.len(),
         };
         let start = self.out.len();
-        match write_alone(&mut self.out, &self.run, self.too_large, kind, content) {
+        match write_alone(
+            &mut self.out,
+            &self.run,
+            self.too_large,
+            kind,
+            head,
+            content,
+        ) {
             Ok(too_large) => {
                 self.history = self.history.and(&place, &self.out);
                 self.too_large = too_large;

@@ -18,7 +18,7 @@ use comp_format::{Alias, ComponentType, Decl, DefType, InstanceType, Sort};
 use warg_values::Memory;
 
 /// An alias: its sort, and what it stands for.
-fn write_alias(out: &mut Sink, alias: &Alias) -> Result<(), Memory>
+pub fn write_alias(out: &mut Sink, alias: &Alias) -> Result<(), Memory>
     ensures text { OnOk result (out.new.bytes.items ≡ out.old.bytes.items ++ alias_text alias.now) }
     ensures largest { OnOk result (out.new.largest ≡ max out.old.largest (alias_largest alias.now)) }
     ensures texts { OnOk result (TextsOfAlias alias.now) }

@@ -4,11 +4,13 @@
 //! stands in the crate `comp_format`.
 #![tactic(auto)]
 
+mod any_item;
 mod builder;
 mod built;
 mod core_types;
 mod definitions;
 mod items;
+pub mod laws;
 mod parts;
 mod raw;
 mod sections;
@@ -18,5 +20,6 @@ mod values;
 
 pub use builder::ComponentBuilder;
 pub use comp_format::{
-    Arg, ComponentType, DefinedType, EncodeError, FuncType, InstanceType, ModuleType, Sort, TypeRef,
+    Arg, ComponentType, DefinedType, EncodeError, FuncType, InstanceType, Item, ModuleType, Sort,
+    TypeRef,
 };

@@ -43,7 +43,7 @@ pub fn write_vector<T: Encode>(out: &mut Sink, values: &[T]) -> Result<(), Memor
 }
 
 /// The byte of a core sort.
-fn code_of(sort: CoreSort) -> u8
+pub fn code_of(sort: CoreSort) -> u8
     ensures { result ≡ core_sort_code sort }
 {
     match sort {

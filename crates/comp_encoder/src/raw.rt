@@ -1,6 +1,6 @@
 //! Sections that are given as their bytes.
 
-ghost use Rattle.std.specs.Prelude.{◌≡◌, ◌<◌, ◌≤◌, ◌+◌, ◌^◌, ◌++◌, ◌∷◌, ◌⊎◌, ℕ, length, List, map, slice_index, OnOk, IfOk, IfErr, Err};
+ghost use Rattle.std.specs.Prelude.{◌≡◌, ◌<◌, ◌≤◌, ◌+◌, ◌^◌, ◌++◌, ◌∷◌, ◌⊎◌, ℕ, length, List, map, slice_index, Some, [], OnOk, IfOk, IfErr, Err};
 ghost use Rattle.comp_format.specs.declared.types.Sort.{Sort as sort};
 ghost use Rattle.comp_format.specs.Numbers.{number_text};
 ghost use Rattle.comp_format.specs.Items.{ItemTree, item_tree};
@@ -26,7 +26,7 @@ fn component_of(alloc: Global, id: u8, content: &[u8]) -> Result<Vec<u8>, Encode
 {
     let mut out = Vec::with_capacity(alloc, content.len().saturating_add(HEADER.len() + 6))?;
     out.extend_from_slice(&HEADER)?;
-    write_section(&mut out, id, content)?;
+    write_section(&mut out, id, &[], content)?;
     Ok(out)
 }
 
@@ -40,6 +40,32 @@ fn items_of(alloc: Global, bytes: &[u8]) -> Result<Vec<Item<'_>>, EncodeError>
         Ok(items) => Ok(items),
         Err(_) => Err(EncodeError::Memory),
     }
+}
+
+/// The sizes of the index spaces once an item is added to them.
+pub fn count_item(counts: [u32; 11], item: &Item<'_>) -> Result<[u32; 11], EncodeError>
+    requires { (kind : sort) → slice_index counts (space_of kind) < 2 ^ 32 }
+    ensures counted { IfOk result
+        (λ sizes.
+        (kind : sort)
+        → slice_index sizes (space_of kind)
+        ≡ slice_index counts (space_of kind) + numbered kind (item_tree item.now ∷ [])) }
+    ensures small { IfOk result (λ sizes. (kind : sort) → slice_index sizes (space_of kind) < 2 ^ 32) }
+    ensures too_large { (n : ℕ) → result ≡ Err (EncodeError.TooLarge n)
+        → (2 ^ 32 ≤ n)
+        × ((kind : sort)
+        × (item_sort (item_tree item.now) ≡ Some kind)
+        × (n ≡ slice_index counts (space_of kind) + 1)) }
+{
+    let mut sizes = counts;
+    if let Some(sort) = sort_of(item) {
+        let space = space_of(sort);
+        match sizes[space].checked_add(1) {
+            Some(size) => sizes[space] = size,
+            None => return Err(EncodeError::TooLarge(counts[space] as u64 + 1)),
+        }
+    }
+    Ok(sizes)
 }
 
 /// Whether the index space of a sort numbers an item.

@@ -21,17 +21,25 @@ pub fn short(length: usize) -> Result<u32, EncodeError>
     }
 }
 
-/// Writes a section: its id, the length of its content, and the content.
-pub fn write_section(out: &mut Vec<u8>, id: u8, content: &[u8]) -> Result<(), EncodeError>
+/// Writes a section: its id, the length of its content, and the content, which is given in two pieces.
+pub fn write_section(
+    out: &mut Vec<u8>,
+    id: u8,
+    head: &[u8],
+    content: &[u8],
+) -> Result<(), EncodeError>
     ensures text { OnOk result
-        (out.new.items ≡ out.old.items ++ (id ∷ (number_text (length content.now) ++ content.now))) }
+        (out.new.items
+        ≡ out.old.items ++ (id ∷ (number_text (length (head.now ++ content.now)) ++ (head.now ++ content.now)))) }
     ensures front { BeginsWith out.old.items out.new.items }
-    ensures fits { OnOk result (length content.now < 2 ^ 32) }
-    ensures too_large { (n : ℕ) → result ≡ Err (EncodeError.TooLarge n) → (n ≡ length content.now) × (2 ^ 32 ≤ n) }
+    ensures fits { OnOk result (length (head.now ++ content.now) < 2 ^ 32) }
+    ensures too_large { (n : ℕ) → result ≡ Err (EncodeError.TooLarge n)
+        → (n ≡ length (head.now ++ content.now)) × (2 ^ 32 ≤ n) }
 {
-    let length = short(content.len())?;
+    let length = short(head.len() + content.len())?;
     out.push(id)?;
     write_number(out, length as u64)?;
+    out.extend_from_slice(head)?;
     out.extend_from_slice(content)?;
     Ok(())
 }

@@ -5,12 +5,15 @@ ghost use Rattle.std.specs.Prelude.{IfOk, true, false};
 ghost use Rattle.comp_format.specs.Views.{module_tree, instance_type_tree, component_type_tree};
 ghost use Rattle.comp_format.specs.Forms.{IsDefined, IsFunc, AreDecls, AreModuleDecls};
 
+use crate::reader::READ;
 use comp_encoder::ComponentBuilder;
+use comp_encoder::laws::what_is_read_can_be_written;
 use comp_format::section::{self, HEADER};
 use comp_format::{
     Alias, Arg, ComponentType, CoreDesc, CoreSort, CoreType, CoreVal, DefType, DefinedType,
     EncodeError, FuncType, InstanceType, Limits, ModuleType, Primitive, Sort, TypeRef, ValType,
 };
+use comp_reader::read_items;
 use std::alloc::Global;
 use std::test::Fail;
 use warg_values::{Memory, Sequence, Text};
@@ -456,4 +459,67 @@ fn types_without_declarations_and_aliases_are_written(rt: HostRuntime) -> Result
         builder,
         "070d03410042004201020300020174031901500303016d02010102000161016201700001030167037c00",
     )
+}
+
+/// Sections in hexadecimal digits, and the sections that hold the same items where each is added again.
+const JOINED: &[&str] = &[
+    "08030102070803010308 = 08050202070308",
+    "02030101000203010100 = 02050201000100",
+    "0702017f0003016100070201730702017d = 0702017f0003016100070302737d",
+    "0004016e01020004016e0102 = 0004016e01020004016e0102",
+];
+
+/// A component written again from its items.
+fn written_again(alloc: Global, bytes: &[u8]) -> Result<ComponentBuilder, Fail> {
+    what_is_read_can_be_written();
+    let items = read_items(alloc, bytes)?;
+    let mut builder = ComponentBuilder::new(alloc);
+    for item in &items {
+        builder.push_item(alloc, item)?;
+    }
+    Ok(builder)
+}
+
+/// Fails where the items of sections are written again as other sections than these, in hexadecimal digits.
+fn writes_again(alloc: Global, given: &str, want: &str) -> Result<(), Fail> {
+    let mut bytes = Vec::from_slice(alloc, &HEADER)?;
+    bytes.extend_from_slice(&hex::decode(alloc, given)?)?;
+    writes(alloc, written_again(alloc, &bytes)?, want)
+}
+
+/// Fails at the first spelling that is not written again as the first of them.
+fn writes_the_first(alloc: Global, spellings: &str) -> Result<(), Fail> {
+    let (first, _) = spellings.split_once(' ').unwrap_or((spellings, ""));
+    for given in spellings.split(' ') {
+        writes_again(alloc, given, first)?;
+    }
+    Ok(())
+}
+
+/// Fails at the first row of which a spelling is not written again in the shortest.
+fn are_written_shortest(alloc: Global, rows: &[&str]) -> Result<(), Fail> {
+    for row in rows {
+        let (spellings, _) = row.split_once(" = ").unwrap_or((row, ""));
+        writes_the_first(alloc, spellings)?;
+    }
+    Ok(())
+}
+
+#[test]
+fn writes_each_item_that_was_read_in_its_shortest_spelling(rt: HostRuntime) -> Result<(), Fail> {
+    are_written_shortest(rt.alloc(), READ)
+}
+
+/// Fails at the first row whose items are not written again as it says.
+fn are_joined(alloc: Global, rows: &[&str]) -> Result<(), Fail> {
+    for row in rows {
+        let (given, want) = row.split_once(" = ").unwrap_or((row, ""));
+        writes_again(alloc, given, want)?;
+    }
+    Ok(())
+}
+
+#[test]
+fn items_that_were_read_join_their_neighbours(rt: HostRuntime) -> Result<(), Fail> {
+    are_joined(rt.alloc(), JOINED)
 }

@@ -7,7 +7,7 @@ use std::alloc::Global;
 use std::test::Fail;
 
 /// Sections in hexadecimal digits, each in its shortest spelling and in a padded one, and the items that they read as.
-const READ: &[&str] = &[
+pub const READ: &[&str] = &[
     "0702017f 07830081007f = [Ty(Defined(Primitive(Bool)))]",
     "07020173 078300810073 = [Ty(Defined(Primitive(Text)))]",
     "0703017074 07840081007074 = [Ty(Defined(ListOf(Primitive(Char))))]",

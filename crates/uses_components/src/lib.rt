@@ -41,7 +41,7 @@ pub use compose::link_bytes;
 pub use declarations::one_resource;
 pub use definitions::made_resource;
 pub use documents::{next_or_form, number_of, take_scalar};
-pub use encoder::import_resource;
+pub use encoder::{import_resource, written_again};
 pub use entities::serves_both;
 pub use examples::saved_sample;
 pub use fits::{can_be_given, can_be_given_loosely};
