@@ -35,6 +35,7 @@ two_more e = omega (arith, e)
 pub mark_kept : (r : Renaming) → (change_of r).mark true ≡ true
 mark_kept renaming.Same = refl
 mark_kept (renaming.Placed origins at) = refl
+mark_kept (renaming.Called names) = refl
 
 module _ (c : Change) (marks : c.mark true ≡ true) where
   entries_by_is : (d : ℕ) (xs : List (List ℕ × EntityTree)) → entries_by c d (entries_of xs) ≡ entries_of (map (entry_by c d) xs)

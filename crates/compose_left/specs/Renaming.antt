@@ -1,6 +1,6 @@
 -- What copies of types and entities with changed names are.
 use Rattle.std.specs.Prelude.{ℕ, suc, ◌+◌, ◌*◌, Box, List, Option, Some, option_map, unwrap_or}
-use Rattle.std.specs.BTreeMap.{get}
+use Rattle.std.specs.BTreeMap.{BTreeMap, get}
 use Rattle.std.specs.Global.{Global}
 use Rattle.comp_entity.specs.declared.entity.ValueShape.{ValueShape}
 use Rattle.comp_entity.specs.Entity.{Name, made, ValueTree, EntityTree}
@@ -13,6 +13,7 @@ use Rattle.compose_left.specs.declared.renaming.Renaming.{Renaming}
 use Rattle.compose_left.specs.declared.renaming.Renaming.TheVariants as renaming
 use Rattle.compose_left.specs.Spots.{resource, named_type}
 use Rattle.compose_left.specs.Numbers.{held_cmp}
+use Rattle.compose_left.specs.Wired.{thing_cmp}
 
 abbrev pub number_held : Origins → Held → ℕ
 number_held o h = unwrap_or (get held_cmp o.numbers h) (h.thing.number * suc o.instances + h.instance)
@@ -30,9 +31,14 @@ placed_resource o at n = number_at o at (resource n)
 abbrev pub placed_type : Origins → ℕ → Name → Name
 placed_type o at n = number_at o at (named_type n)
 
+-- what a named type is called, where a name is found for it
+abbrev pub called_name : BTreeMap Thing Name → Name → Name
+called_name names n = unwrap_or (get thing_cmp names (named_type n)) n
+
 abbrev pub change_of : Renaming → Change
 change_of renaming.Same = no_change
 change_of (renaming.Placed origins at) = changing (placed_resource origins.now at) (placed_type origins.now at)
+change_of (renaming.Called names) = changing (λ n. n) (called_name names.now)
 
 abbrev pub boxed_trees : Option (Box ValueShape Global) → Option ValueTree
 boxed_trees held = option_map (λ (t : Box ValueShape Global). value_tree t.value) held

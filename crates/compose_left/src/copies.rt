@@ -1,15 +1,17 @@
 //! Copies of entities in which names are changed.
 
 ghost use Rattle.std.specs.Prelude.{◌≡◌, map, IfOk};
-ghost use Rattle.comp_entity.specs.Names.{type_by, entity_by};
+ghost use Rattle.comp_entity.specs.Names.{changing, type_by, entity_by};
 ghost use Rattle.comp_entity.specs.Views.{component_sides, entity_tree, named_entities, type_tree};
-ghost use Rattle.compose_left.specs.Renaming.{change_of, entry_by, sides_by};
+ghost use Rattle.compose_left.specs.Renaming.{called_name, change_of, entry_by, sides_by};
 
 use crate::renaming::{Renaming, func_in, resource_in, value_in};
+use crate::spots::Thing;
 use comp_entity::{
-    ComponentShape, CoreShape, CoreVal, Entity, InstanceShape, ModuleShape, TypeShape,
+    ComponentShape, CoreShape, CoreVal, Entity, InstanceShape, ModuleShape, TypeNo, TypeShape,
 };
 use std::alloc::Global;
+use std::collections::BTreeMap;
 use warg_values::{Memory, Sequence, Text};
 
 /// A copy of types of core values.
@@ -169,6 +171,19 @@ pub fn entity_in(
             Ok(Entity::Ty(ty))
         }
     }
+}
+
+/// A copy of an entity in which each named type of the scopes around it is called by the name that is found for it, where
+/// one is. Resources keep their names. `Memory` also where there is no room for a name.
+pub fn called_otherwise(
+    alloc: Global,
+    names: &BTreeMap<Thing, TypeNo>,
+    entity: &Entity,
+) -> Result<Entity, Memory>
+    ensures { IfOk result (λ copy.
+        entity_tree copy ≡ entity_by (changing (λ n. n) (called_name names.now)) 0 (entity_tree entity.now)) }
+{
+    entity_in(alloc, &Renaming::Called { names }, 0, entity)
 }
 
 /// Imports or exports with their names changed.

@@ -18,6 +18,7 @@ mod renaming;
 mod spots;
 mod wiring;
 
+pub use copies::called_otherwise;
 pub use error::MergeError;
 pub use finding::origins;
 pub use known::Origins;

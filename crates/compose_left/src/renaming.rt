@@ -1,9 +1,9 @@
 //! Copies of types and entities in which names are changed.
 
 ghost use Rattle.std.specs.Prelude.{◌≡◌, Some, map, option_map, IfOk};
-ghost use Rattle.comp_entity.specs.Names.{place_by, value_by, func_by};
+ghost use Rattle.comp_entity.specs.Names.{deeper, outside, place_by, value_by, func_by};
 ghost use Rattle.comp_entity.specs.Views.{value_tree, func_tree};
-ghost use Rattle.compose_left.specs.Renaming.{boxed_trees, case_tree, case_by, change_of, field_by, field_tree, number_held};
+ghost use Rattle.compose_left.specs.Renaming.{boxed_trees, called_name, case_tree, case_by, change_of, field_by, field_tree, number_held};
 
 use crate::known::Origins;
 use crate::numbering::in_turn;
@@ -11,6 +11,7 @@ use crate::origin::Held;
 use crate::spots::Thing;
 use comp_entity::{FuncShape, ResourceNo, TypeNo, ValueShape};
 use std::alloc::Global;
+use std::collections::BTreeMap;
 use warg_values::{Memory, Sequence, Text};
 
 /// How the names of scopes around an entity are changed.
@@ -20,6 +21,8 @@ pub enum Renaming<'a> {
     Same,
     /// A thing of an instance becomes the number of its origin.
     Placed { origins: &'a Origins, at: usize },
+    /// A named type is called by the name that is found for it, where one is.
+    Called { names: &'a BTreeMap<Thing, TypeNo> },
 }
 
 /// The number of the origin of a thing of an instance.
@@ -58,7 +61,38 @@ pub fn resource_in(
             let number = number_held(origins, held)?;
             ResourceNo::new(depth, number).ok_or(Memory)
         }
+        Renaming::Called { names: _ } => Ok(name),
     }
+}
+
+/// The name that is found for a named type, or its own where none is.
+fn called_name(names: &BTreeMap<Thing, TypeNo>, name: TypeNo) -> TypeNo
+    ensures { result ≡ called_name names.now name }
+{
+    match names.get(&Thing::named_type(name)) {
+        Some(called) => *called,
+        None => name,
+    }
+}
+
+/// A named type as it is called so many scopes further in. `Memory` where there is no room for that name.
+fn deeper(depth: usize, name: TypeNo) -> Result<TypeNo, Memory>
+    ensures { IfOk result (λ further. further ≡ deeper depth name) }
+{
+    let out = name.out().checked_add(depth).ok_or(Memory)?;
+    TypeNo::new(out, name.number()).ok_or(Memory)
+}
+
+/// The place that named a type, mentioned so many scopes deep, by the name that is found for it, where one is. `Memory`
+/// also where there is no room for the name.
+fn called_in(names: &BTreeMap<Thing, TypeNo>, depth: usize, name: TypeNo) -> Result<TypeNo, Memory>
+    ensures { IfOk result (λ called. called ≡ outside (called_name names.now) depth name) }
+{
+    if name.out() < depth {
+        return Ok(name);
+    }
+    let around = TypeNo::new(name.out() - depth, name.number()).ok_or(Memory)?;
+    deeper(depth, called_name(names, around))
 }
 
 /// The place that named a type, mentioned so many scopes deep, by its changed name. `Memory` also where there is no
@@ -83,6 +117,7 @@ fn named_in(renaming: &Renaming<'_>, depth: usize, name: TypeNo) -> Result<TypeN
             let number = number_held(origins, held)?;
             TypeNo::new(depth, number).ok_or(Memory)
         }
+        Renaming::Called { names } => called_in(names, depth, name),
     }
 }
 
