@@ -3,3 +3,4 @@ mod FormLaws
 mod StandLaws
 mod TypeLaws
 mod ScopeLaws
+mod OneFact
