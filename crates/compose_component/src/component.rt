@@ -2,7 +2,9 @@
 
 ghost use Rattle.std.specs.Prelude.{◌≡◌, ◌<◌, length, map, All, true, is_ok};
 ghost use Rattle.std.proofs.Props.{props};
+ghost use Rattle.comp_entity.specs.Views.{shape_tree};
 ghost use Rattle.comp_format.specs.Sections.{component_at};
+ghost use Rattle.comp_shape.specs.Shape.{HasShape};
 ghost use Rattle.compose_component.specs.Content.{content_bytes};
 ghost use Rattle.compose_component.specs.Names.{FindsNames};
 
@@ -48,7 +50,9 @@ pub struct Component<'a> {
     pub(crate) import_places: BTreeMap<String, usize>,
     /// The first export of each name.
     pub(crate) export_places: BTreeMap<String, usize>,
+    ghost called: { 0 < length name },
     ghost is_component: { is_ok (component_at (length (content_bytes content)) (content_bytes content)) ≡ true },
+    ghost read: { ∥ HasShape (content_bytes content) (shape_tree shape) ∥₁ },
     ghost named: { All (λ e. 0 < length e.0) shape.exports.items },
     ghost finds_imports: { FindsNames import_places (map (λ i. i.name) imports.items) } by { Prim.hlevel props },
     ghost finds_exports: { FindsNames export_places (map (λ e. e.name) exports.items) } by { Prim.hlevel props },
@@ -67,7 +71,6 @@ impl<'a> Component<'a> {
     ghost use Rattle.comp_shape.specs.declared.error.ShapeError.{ShapeError as shape_error};
     ghost use Rattle.comp_shape.specs.declared.error.ShapeError.TheVariants as shape_refusal;
     ghost use Rattle.comp_shape.specs.Refusal.{IsRefused};
-    ghost use Rattle.comp_entity.specs.Views.{shape_tree};
     ghost use Rattle.compose_component.specs.Component.{IsRead, IsReadAs, IsOfBytes, RefusedAt, name_of, path_of, bytes_of, shape_of};
     ghost use Rattle.compose_component.specs.Component.{imports_of, exports_of, import_in, export_in, import_under, export_under};
     ghost use Rattle.compose_component.specs.declared.error.ComponentError.TheVariants.{BadName as bad_name, BadComponent as bad_component, File as bad_file};
@@ -160,6 +163,7 @@ impl<'a> Component<'a> {
         content: Content<'a>,
         shown: Shown,
     ) -> Result<Component<'a>, Memory>
+        requires called { 0 < length name.now }
         requires read { IsReadAs (content_bytes content) shown.shape shown.imports.items shown.exports.items }
         requires named { All (λ e. 0 < length e.0) shown.shape.exports.items }
         ensures taken { IfOk result (λ c. (name_of c ≡ name.now) × (path_of c ≡ path)) }
@@ -225,7 +229,7 @@ impl<'a> Component<'a> {
         Ok(component)
     }
 
-    /// The name.
+    /// The name, which is not empty.
     pub fn name(&self) -> &str
         ensures { result.now ≡ name_of self.now }
     {
@@ -273,6 +277,7 @@ impl<'a> Component<'a> {
     /// What it imports and exports, as types with all indices followed. No name of an export is empty.
     pub fn types(&self) -> &Shape
         ensures value { shape_tree result.now ≡ shape_of self.now }
+        ensures read { ∥ HasShape (bytes_of self.now) (shape_of self.now) ∥₁ }
         ensures named { All (λ e. 0 < length e.0) result.now.exports.items }
     {
         &self.shape

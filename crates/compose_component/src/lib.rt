@@ -6,6 +6,7 @@ mod content;
 mod error;
 mod export;
 mod import;
+pub mod laws;
 mod naming;
 
 pub use comp_format::{Sort, TypeRef};
