@@ -1,6 +1,6 @@
 -- A composition: components, instances of them in the order made, and the wires between the instances (Component Model,
 -- Explainer.md, "Instance Definitions").
-use Rattle.std.specs.Prelude.{◌≡◌, ℕ, ◌<◌, Bool, List, [], ◌∷◌, map, length, None, filter, slice_get, ◌==◌}
+use Rattle.std.specs.Prelude.{◌≡◌, ℕ, ◌<◌, Bool, List, [], ◌∷◌, map, length, None, IfSome, filter, slice_get, ◌==◌}
 use Rattle.std.specs.Borrow.{Bor}
 use Rattle.std.specs.List.{AllByRecursion}
 use Rattle.std.specs.Option.{option_map_or}
@@ -8,7 +8,7 @@ use Rattle.comp_entity.specs.Entity.{ShapeTree}
 use Rattle.compose_component.specs.declared.component.Component.{Component}
 use Rattle.compose_component.specs.Component.{name_of, bytes_of, shape_of}
 use Rattle.compose_left.specs.declared.wiring.Wire.{Wire}
-use Rattle.compose_left.specs.Wiring.{Wiring, no_shape, wire_into}
+use Rattle.compose_left.specs.Wiring.{Wiring, no_shape, shape_at, wire_into}
 use Rattle.compose_check.specs.declared.composition.Composition.{Composition}
 
 -- a component by its name, its bytes, and what they import and export
@@ -40,9 +40,16 @@ pub record IsBetween (instances : ℕ) (w : Wire) : Type 0 where
   pub source : w.source < instances
   pub target : w.target < instances
 
+-- the import that a wire goes into is there, and so is the export that it takes, where it does not take the whole
+-- instance
+pub record HasEnds (w : Wiring) (wire : Wire) : Type 0 where
+  pub import : wire.import < length (shape_at w.shapes wire.target).imports
+  pub export : IfSome wire.export (λ export. export < length (shape_at w.shapes wire.source).exports)
+
 pub record IsComposition (c : CompositionTree) : Type 0 where
   pub made : AllByRecursion (λ n. n < length c.components) c.instances
   pub joined : AllByRecursion (IsBetween (length c.instances)) c.wires
+  pub ends : AllByRecursion (HasEnds (wiring c)) c.wires
   pub apart : HaveOwnImports c.wires
 
 -- ---- what instances are given
