@@ -3,7 +3,9 @@ mod Paths
 mod Merged
 mod Narrowed
 mod Spots
+mod Called
 mod Numbers
 mod Along
 mod Whole
+mod Begin
 mod Rows

@@ -44,7 +44,7 @@ under_front name (entry n e mark es) rest x is = by (bytes_eq name n) is (under_
     by true is further = is
     by false is further = further is
 
-under_behind : (name : List ℕ) (es rest : Entries) → under name es ≡ None → under name (followed_by es rest) ≡ under name rest
+pub under_behind : (name : List ℕ) (es rest : Entries) → under name es ≡ None → under name (followed_by es rest) ≡ under name rest
 under_behind name no_entry rest is = refl
 under_behind name (entry n e mark es) rest is = by (bytes_eq name n) is (under_behind name es rest)
   where
@@ -87,7 +87,7 @@ union_left (name ∷ path) (IsInstance es) _ t is = is
 union_left [] (IsType x) f t is = is
 union_left _ _ _ t is = absurd cc
 
-abbrev TypeAt : Path → EntityTree → ValueTree → Type 0
+abbrev pub TypeAt : Path → EntityTree → ValueTree → Type 0
 TypeAt path e t = (u : ValueTree) × (at_path path e ≡ Some u) × (bare_value u ≡ bare_value t)
 
 equal_type : (path : Path) (e f : EntityTree) → entities_equal same_name e f ≡ true → (t : ValueTree) → at_path path f ≡ Some t → TypeAt path e t
@@ -206,26 +206,31 @@ pub merged_coheres : (names : Names) (xs : List Asked) (ls : List LeftTree) → 
 merged_coheres names [] ls h k = h
 merged_coheres names (x ∷ xs) ls h k = merged_coheres names xs (with_asked ls x) (asked_coheres names ls x h k.0) k.1
 
-module _ (names : Names) (w : Wiring) where
-  import_asks : (i j : ℕ) (e : Asked) → Coheres names (placed w i e.1) → AllByRecursion (λ (x : Asked). Coheres names x.1) (asked_by w i j e)
+module _ (P : Asked → Type 0) (w : Wiring) where
+  abbrev AllPlaced : ℕ → List (List ℕ × EntityTree) → Type 0
+  AllPlaced i es = AllByRecursion (λ (e : List ℕ × EntityTree). P (e.0, placed w i e.1)) es
+
+  import_asks : (i j : ℕ) (e : Asked) → P (e.0, placed w i e.1) → AllByRecursion P (asked_by w i j e)
   import_asks i j e h = by (is_none (wire_into w.wires i j))
     where
-      by : (b : Bool) → AllByRecursion (λ (x : Asked). Coheres names x.1) (cond b ((e.0, placed w i e.1) ∷ []) [])
+      by : (b : Bool) → AllByRecursion P (cond b ((e.0, placed w i e.1) ∷ []) [])
       by true = (h, tt)
       by false = tt
 
-  instance_asks : (i j : ℕ) (es : List Asked) → PlacedCohere names w i es → AllByRecursion (λ (x : Asked). Coheres names x.1) (asked_from w i j es)
+  instance_asks : (i j : ℕ) (es : List Asked) → AllPlaced i es → AllByRecursion P (asked_from w i j es)
   instance_asks i j [] h = tt
-  instance_asks i j (e ∷ es) h = both (λ (x : Asked). Coheres names x.1) (asked_by w i j e) (asked_from w i (suc j) es) (import_asks i j e h.0) (instance_asks i (suc j) es h.1)
+  instance_asks i j (e ∷ es) h = both P (asked_by w i j e) (asked_from w i (suc j) es) (import_asks i j e h.0) (instance_asks i (suc j) es h.1)
 
-  all_ask : (i : ℕ) (ss : List ShapeTree) → ((k m : ℕ) (s : ShapeTree) → m ≡ i + k → slice_get ss k ≡ Some s → PlacedCohere names w m s.imports) → AllByRecursion (λ (x : Asked). Coheres names x.1) (asked_by_all w i ss)
+  all_ask : (i : ℕ) (ss : List ShapeTree) → ((k m : ℕ) (s : ShapeTree) → m ≡ i + k → slice_get ss k ≡ Some s → AllPlaced m s.imports) → AllByRecursion P (asked_by_all w i ss)
   all_ask i [] h = tt
   all_ask i (s ∷ ss) h =
-      both (λ (x : Asked). Coheres names x.1) (asked_from w i 0 s.imports) (asked_by_all w (suc i) ss)
+      both P (asked_from w i 0 s.imports) (asked_by_all w (suc i) ss)
       (instance_asks i 0 s.imports (h 0 i s (omega arith) refl))
       (all_ask (suc i) ss (λ k m r at there. h (suc k) m r (omega (arith, at)) there))
 
-  pub lefts_cohere : ((i : ℕ) (s : ShapeTree) → slice_get w.shapes i ≡ Some s → PlacedCohere names w i s.imports) → AllByRecursion (λ (l : LeftTree). Coheres names l.entity) (lefts w)
-  lefts_cohere h =
-      merged_coheres names (left_open w) [] tt
-      (all_ask 0 w.shapes (λ k m s at there. (let same : k ≡ m = omega (arith, at) in h m s (ap (slice_get w.shapes) (sym same) ∙ there))))
+  -- what each import of an instance is, all that is left open is
+  pub open_asks : ((i : ℕ) (s : ShapeTree) → slice_get w.shapes i ≡ Some s → AllPlaced i s.imports) → AllByRecursion P (left_open w)
+  open_asks h = all_ask 0 w.shapes (λ k m s at there. (let same : k ≡ m = omega (arith, at) in h m s (ap (slice_get w.shapes) (sym same) ∙ there)))
+
+pub lefts_cohere : (names : Names) (w : Wiring) → ((i : ℕ) (s : ShapeTree) → slice_get w.shapes i ≡ Some s → PlacedCohere names w i s.imports) → AllByRecursion (λ (l : LeftTree). Coheres names l.entity) (lefts w)
+lefts_cohere names w h = merged_coheres names (left_open w) [] tt (open_asks (λ (x : Asked). Coheres names x.1) w h)

@@ -9,6 +9,7 @@ use Rattle.comp_entity.specs.Names.{Change, value_by, entity_by, entries_by}
 use Rattle.comp_entity.specs.Fits.{same_name, values_equal, entities_equal, entries_equal, under, fits_with, all_fit}
 use Rattle.comp_entity.specs.Places.{Path}
 use Rattle.comp_coherence.specs.Coherence.{Names, OneTree, Coheres, AllCohere, inside_component, nowhere}
+use Rattle.compose_origins.specs.Placed.{value_at}
 use Rattle.compose_origins.proofs.Types.{left_of, right_of, label_is}
 
 -- ---- lists
@@ -34,9 +35,7 @@ module _ {X : Type 0} (P : X → Type 0) where
 -- ---- paths
 
 abbrev pub at_path : Path → EntityTree → Option ValueTree
-at_path [] (IsType (Value t)) = Some t
-at_path (name ∷ path) (IsInstance es) = option_and_then (λ e. at_path path e.0) (under name es)
-at_path _ _ = None
+at_path = value_at
 
 pub then_some : {X Y : Type 0} (f : X → Option Y) (o : Option X) (y : Y) → option_and_then f o ≡ Some y → (x : X) × (o ≡ Some x) × (f x ≡ Some y)
 then_some f None y h = absurd cc

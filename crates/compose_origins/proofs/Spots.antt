@@ -13,7 +13,7 @@ use Rattle.compose_left.specs.Merging.{is_absent}
 use Rattle.compose_left.specs.Spots.{named_type, spots_from, spots_in, spots_of}
 use Rattle.compose_origins.specs.Named.{HasOwnNames, HaveOwnNames}
 use Rattle.compose_origins.proofs.Types.{label_is}
-use Rattle.compose_origins.proofs.Paths.{at_path, both, itself, some_is, then_some}
+use Rattle.compose_origins.proofs.Paths.{at_path, both, itself, some_is}
 
 -- ---- lists
 
@@ -36,48 +36,46 @@ flat P Q f each (x ∷ xs) h = both Q (f x) (flat_map f xs) (each x h.0) (flat P
 
 -- ---- leaves
 
-abbrev Leaf : Type 0
+abbrev pub Leaf : Type 0
 Leaf = Path × EntityTree
 
--- a leaf stands at the rest of its path, if it is a type of values
-abbrev LeafOf : Path → EntityTree → Leaf → Type 0
-LeafOf path e leaf = (rest : Path) × (leaf.0 ≡ path ++ rest) × ((t : ValueTree) → leaf.1 ≡ IsType (Value t) → at_path rest e ≡ Some t)
-
-abbrev under_path : Path → EntityTree × Bool → Option ValueTree
-under_path path e = at_path path e.0
+-- a leaf stands at the rest of its path
+abbrev pub LeafOf : Path → EntityTree → Leaf → Type 0
+LeafOf path e leaf = (rest : Path) × (leaf.0 ≡ path ++ rest) × (at_path rest e ≡ at_path [] leaf.1)
 
 abbrev LeafIn : Path → Entries → Leaf → Type 0
-LeafIn path es leaf = (name : List ℕ) × (rest : Path) × (leaf.0 ≡ path ++ (name ∷ rest)) × ((t : ValueTree) → leaf.1 ≡ IsType (Value t) → option_and_then (under_path rest) (under name es) ≡ Some t)
+LeafIn path es leaf = (name : List ℕ) × (rest : Path) × (leaf.0 ≡ path ++ (name ∷ rest)) × (x : EntityTree × Bool) × (under name es ≡ Some x) × (at_path rest x.0 ≡ at_path [] leaf.1)
 
 in_instance : (path : Path) (es : Entries) (leaf : Leaf) → LeafIn path es leaf → LeafOf path (IsInstance es) leaf
-in_instance path es leaf h = (h.0 ∷ h.1, h.2, h.3)
+in_instance path es leaf h = (h.0 ∷ h.1, h.2, ap (option_and_then (λ (e : EntityTree × Bool). at_path h.1 e.0)) h.4 ∙ h.5)
 
 at_front : (path : Path) (name : List ℕ) (e : EntityTree) (mark : Bool) (es : Entries) (leaf : Leaf) → LeafOf (path ++ name ∷ []) e leaf → LeafIn path (entry name e mark es) leaf
 at_front path name e mark es leaf h = (
   name,
   h.0,
   h.1 ∙ append_assoc path (name ∷ []) h.0,
-  λ t is. ap (λ b. option_and_then (under_path h.0) (cond b (Some (e, mark)) (under name es))) (itself name) ∙ h.2 t is,
+  (e, mark),
+  ap (λ b. cond b (Some (e, mark)) (under name es)) (itself name),
+  h.2,
 )
 
 no_truth : {A : Type 0} → true ≡ false → A
 no_truth h = absurd cc
 
 further_on : (path : Path) (name : List ℕ) (e : EntityTree) (mark : Bool) (es : Entries) → is_absent name es ≡ true → (leaf : Leaf) → LeafIn path es leaf → LeafIn path (entry name e mark es) leaf
-further_on path name e mark es absent leaf h = (h.0, h.1, h.2, λ t is. other t (bytes_eq h.0 name) refl (h.3 t is))
+further_on path name e mark es absent leaf h = (h.0, h.1, h.2, h.3, other (bytes_eq h.0 name) refl, h.5)
   where
-    other : (t : ValueTree) (b : Bool) → bytes_eq h.0 name ≡ b → option_and_then (under_path h.1) (under h.0 es) ≡ Some t → option_and_then (under_path h.1) (under h.0 (entry name e mark es)) ≡ Some t
-    other t true same is =
-        let x = then_some (under_path h.1) (under h.0 es) t is in
-        let there : under name es ≡ Some x.0 = ap (λ k. under k es) (sym (label_is h.0 name same)) ∙ x.1 in
+    other : (b : Bool) → bytes_eq h.0 name ≡ b → under h.0 (entry name e mark es) ≡ Some h.3
+    other true same =
+        let there : under name es ≡ Some h.3 = ap (λ k. under k es) (sym (label_is h.0 name same)) ∙ h.4 in
         no_truth (sym absent ∙ ap (λ (o : Option (EntityTree × Bool)). not (is_some o)) there)
-    other t false same is = ap (λ b. option_and_then (under_path h.1) (cond b (Some (e, mark)) (under h.0 es))) same ∙ is
+    other false same = ap (λ b. cond b (Some (e, mark)) (under h.0 es)) same ∙ h.4
 
 alone : (path : Path) (e : EntityTree) → AllByRecursion (LeafOf path e) ((path, e) ∷ [])
-alone path e = (([], sym (append-nil path), λ t is. ap (at_path []) is), tt)
+alone path e = (([], sym (append-nil path), refl), tt)
 
 mutual
-  leaves_stand : (path : Path) (e : EntityTree) → HasOwnNames e → AllByRecursion (LeafOf path e) (leaves_of path e)
+  pub leaves_stand : (path : Path) (e : EntityTree) → HasOwnNames e → AllByRecursion (LeafOf path e) (leaves_of path e)
   leaves_stand path (IsInstance es) h = weaker (LeafIn path es) (LeafOf path (IsInstance es)) (in_instance path es) (leaves_in path es) (entries_stand path es h)
   leaves_stand path (IsType t) h = alone path (IsType t)
   leaves_stand path (IsFunc f) h = alone path (IsFunc f)
@@ -102,7 +100,7 @@ pub record Typed (e : EntityTree) (s : Spot) : Type 0 where
   pub named : place_of tree ≡ Some place
   pub what : s.what ≡ named_type place
 
-abbrev SpotOf : ℕ → List ℕ → EntityTree → Spot → Type 0
+abbrev pub SpotOf : ℕ → List ℕ → EntityTree → Spot → Type 0
 SpotOf number name e s = (s.number ≡ number) × (s.name ≡ name) × (s.what.is_type ≡ true → Typed e s)
 
 abbrev spot_at : ℕ → List ℕ → Path → Thing → Spot
@@ -115,7 +113,7 @@ module _ (number : ℕ) (name : List ℕ) (root : EntityTree) where
   type_spot path t there (Some n) named = ((refl, refl, λ h. record { tree = t; place = n; there = there; named = named; what = refl }), tt)
 
   leaf_spots : (leaf : Leaf) → LeafOf [] root leaf → AllByRecursion (SpotOf number name root) (spots_of number name leaf.0 leaf.1)
-  leaf_spots (path, IsType (Value t)) h = type_spot path t (ap (λ path. at_path path root) h.1 ∙ h.2 t refl) (place_of t) refl
+  leaf_spots (path, IsType (Value t)) h = type_spot path t (ap (λ path. at_path path root) h.1 ∙ h.2) (place_of t) refl
   leaf_spots (path, IsType (Resource r)) h = ((refl, refl, λ is. absurd cc), tt)
   leaf_spots (path, _) h = tt
 

@@ -25,6 +25,7 @@ use Rattle.compose_origins.specs.Placed.{OneTypeEach, PlacedCohere}
 use Rattle.compose_origins.proofs.Types.{value_is}
 use Rattle.compose_origins.proofs.Paths.{at_by, at_path, map_some, near, some_is, then_some}
 use Rattle.compose_origins.proofs.Spots.{found, weaker}
+use Rattle.compose_origins.proofs.Called.{lefts_call, lefts_stand}
 use Rattle.compose_origins.proofs.Merged.{left_type, lefts_cohere, open_stands}
 use Rattle.compose_origins.proofs.Numbers.{IsCounted, brought_there, origin_found, origin_numbered}
 use Rattle.compose_origins.proofs.Along.{BroughtType, bare_placed, brought_type, exports_of, given_fits, given_type, in_imports, is_made_here, placed_value}
@@ -199,7 +200,14 @@ module _ (w : Wiring) (circle : HasNoCircle w) (passes : Passes w) (fits : EachF
       → (e : EntityTree) → Coheres before e → Coheres after (entity_by (changing resource place) 0 e)
 
   whole_from : Carried → OneTypeEach w
-  whole_from carried = record { names = numbers; imports = imports; exports = exports; lefts = lefts_cohere numbers w imports }
+  whole_from carried = record {
+    names = numbers;
+    imports = imports;
+    exports = exports;
+    lefts = lefts_cohere numbers w imports;
+    stands = lefts_stand numbers w merges (λ i s there. (trees.stand i s there).apart_within) imports;
+    calls = lefts_call numbers w merges (λ i s there. (trees.stand i s there).apart_within) imports;
+  }
     where
       entity : (i : ℕ) (s : ShapeTree) → slice_get w.shapes i ≡ Some s → (e : List ℕ × EntityTree) → Coheres (inside_component (trees.tree i) nowhere) e.1 → Coheres numbers (placed w i e.1)
       entity i s there e h = carried (of_resource w i) (of_type w i) (inside_component (trees.tree i) nowhere) numbers (carries i s there) e.1 h

@@ -9,7 +9,7 @@ ghost use Rattle.compose_left.specs.Wiring.{HasNoCircle, Wiring};
 ghost use Rattle.compose_fit.specs.Fit.{WiresFit};
 ghost use Rattle.compose_order.specs.Needs.{LeftTree};
 ghost use Rattle.compose_check.specs.Checked.{IsSound};
-ghost use Rattle.compose_check.specs.Composition.{CompositionTree, wiring};
+ghost use Rattle.compose_check.specs.Composition.{CompositionTree, IsComposition, wiring};
 ghost use Rattle.compose_check.specs.Open.{all_agree, left_open};
 ghost use Rattle.compose_origins.specs.Named.{IsWellNamed, WiresBegin};
 ghost use Rattle.compose_origins.specs.Placed.{OneTypeEach};
@@ -29,8 +29,8 @@ pub fn one_number_stands_for_one_type()
 
 /// In a composition that can be written one number of an origin stands for one type.
 pub fn a_sound_composition_has_one_type_each()
-    ensures { (c : CompositionTree) (order : List ℕ) (out : List LeftTree) → IsSound c order out
-        → WiresBegin (wiring c) → AllByRecursion IsWellNamed (wiring c).shapes → OneTypeEach (wiring c) }
+    ensures { (c : CompositionTree) (order : List ℕ) (out : List LeftTree) → IsComposition c → IsSound c order out
+        → AllByRecursion IsWellNamed (wiring c).shapes → OneTypeEach (wiring c) }
 {
     one_number_stands_for_one_type();
 }
