@@ -14,6 +14,7 @@ use Rattle.comp_scope.specs.Image.{Image, Left, OfComponent, Progress, nothing_s
 use Rattle.comp_scope.specs.Spaces.{sort_of}
 use Rattle.compose_order.specs.Needs.{LeftTree}
 use Rattle.compose_check.specs.Composition.{ComponentTree, CompositionTree}
+use Rattle.compose_image.specs.Settled.{settled}
 use Rattle.compose_image.specs.Imports.{component_import, imports_of, used_components}
 use Rattle.compose_image.specs.Instances.{component_items, import_index}
 use Rattle.compose_image.specs.Writable.{HaveOwnNames, is_of}
@@ -164,6 +165,6 @@ module _ (c : CompositionTree) (shown : List (List ℕ × EntityTree)) where
 
   pub begins : (define : Bool) (lefts : List LeftTree) (imports : List ItemTree)
       → HaveOwnNames (imports_of c define lefts) → AreTaken (imports_of c define lefts) imports
-      → Begun define lefts imports
-  begins true lefts imports own taken = defining lefts imports own taken
-  begins false lefts imports own taken = importing lefts imports own taken
+      → Begun define (map settled lefts) imports
+  begins true lefts imports own taken = defining (map settled lefts) imports own taken
+  begins false lefts imports own taken = importing (map settled lefts) imports own taken

@@ -10,9 +10,9 @@ use Rattle.comp_entity.specs.Entity.{EntityTree}
 use Rattle.compose_agree.specs.Order.{has}
 use Rattle.compose_left.specs.declared.wiring.Wire.{Wire}
 use Rattle.compose_left.specs.Wiring.{is_into, wire_into}
-use Rattle.compose_check.specs.Composition.{CompositionTree, HaveOwnImports, goes_to, source_of}
+use Rattle.compose_check.specs.Composition.{CompositionTree, HasEnds, HaveOwnImports, goes_to, source_of, wiring}
 use Rattle.compose_image.specs.CompositionImage.{given_argument, instance_image, open_argument}
-use Rattle.compose_image.specs.Instances.{IsIntoImport, by_source, comes_from, first_ones, open_from, open_imports, shape_of, wires_of}
+use Rattle.compose_image.specs.Instances.{by_source, comes_from, first_ones, open_from, open_imports, shape_of, wires_of}
 use Rattle.compose_image.proofs.ListLaws.{AnyOf, all_after, any_left, any_place, any_right}
 use Rattle.compose_image.proofs.OrderLaws.{OneOrTwo, count_one, one_or_two, times, times_before}
 
@@ -360,7 +360,7 @@ all_between (w ∷ ws) i m a = by (w.target == i) refl (all_between ws i m a.1)
     by false e later = omega (arith, between_more w ws i 0 m, elsewhere w i 0 m e, later)
 
 pub as_many_given : (c : CompositionTree) (order : List ℕ) (i : ℕ) → HaveOwnImports c.wires
-    → AllByRecursion (IsIntoImport c) c.wires
+    → AllByRecursion (HasEnds (wiring c)) c.wires
     → length (instance_image c order i).1 ≡ length (shape_of c i).imports
 as_many_given c order i own there =
     omega (
@@ -371,7 +371,7 @@ as_many_given c order i own there =
       length-by_source (filter (goes_to i) c.wires),
       opens_between c i 0 (shape_of c i).imports own,
       all_between c.wires i (length (shape_of c i).imports)
-          (all_after (IsIntoImport c)
+          (all_after (HasEnds (wiring c))
           (λ (w : Wire). (w.target == i) ≡ true → w.import < length (shape_of c i).imports) c.wires
-          (λ w h e. subst (λ n. w.import < length (shape_of c n).imports) (eqb-true w.target i e) h) there),
+          (λ w h e. subst (λ n. w.import < length (shape_of c n).imports) (eqb-true w.target i e) h.import) there),
     )

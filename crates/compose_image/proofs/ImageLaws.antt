@@ -12,6 +12,7 @@ use Rattle.compose_agree.specs.Order.{Takes, all_of, has, is_ready}
 use Rattle.compose_order.specs.Needs.{LeftTree}
 use Rattle.compose_check.specs.Composition.{CompositionTree, IsComposition}
 use Rattle.compose_check.specs.Checked.{IsInstanceOrder, IsSound, sources}
+use Rattle.compose_image.specs.Settled.{settled}
 use Rattle.compose_image.specs.Imports.{import_items, imports_of}
 use Rattle.compose_image.specs.Instances.{Part, Written, component_items, component_rank, export_of, exported_parts, import_index, open_imports, part_index, rank, shape_of, wires_of, with_export, with_instance, with_part, with_parts, written}
 use Rattle.compose_image.specs.Writable.{HaveOwnNames}
@@ -22,7 +23,7 @@ use Rattle.compose_image.proofs.ImportLaws.{imports_taken}
 use Rattle.compose_image.proofs.PassLaws.{Passes, Steps, passes_on, passes_one}
 use Rattle.compose_image.proofs.SeenImportLaws.{StandsLeft}
 use Rattle.compose_image.proofs.BegunLaws.{Begun, begins}
-use Rattle.compose_image.proofs.OpenLaws.{HasImport, open_has_import}
+use Rattle.compose_image.proofs.OpenLaws.{HasImport, open_has_import, settled_sort}
 use Rattle.compose_image.proofs.UsedLaws.{rank_there}
 use Rattle.compose_image.proofs.OrderLaws.{is_in_order, is_there, length-sources, once, sources_done, times, times_append, times_first}
 use Rattle.compose_image.proofs.InstanceLaws.{Holds, StandsOpen, args_given, instance_holds, part_at, part_meant, part_sort, parted, tables_stay, wires_given}
@@ -138,7 +139,17 @@ module _ (c : CompositionTree) (define : Bool) (order : List ℕ) (imports : Lis
 
 module _ (c : CompositionTree) (define : Bool) (order : List ℕ) (lefts : List LeftTree) (imports : List ItemTree)
     (shown : List (List ℕ × EntityTree)) (sound : IsSound c order lefts) (is : IsComposition c)
-    (b : Begun c shown define lefts imports) where
+    (b : Begun c shown define (map settled lefts) imports) where
+  -- what is written has the name and the sort of what is left open
+  stand_settled : (ls : List LeftTree)
+      → AllByRecursion (StandsLeft (is_component c define) b.p [] imports) (map settled ls)
+      → AllByRecursion (StandsLeft (is_component c define) b.p [] imports) ls
+  stand_settled [] a = tt
+  stand_settled (l ∷ ls) a = (
+    subst (λ kind. Stands b.p.numbered kind (import_index l.name [] imports) (Left l.name)) (settled_sort l) a.0,
+    stand_settled ls a.1,
+  )
+
   open_stands : (e : List ℕ × EntityTree) → HasImport lefts e → StandsOpen c define order imports shown b.p.numbered e
   open_stands e h =
       any_of_all (StandsLeft (is_component c define) b.p [] imports)
@@ -146,7 +157,7 @@ module _ (c : CompositionTree) (define : Bool) (order : List ℕ) (lefts : List 
       (StandsOpen c define order imports shown b.p.numbered e) lefts
       (λ l s k. subst (λ name. Stands b.p.numbered (sort_of e.1) (import_index name [] imports) (Left name)) (sym k.0)
       (subst (λ kind. Stands b.p.numbered kind (import_index l.name [] imports) (Left l.name)) k.1 s))
-      b.stand h
+      (stand_settled lefts b.stand) h
 
   begun_written : Written
   begun_written = record { items = imports ++ component_items c define; instances = []; parts = [] }

@@ -15,7 +15,8 @@ use Rattle.compose_writing.specs.Scopes.{WrittenScope, Wrote, wrote_as, declared
 use Rattle.compose_writing.specs.WriteEntities.{write_entity, write_type, write_import, write_resource, with_named, write_also, counted}
 use Rattle.comp_entity.specs.Names.{OfResource}
 use Rattle.compose_meaning.specs.Items.{items_for}
-use Rattle.compose_image.specs.Imports.{write_left, write_lefts, all_called, called_too, place_in, import_items, items_in, name_in}
+use Rattle.compose_image.specs.Settled.{name_in}
+use Rattle.compose_image.specs.Imports.{write_left, write_lefts, all_called, called_too, place_in, import_items, items_in}
 use Rattle.compose_image.proofs.QuietLaws.{IsQuiet, Adds, QuietTo, Quietly, quiet_entity, Knowing, knowing_here, knowing_on, knowing_new, knowing_noted, counted_decls, one_behind}
 
 -- ---- sorts
@@ -68,7 +69,7 @@ record IsTaken (l : LeftTree) (m : WrittenScope) (ns : List WrittenScope) : Type
   alone : ns ≡ n ∷ []
   items : items_for n.decls ≡ items_for m.decls ++ taken_items l taken
 
-knowing_called : (index : ℕ) (ss : List Spot) (ms : List WrittenScope) → Knowing ms (all_called index ss ms)
+pub knowing_called : (index : ℕ) (ss : List Spot) (ms : List WrittenScope) → Knowing ms (all_called index ss ms)
 unfolding all_called
 knowing_called index [] ms = knowing_here ms
 knowing_called index (s ∷ ss) ms =

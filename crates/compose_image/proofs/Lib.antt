@@ -14,3 +14,5 @@ mod GivenLaws
 mod NameLaws
 mod UsedLaws
 mod Rows
+mod SettledRows
+mod AdditionLaws

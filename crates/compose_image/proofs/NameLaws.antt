@@ -1,5 +1,5 @@
 -- No two left imports have one name.
-use Rattle.std.proofs.Common.{◌≡◌, ℕ, zero, suc, ◌≤◌, Bool, true, false, cond, List, [], ◌∷◌, ◌++◌, Option, Some, None, slice_get, refl, sym, ap, subst, arith}
+use Rattle.std.proofs.Common.{◌≡◌, ℕ, zero, suc, ◌≤◌, Bool, true, false, cond, List, [], ◌∷◌, ◌++◌, Option, Some, None, find, map, slice_get, refl, sym, ap, subst, arith}
 use Rattle.std.specs.Prelude.{bytes_eq, option_to_list}
 use Rattle.std.specs.List.{AllByRecursion, fold}
 use Rattle.compose_left.specs.Wiring.{Wiring}
@@ -7,6 +7,7 @@ use Rattle.compose_needs.specs.Lefts.{lefts_of}
 use Rattle.compose_order.specs.Agreed.{AreOrdered, all_needs, import_at_number, in_turn}
 use Rattle.compose_order.specs.Needs.{LeftTree}
 use Rattle.compose_check.specs.Open.{Asked, left_open, lefts, merged_with, with_asked}
+use Rattle.compose_image.specs.Settled.{settled}
 use Rattle.compose_image.specs.Writable.{HaveOwnNames, is_of}
 use Rattle.compose_image.proofs.ListLaws.{all_append, all_at, all_none, none_found}
 use Rattle.compose_image.proofs.OrderLaws.{once, times, times_before, times_first}
@@ -95,3 +96,19 @@ own_names w out o =
     subst HaveOwnNames (sym o.written)
     (own_in_turn (lefts w) o.order (own_merged [] (left_open w) tt)
     (once (all_needs (lefts_of w) (lefts w)) o.order o.numbered.in_order))
+
+-- ---- as they are written
+
+none_settled : (name : List ℕ) (ls : List LeftTree) → find (is_of name) ls ≡ None → find (is_of name) (map settled ls) ≡ None
+none_settled name [] e = refl
+none_settled name (l ∷ ls) e = by (bytes_eq name l.name) e (none_settled name ls)
+  where
+    by : (b : Bool) → cond b (Some l) (find (is_of name) ls) ≡ None
+        → (find (is_of name) ls ≡ None → find (is_of name) (map settled ls) ≡ None)
+        → cond b (Some (settled l)) (find (is_of name) (map settled ls)) ≡ None
+    by true e later = absurd cc
+    by false e later = later e
+
+pub own_settled : (ls : List LeftTree) → HaveOwnNames ls → HaveOwnNames (map settled ls)
+own_settled [] h = tt
+own_settled (l ∷ ls) h = (none_settled l.name ls h.0, own_settled ls h.1)

@@ -10,10 +10,11 @@ use Rattle.std.proofs.lemmas.Option.{get_or_from_slice_get}
 use Rattle.std.proofs.lemmas.Slice.Eq.{bytes_eq-Decides}
 use Rattle.comp_format.specs.declared.types.Sort.{Sort}
 use Rattle.comp_entity.specs.Entity.{EntityTree, IsType, IsFunc, IsInstance, IsComponent, IsModule, IsOwnModule, ShapeTree}
+use Rattle.comp_entity.specs.Names.{Change, changing, entity_by}
 use Rattle.comp_scope.specs.Spaces.{sort_of}
 use Rattle.compose_agree.specs.Order.{has}
 use Rattle.compose_left.specs.Merging.{agree, union}
-use Rattle.compose_left.specs.Origins.{placed}
+use Rattle.compose_left.specs.Origins.{of_resource, of_type, placed}
 use Rattle.compose_left.specs.Wiring.{Wiring, shape_at, wire_into}
 use Rattle.compose_order.specs.Agreed.{AreOrdered, all_needs, import_at_number, in_turn, numbers_needed}
 use Rattle.compose_needs.specs.Lefts.{lefts_of}
@@ -21,19 +22,23 @@ use Rattle.compose_order.specs.Needs.{LeftTree}
 use Rattle.compose_check.specs.Composition.{CompositionTree, shape_numbered, wiring}
 use Rattle.compose_check.specs.Checked.{IsAgreement}
 use Rattle.compose_check.specs.Open.{Asked, agrees, all_agree, asked_by_all, asked_from, is_named, left_open, lefts, merged_with, with_asked}
+use Rattle.compose_image.specs.Settled.{names_of, settled, written_as}
 use Rattle.compose_image.specs.Instances.{open_from, open_imports, shape_of}
 use Rattle.compose_image.proofs.ListLaws.{AnyOf, all_after, all_left, all_right, any_left, any_right, any_place}
 use Rattle.compose_image.proofs.OrderLaws.{is_in_order}
 
 -- ---- sorts
 
-placed_sort : (w : Wiring) (i : ℕ) (e : EntityTree) → sort_of (placed w i e) ≡ sort_of e
-placed_sort w i (IsType t) = refl
-placed_sort w i (IsFunc f) = refl
-placed_sort w i (IsInstance es) = refl
-placed_sort w i (IsComponent is es) = refl
-placed_sort w i (IsModule m) = refl
-placed_sort w i IsOwnModule = refl
+changed_sort : (c : Change) (e : EntityTree) → sort_of (entity_by c 0 e) ≡ sort_of e
+changed_sort c (IsType t) = refl
+changed_sort c (IsFunc f) = refl
+changed_sort c (IsInstance es) = refl
+changed_sort c (IsComponent is es) = refl
+changed_sort c (IsModule m) = refl
+changed_sort c IsOwnModule = refl
+
+pub settled_sort : (l : LeftTree) → sort_of (settled l).entity ≡ sort_of l.entity
+settled_sort l = changed_sort (changing (λ n. n) (written_as (names_of l))) l.entity
 
 union_sort : (e f : EntityTree) → sort_of (union e f) ≡ sort_of e
 union_sort (IsInstance es) (IsInstance fs) = refl
@@ -159,7 +164,7 @@ pub open_has_import : (c : CompositionTree) (out : List LeftTree) (i : ℕ) → 
     → i < length c.instances → AllByRecursion (HasImport out) (open_imports c i)
 open_has_import c out i a lt =
     open_of_asked c (HasImport out) i 0 (shape_of c i).imports
-    (λ e h. subst (λ kind. AnyOf (IsAsked e.0 kind) out) (placed_sort (wiring c) i e.1) h)
+    (λ e h. subst (λ kind. AnyOf (IsAsked e.0 kind) out) (changed_sort (changing (of_resource (wiring c) i) (of_type (wiring c) i)) e.1) h)
     (subst (λ n. AllByRecursion (HasImport out) (asked_from (wiring c) n 0 (shape_of c i).imports)) (by i)
     (asked_at (wiring c) (HasImport out) 0 (wiring c).shapes i
     (all_after (HasImport (lefts (wiring c))) (HasImport out) (left_open (wiring c)) (ordered (wiring c) out a.ordered)

@@ -6,16 +6,16 @@ use Rattle.std.specs.Prelude.{◌==◌}
 use Rattle.comp_format.specs.declared.types.Sort.{Sort}
 use Rattle.comp_format.specs.Items.{ItemTree, Import}
 use Rattle.comp_encoder.specs.Writing.{described_sort}
-use Rattle.comp_entity.specs.Entity.{EntityTree, Name, IsInstance, IsComponent}
+use Rattle.comp_entity.specs.Entity.{EntityTree, IsInstance, IsComponent}
 use Rattle.comp_entity.specs.Views.{entries_of}
 use Rattle.comp_scope.specs.Spaces.{sort_of}
 use Rattle.compose_left.specs.declared.spots.Spot.{Spot}
-use Rattle.compose_left.specs.declared.spots.Thing.{Thing}
 use Rattle.compose_order.specs.Needs.{LeftTree}
 use Rattle.compose_writing.specs.Scopes.{WrittenScope, outermost}
 use Rattle.compose_writing.specs.WriteEntities.{write_also, write_entity, write_import}
 use Rattle.compose_meaning.specs.Items.{items_for}
 use Rattle.compose_check.specs.Composition.{ComponentTree, CompositionTree}
+use Rattle.compose_image.specs.Settled.{name_in, settled}
 
 -- the components of which instances are made, by their numbers, in the order added
 abbrev pub is_used : CompositionTree → ℕ → Bool
@@ -41,13 +41,9 @@ component_import c = record {
 
 -- the imports that are written: components, where they are imported and not defined, and what is left open
 abbrev pub imports_of : CompositionTree → Bool → List LeftTree → List LeftTree
-imports_of c define lefts = (if define then [] else map component_import (used_components c)) ++ lefts
+imports_of c define lefts = (if define then [] else map component_import (used_components c)) ++ map settled lefts
 
 -- ---- one import
-
--- a named type as it is called in the outermost scope
-abbrev pub name_in : Thing → Name
-name_in t = record { out = t.out; number = t.number }
 
 -- the index of what is imported next
 abbrev pub next_place : EntityTree → WrittenScope → ℕ

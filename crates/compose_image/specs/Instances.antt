@@ -1,6 +1,6 @@
 -- What is written for a composition behind its imports: components, instances, and exports (Component Model,
 -- Explainer.md, "Instance Definitions" and "Alias Definitions").
-use Rattle.std.specs.Prelude.{ℕ, suc, Bool, ◌+◌, ◌<◌, ◌&&◌, List, [], ◌∷◌, ◌++◌, map, filter, find, length, Option, Some, None, is_none, slice_get, unwrap_or, bytes_eq, ◌==◌, if◌then◌else◌}
+use Rattle.std.specs.Prelude.{ℕ, suc, Bool, ◌+◌, ◌&&◌, List, [], ◌∷◌, ◌++◌, map, filter, find, length, Option, Some, None, is_none, slice_get, unwrap_or, bytes_eq, ◌==◌, if◌then◌else◌}
 use Rattle.std.specs.List.{flat_map, fold, list_any, range_with_len}
 use Rattle.std.specs.Option.{option_map_or}
 use Rattle.comp_format.specs.declared.types.Sort.TheVariants as sort
@@ -99,10 +99,6 @@ by_source ws = flat_map (λ source. filter (comes_from source) ws) (first_ones [
 
 abbrev pub wires_of : CompositionTree → ℕ → List Wire
 wires_of c i = by_source (filter (goes_to i) c.wires)
-
--- a wire goes into an import that is there
-abbrev pub IsIntoImport : CompositionTree → Wire → Type 0
-IsIntoImport c w = w.import < length (shape_of c w.target).imports
 
 -- the exports that wires take
 abbrev pub part_of_wire : Wire → List Part

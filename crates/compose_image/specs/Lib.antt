@@ -1,4 +1,6 @@
+pub mod Settled
 pub mod Imports
 pub mod Instances
 pub mod CompositionImage
 pub mod Writable
+pub mod Additions

@@ -1,13 +1,15 @@
 //! Laws of what is written for compositions: each is a function that does nothing, and is proved of all compositions.
 
-ghost use Rattle.std.specs.Prelude.{◌≡◌, ◌<◌, Bool, Contains, IfSome, List, None, Option, Some, length, map, ℕ};
-ghost use Rattle.std.specs.List.{All, AllByRecursion, Any, slice_get};
+ghost use Rattle.std.specs.Prelude.{◌≡◌, ◌<◌, ◌∷◌, [], Bool, Contains, IfSome, List, None, Option, Some, length, map, true, ℕ};
+ghost use Rattle.std.specs.List.{All, Any, slice_get};
 ghost use Rattle.comp_entity.specs.Entity.{EntityTree};
-ghost use Rattle.comp_format.specs.Items.{ItemTree};
+ghost use Rattle.comp_format.specs.Items.{Import, ItemTree};
+ghost use Rattle.comp_format.specs.declared.types.TypeRef.{TypeRef};
 ghost use Rattle.comp_scope.specs.Image.{image};
 ghost use Rattle.comp_scope.specs.Spaces.{sort_of};
 ghost use Rattle.compose_check.specs.Checked.{IsInstanceOrder, IsSound};
 ghost use Rattle.compose_check.specs.Composition.{ComponentTree, CompositionTree, IsComposition};
+ghost use Rattle.compose_image.specs.Additions.{Gains, GainsNoImport};
 ghost use Rattle.compose_image.specs.CompositionImage.{
   component_image,
   composition_image,
@@ -16,15 +18,18 @@ ghost use Rattle.compose_image.specs.CompositionImage.{
   is_component,
   open_argument,
 };
-ghost use Rattle.compose_image.specs.Imports.{import_items, imports_in, imports_of, name_and_sort};
-ghost use Rattle.compose_image.specs.Instances.{IsIntoImport, open_imports, rank, shape_of, written};
+ghost use Rattle.compose_image.specs.Imports.{all_called, import_items, imports_in, imports_of, name_and_sort};
+ghost use Rattle.compose_image.specs.Instances.{open_imports, rank, shape_of, written};
 ghost use Rattle.compose_image.specs.Writable.{HaveOwnNames};
 ghost use Rattle.compose_left.specs.Wiring.{wire_into};
+ghost use Rattle.compose_left.specs.declared.spots.Spot.{Spot};
 ghost use Rattle.compose_left.specs.declared.wiring.Wire.{Wire};
 ghost use Rattle.compose_order.specs.Needs.{LeftTree};
+ghost use Rattle.compose_writing.specs.Scopes.{WrittenScope};
+ghost use Rattle.compose_writing.specs.WriteEntities.{write_entity, write_import};
 
 /// What an instance leaves open is imported under its name, as something of its sort; and no two of these imports have
-/// one name.
+/// one name, nor do any imports where components are defined.
 pub fn what_is_left_open_is_imported()
     ensures there { (c : CompositionTree) (order : List ℕ) (lefts : List LeftTree) (instance : ℕ)
         → IsSound c order lefts
@@ -35,6 +40,9 @@ pub fn what_is_left_open_is_imported()
     ensures once { (c : CompositionTree) (order : List ℕ) (lefts : List LeftTree)
         → IsSound c order lefts
         → HaveOwnNames lefts }
+    ensures defined { (c : CompositionTree) (order : List ℕ) (lefts : List LeftTree)
+        → IsSound c order lefts
+        → HaveOwnNames (imports_of c true lefts) }
 {}
 
 /// What is written imports what is to be imported, by name and sort, in order, and nothing else.
@@ -67,7 +75,7 @@ pub fn each_instance_stands_in_the_image()
 {}
 
 /// In the image an instance is given something for each of its imports: what the wire into it gives, or, where no wire
-/// goes into it, the import of its name. It is given nothing else, where each wire goes into an import that is there.
+/// goes into it, the import of its name. It is given nothing else.
 pub fn instances_are_given_each_import()
     ensures wired { (c : CompositionTree) (order : List ℕ) (instance import : ℕ) (wire : Wire)
         → wire_into c.wires instance import ≡ Some wire
@@ -78,7 +86,6 @@ pub fn instances_are_given_each_import()
         → Contains (instance_image c order instance).1 (open_argument asked) }
     ensures as_many { (c : CompositionTree) (order : List ℕ) (instance : ℕ)
         → IsComposition c
-        → AllByRecursion (IsIntoImport c) c.wires
         → length (instance_image c order instance).1 ≡ length (shape_of c instance).imports }
 {}
 
@@ -96,4 +103,16 @@ pub fn what_is_written_has_the_image()
         → import_items (imports_of c define lefts) ≡ Some imports
         → image (is_component c define) shown (written c define export order imports).items
         ≡ Some (composition_image c define export order shown) }
+{}
+
+/// What an import needs is written in front of it, and imports nothing; the import is one item behind that; and what is
+/// called in it is no item.
+pub fn an_import_is_one_item()
+    ensures needs { (e : EntityTree) (m : WrittenScope) (next : List WrittenScope) (ty : TypeRef)
+        → write_entity e (m ∷ []) ≡ Some (next, ty)
+        → GainsNoImport m next }
+    ensures item { (name : List ℕ) (e : EntityTree) (ty : TypeRef) (m : WrittenScope)
+        → Gains m (write_import name e ty (m ∷ [])) (Import (record { name = name; ty = ty }) ∷ []) }
+    ensures calls { (index : ℕ) (calls : List Spot) (m : WrittenScope)
+        → Gains m (all_called index calls (m ∷ [])) [] }
 {}

@@ -8,4 +8,4 @@ pub returns-clause-left_open : goal.returns-clause-left_open
 returns-clause-left_open a = open_given
 
 pub returns-clause-as_many : goal.returns-clause-as_many
-returns-clause-as_many a = λ c order instance is there. as_many_given c order instance is.apart there
+returns-clause-as_many a = λ c order instance is. as_many_given c order instance is.apart is.ends
