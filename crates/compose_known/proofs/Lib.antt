@@ -11,8 +11,12 @@ mod AgreeLaws
 mod FormLaws
 mod SoundLaws
 mod ComponentLaws
-mod NumberLaws
 mod CompositionLaws
 mod TreeLaws
 pub mod Rows
 mod SettledRows
+mod ChangedLaws
+mod StandingLaws
+mod CalledLaws
+mod SettledLaws
+mod NamedRows

@@ -1,18 +1,30 @@
 -- What trees mention, seen from further out, and leaf by leaf.
-use Rattle.std.proofs.Common.{◌≡◌, ◌⊎◌, inl, inr, ◌||◌, ◌-◌, ℕ, suc, Bool, true, false, List, [], ◌∷◌, ◌++◌, map, Option, Some, None, refl, sym, ap, ◌∙◌, arith}
+use Rattle.std.proofs.Common.{◌≡◌, ◌⊎◌, inl, inr, ◌||◌, ◌==◌, ◌-◌, ℕ, suc, Bool, true, false, List, [], ◌∷◌, ◌++◌, map, Option, Some, None, refl, sym, ap, ◌∙◌, arith}
 use Rattle.std.specs.Prelude.{flat_map, filter, nat_le, option_to_list, if◌then◌else◌}
 use Rattle.std.specs.List.{list_all}
-use Rattle.std.proofs.lemmas.Bool.{and_parts, le-leb, or_left, or_right}
+use Rattle.std.proofs.lemmas.Bool.{and_from, and_parts, eq-eqb, eqb-true, le-leb, or_left, or_right}
 use Rattle.std.proofs.lemmas.Grind.{flat_map-append}
 use Rattle.std.proofs.lemmas.List.{map-append, append-nil}
 use Rattle.std.proofs.lemmas.List.Folds.{list_any-append}
 use Rattle.comp_entity.specs.Entity.{Name, ValueTree, Primitive, TupleOf, RecordOf, VariantOf, ListOf, FlagsOf, EnumOf, OptionOf, ResultOf, Own, Borrow, ValueTrees, none, more, Cases, no_case, labelled, Payload, absent, present, FuncTree, TypeShapeTree, Value, Resource, Func, Instance, Component, EntityTree, IsType, IsFunc, IsInstance, IsComponent, IsModule, IsOwnModule, Entries, no_entry, entry}
+use Rattle.comp_entity.specs.Fits.{same_name}
 use Rattle.comp_entity.specs.Names.{Mention, OfResource, OfPlace, at_place, in_value, in_values, in_cases, in_payload, in_func, in_type, in_entity, in_entries}
 use Rattle.comp_entity.specs.Places.{Path, leaves_of, leaves_in}
 use Rattle.compose_left.specs.declared.spots.Thing.{Thing}
 use Rattle.compose_left.specs.Origins.{same_thing}
 use Rattle.compose_needs.specs.Mentioned.{has, around, outward, outwards}
 use Rattle.compose_needs.specs.ThingLaws.{same_things, same_itself}
+
+-- ---- names
+
+pub name_is : (a b : Name) → same_name a b ≡ true → a ≡ b
+name_is a b h =
+    let h = and_parts (a.out == b.out) (a.number == b.number) h in
+    λ i. record { out = eqb-true a.out b.out h.0 i; number = eqb-true a.number b.number h.1 i }
+
+pub name_itself : (n : Name) → same_name n n ≡ true
+name_itself n =
+    and_from (n.out == n.out) (n.number == n.number) (eq-eqb n.out n.out refl) (eq-eqb n.number n.number refl)
 
 -- ---- lists of things
 
@@ -42,17 +54,20 @@ has_itself x xs = or_left (same_thing x x) (has xs x) (same_itself x)
 -- what holds of all holds of each that there is
 pub all_have : (p : Thing → Bool) (xs : List Thing) (t : Thing) → list_all p xs ≡ true → has xs t ≡ true → p t ≡ true
 all_have p [] t a h = absurd cc
-all_have p (x ∷ xs) t a h = go (all_have p xs t (and_parts (p x) (list_all p xs) a).1) (either (same_thing x t) (has xs t) h)
+all_have p (x ∷ xs) t a h =
+    go (all_have p xs t (and_parts (p x) (list_all p xs) a).1) (either (same_thing x t) (has xs t) h)
   where
     go : (has xs t ≡ true → p t ≡ true) → (same_thing x t ≡ true) ⊎ (has xs t ≡ true) → p t ≡ true
     go later (inl e) = sym (ap p (same_things x t e)) ∙ (and_parts (p x) (list_all p xs) a).0
     go later (inr e) = later e
 
-pub filter_has : (p : Thing → Bool) (xs : List Thing) (t : Thing) → p t ≡ true → has xs t ≡ true → has (filter p xs) t ≡ true
+pub filter_has : (p : Thing → Bool) (xs : List Thing) (t : Thing) → p t ≡ true → has xs t ≡ true
+    → has (filter p xs) t ≡ true
 filter_has p [] t q h = absurd cc
 filter_has p (x ∷ xs) t q h = go (filter_has p xs t q) (either (same_thing x t) (has xs t) h)
   where
-    first : (b : Bool) → b ≡ true → has (x ∷ filter p xs) t ≡ true → has (if b then x ∷ filter p xs else filter p xs) t ≡ true
+    first : (b : Bool) → b ≡ true → has (x ∷ filter p xs) t ≡ true
+        → has (if b then x ∷ filter p xs else filter p xs) t ≡ true
     first true e h = h
     first false e h = absurd cc
 
@@ -60,7 +75,8 @@ filter_has p (x ∷ xs) t q h = go (filter_has p xs t q) (either (same_thing x t
     later true h = or_right (same_thing x t) (has (filter p xs) t) h
     later false h = h
 
-    go : (has xs t ≡ true → has (filter p xs) t ≡ true) → (same_thing x t ≡ true) ⊎ (has xs t ≡ true) → has (filter p (x ∷ xs)) t ≡ true
+    go : (has xs t ≡ true → has (filter p xs) t ≡ true) → (same_thing x t ≡ true) ⊎ (has xs t ≡ true)
+        → has (filter p (x ∷ xs)) t ≡ true
     go rest (inl e) = first (p x) (ap p (same_things x t e) ∙ q) (or_left (same_thing x t) (has (filter p xs) t) e)
     go rest (inr e) = later (p x) (rest e)
 
@@ -83,39 +99,55 @@ mutual
   value_deep : (d : ℕ) (t : ValueTree) → in_value (suc d) t ≡ deepened (in_value d t)
   value_deep d (Primitive p) = refl
   value_deep d (TupleOf ts) = values_deep d ts
-  value_deep d (RecordOf p cs) = both_deep (at_place (suc d) p) (at_place d p) (in_cases (suc d) cs) (in_cases d cs) (place_deep d p) (cases_deep d cs)
-  value_deep d (VariantOf p cs) = both_deep (at_place (suc d) p) (at_place d p) (in_cases (suc d) cs) (in_cases d cs) (place_deep d p) (cases_deep d cs)
+  value_deep d (RecordOf p cs) =
+      both_deep (at_place (suc d) p) (at_place d p) (in_cases (suc d) cs) (in_cases d cs) (place_deep d p)
+      (cases_deep d cs)
+  value_deep d (VariantOf p cs) =
+      both_deep (at_place (suc d) p) (at_place d p) (in_cases (suc d) cs) (in_cases d cs) (place_deep d p)
+      (cases_deep d cs)
   value_deep d (ListOf t) = value_deep d t
   value_deep d (FlagsOf p ls) = place_deep d p
   value_deep d (EnumOf p ls) = place_deep d p
   value_deep d (OptionOf t) = value_deep d t
-  value_deep d (ResultOf ok err) = both_deep (in_payload (suc d) ok) (in_payload d ok) (in_payload (suc d) err) (in_payload d err) (payload_deep d ok) (payload_deep d err)
+  value_deep d (ResultOf ok err) =
+      both_deep (in_payload (suc d) ok) (in_payload d ok) (in_payload (suc d) err) (in_payload d err)
+      (payload_deep d ok) (payload_deep d err)
   value_deep d (Own r) = refl
   value_deep d (Borrow r) = refl
 
   values_deep : (d : ℕ) (ts : ValueTrees) → in_values (suc d) ts ≡ deepened (in_values d ts)
   values_deep d none = refl
-  values_deep d (more t ts) = both_deep (in_value (suc d) t) (in_value d t) (in_values (suc d) ts) (in_values d ts) (value_deep d t) (values_deep d ts)
+  values_deep d (more t ts) =
+      both_deep (in_value (suc d) t) (in_value d t) (in_values (suc d) ts) (in_values d ts) (value_deep d t)
+      (values_deep d ts)
 
   cases_deep : (d : ℕ) (cs : Cases) → in_cases (suc d) cs ≡ deepened (in_cases d cs)
   cases_deep d no_case = refl
-  cases_deep d (labelled label p cs) = both_deep (in_payload (suc d) p) (in_payload d p) (in_cases (suc d) cs) (in_cases d cs) (payload_deep d p) (cases_deep d cs)
+  cases_deep d (labelled label p cs) =
+      both_deep (in_payload (suc d) p) (in_payload d p) (in_cases (suc d) cs) (in_cases d cs) (payload_deep d p)
+      (cases_deep d cs)
 
   payload_deep : (d : ℕ) (p : Payload) → in_payload (suc d) p ≡ deepened (in_payload d p)
   payload_deep d absent = refl
   payload_deep d (present t) = value_deep d t
 
-params_deep : (d : ℕ) (ps : List (List ℕ × ValueTree)) → flat_map (λ p. in_value (suc d) p.1) ps ≡ deepened (flat_map (λ p. in_value d p.1) ps)
+params_deep : (d : ℕ) (ps : List (List ℕ × ValueTree))
+    → flat_map (λ p. in_value (suc d) p.1) ps ≡ deepened (flat_map (λ p. in_value d p.1) ps)
 params_deep d [] = refl
-params_deep d (p ∷ ps) = both_deep (in_value (suc d) p.1) (in_value d p.1) (flat_map (λ p. in_value (suc d) p.1) ps) (flat_map (λ p. in_value d p.1) ps) (value_deep d p.1) (params_deep d ps)
+params_deep d (p ∷ ps) =
+    both_deep (in_value (suc d) p.1) (in_value d p.1) (flat_map (λ p. in_value (suc d) p.1) ps)
+    (flat_map (λ p. in_value d p.1) ps) (value_deep d p.1) (params_deep d ps)
 
 result_deep : (d : ℕ) (r : List ValueTree) → flat_map (in_value (suc d)) r ≡ deepened (flat_map (in_value d) r)
 result_deep d [] = refl
-result_deep d (t ∷ ts) = both_deep (in_value (suc d) t) (in_value d t) (flat_map (in_value (suc d)) ts) (flat_map (in_value d) ts) (value_deep d t) (result_deep d ts)
+result_deep d (t ∷ ts) =
+    both_deep (in_value (suc d) t) (in_value d t) (flat_map (in_value (suc d)) ts) (flat_map (in_value d) ts)
+    (value_deep d t) (result_deep d ts)
 
 func_deep : (d : ℕ) (f : FuncTree) → in_func (suc d) f ≡ deepened (in_func d f)
 func_deep d f =
-    both_deep (flat_map (λ p. in_value (suc d) p.1) f.params) (flat_map (λ p. in_value d p.1) f.params) (flat_map (in_value (suc d)) (option_to_list f.result)) (flat_map (in_value d) (option_to_list f.result))
+    both_deep (flat_map (λ p. in_value (suc d) p.1) f.params) (flat_map (λ p. in_value d p.1) f.params)
+    (flat_map (in_value (suc d)) (option_to_list f.result)) (flat_map (in_value d) (option_to_list f.result))
     (params_deep d f.params) (result_deep d (option_to_list f.result))
 
 mutual
@@ -125,20 +157,24 @@ mutual
   type_deep d (Func f) = func_deep d f
   type_deep d (Instance es) = entries_deep (suc d) es
   type_deep d (Component is es) =
-      both_deep (in_entries (suc (suc (suc d))) is) (in_entries (suc (suc d)) is) (in_entries (suc (suc (suc d))) es) (in_entries (suc (suc d)) es) (entries_deep (suc (suc d)) is) (entries_deep (suc (suc d)) es)
+      both_deep (in_entries (suc (suc (suc d))) is) (in_entries (suc (suc d)) is) (in_entries (suc (suc (suc d))) es)
+      (in_entries (suc (suc d)) es) (entries_deep (suc (suc d)) is) (entries_deep (suc (suc d)) es)
 
   entity_deep : (d : ℕ) (e : EntityTree) → in_entity (suc d) e ≡ deepened (in_entity d e)
   entity_deep d (IsType t) = type_deep d t
   entity_deep d (IsFunc f) = func_deep d f
   entity_deep d (IsInstance es) = entries_deep d es
   entity_deep d (IsComponent is es) =
-      both_deep (in_entries (suc (suc (suc d))) is) (in_entries (suc (suc d)) is) (in_entries (suc (suc (suc d))) es) (in_entries (suc (suc d)) es) (entries_deep (suc (suc d)) is) (entries_deep (suc (suc d)) es)
+      both_deep (in_entries (suc (suc (suc d))) is) (in_entries (suc (suc d)) is) (in_entries (suc (suc (suc d))) es)
+      (in_entries (suc (suc d)) es) (entries_deep (suc (suc d)) is) (entries_deep (suc (suc d)) es)
   entity_deep d (IsModule m) = refl
   entity_deep d IsOwnModule = refl
 
   pub entries_deep : (d : ℕ) (es : Entries) → in_entries (suc d) es ≡ deepened (in_entries d es)
   entries_deep d no_entry = refl
-  entries_deep d (entry name e mark es) = both_deep (in_entity (suc d) e) (in_entity d e) (in_entries (suc d) es) (in_entries d es) (entity_deep d e) (entries_deep d es)
+  entries_deep d (entry name e mark es) =
+      both_deep (in_entity (suc d) e) (in_entity d e) (in_entries (suc d) es) (in_entries d es) (entity_deep d e)
+      (entries_deep d es)
 
 -- ---- leaf by leaf
 
@@ -175,20 +211,24 @@ leaves_mentioned ls = outwards (in_leaves 0 ls)
 abbrev pub further_out : Thing → Thing
 further_out t = record t { out = suc t.out }
 
-abbrev called : Bool → Name → Thing
+abbrev pub called : Bool → Name → Thing
 called is_type n = record { is_type = is_type; out = n.out; number = n.number }
 
-around_out : (is_type : Bool) (d : ℕ) (n : Name) (t : Thing) → has (around (called is_type) d n) (further_out t) ≡ true → has (around (called is_type) (suc d) n) t ≡ true
+around_out : (is_type : Bool) (d : ℕ) (n : Name) (t : Thing) → has (around (called is_type) d n) (further_out t) ≡ true
+    → has (around (called is_type) (suc d) n) t ≡ true
 around_out is_type d n t h = go (nat_le d n.out) refl h
   where
-    go : (b : Bool) → nat_le d n.out ≡ b → has (if b then called is_type (record { out = n.out - d; number = n.number }) ∷ [] else []) (further_out t) ≡ true → has (around (called is_type) (suc d) n) t ≡ true
+    go : (b : Bool) → nat_le d n.out ≡ b
+        → has (if b then called is_type (record { out = n.out - d; number = n.number }) ∷ [] else []) (further_out t)
+        ≡ true → has (around (called is_type) (suc d) n) t ≡ true
     go false e h = absurd cc
     go true e h =
         let same = has_one (called is_type (record { out = n.out - d; number = n.number })) (further_out t) h in
         let out : n.out - d ≡ suc t.out = ap (λ (x : Thing). x.out) same in
         let past : nat_le (suc d) n.out ≡ true = le-leb (suc d) n.out (omega (arith, out)) in
         let less : n.out - suc d ≡ t.out = omega (arith, out) in
-        let is : called is_type (record { out = n.out - suc d; number = n.number }) ≡ t = (λ i. record { is_type = (same i).is_type; out = less i; number = (same i).number }) in
+        let is : called is_type (record { out = n.out - suc d; number = n.number })
+        ≡ t = (λ i. record { is_type = (same i).is_type; out = less i; number = (same i).number }) in
         ap (λ b. has (if b then called is_type (record { out = n.out - suc d; number = n.number }) ∷ [] else []) t) past
         ∙ ap (λ x. has (x ∷ []) t) is ∙ has_itself t []
 
@@ -196,10 +236,13 @@ outward_out : (x : ℕ × Mention) (t : Thing) → has (outward x) (further_out 
 outward_out (d, OfResource n) t h = around_out false d n t h
 outward_out (d, OfPlace n) t h = around_out true d n t h
 
-pub outwards_out : (xs : List (ℕ × Mention)) (t : Thing) → has (outwards xs) (further_out t) ≡ true → has (outwards (deepened xs)) t ≡ true
+pub outwards_out : (xs : List (ℕ × Mention)) (t : Thing) → has (outwards xs) (further_out t) ≡ true
+    → has (outwards (deepened xs)) t ≡ true
 outwards_out [] t h = absurd cc
 outwards_out (x ∷ xs) t h = go (outwards_out xs t) (has_either (outward x) (outwards xs) (further_out t) h)
   where
-    go : (has (outwards xs) (further_out t) ≡ true → has (outwards (deepened xs)) t ≡ true) → (has (outward x) (further_out t) ≡ true) ⊎ (has (outwards xs) (further_out t) ≡ true) → has (outwards (deepened (x ∷ xs))) t ≡ true
+    go : (has (outwards xs) (further_out t) ≡ true → has (outwards (deepened xs)) t ≡ true)
+        → (has (outward x) (further_out t) ≡ true) ⊎ (has (outwards xs) (further_out t) ≡ true)
+        → has (outwards (deepened (x ∷ xs))) t ≡ true
     go rest (inl e) = has_first (outward (deepen x)) (outwards (deepened xs)) t (outward_out x t e)
     go rest (inr e) = has_then (outward (deepen x)) (outwards (deepened xs)) t (rest e)

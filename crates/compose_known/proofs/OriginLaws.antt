@@ -38,18 +38,21 @@ place_is : (os : List Origin) (o p : Origin) → slice_get os (place_in os o) �
 place_is [] o p h = absurd cc
 place_is (q ∷ os) o p h = one (same_origin q o) refl h (place_is os o p)
   where
-    one : (b : Bool) → same_origin q o ≡ b → slice_get (q ∷ os) (if b then 0 else suc (place_in os o)) ≡ Some p → (slice_get os (place_in os o) ≡ Some p → same_origin p o ≡ true) → same_origin p o ≡ true
+    one : (b : Bool) → same_origin q o ≡ b → slice_get (q ∷ os) (if b then 0 else suc (place_in os o)) ≡ Some p
+        → (slice_get os (place_in os o) ≡ Some p → same_origin p o ≡ true) → same_origin p o ≡ true
     one true e h rest = ap (λ x. same_origin x o) (sym (same_Some q p h)) ∙ e
     one false e h rest = rest h
 
 same_of : (p o : Origin) (m : List ℕ) → same_origin p o ≡ true → import_of p ≡ Some m → IsOf m o
-same_of (origins.Left n x) (origins.Left k y) m h e = sym ((bytes_eq-Decides n k).0 (and_parts (bytes_eq n k) (same_path x y) h).0) ∙ same_Some n m e
+same_of (origins.Left n x) (origins.Left k y) m h e =
+    sym ((bytes_eq-Decides n k).0 (and_parts (bytes_eq n k) (same_path x y) h).0) ∙ same_Some n m e
 same_of (origins.Left n x) (origins.Made i k) m h e = absurd cc
 same_of (origins.Left n x) (origins.Given i y) m h e = absurd cc
 same_of (origins.Made i n) o m h e = absurd cc
 same_of (origins.Given i n) o m h e = absurd cc
 
-found_of : (p : Option Origin) (o : Origin) (m : List ℕ) → ((q : Origin) → p ≡ Some q → same_origin q o ≡ true) → option_and_then import_of p ≡ Some m → IsOf m o
+found_of : (p : Option Origin) (o : Origin) (m : List ℕ) → ((q : Origin) → p ≡ Some q → same_origin q o ≡ true)
+    → option_and_then import_of p ≡ Some m → IsOf m o
 found_of None o m same h = absurd cc
 found_of (Some q) o m same h = same_of q o m (same q refl) h
 
@@ -58,8 +61,10 @@ module _ (k : ℕ) (os : List Origin) (m : List ℕ) where
   placed_of o h =
       let last : k < suc k = omega arith in
       found_of (slice_get os (place_in os o)) o m (place_is os o)
-      (sym (ap (λ t. if t == k then option_and_then import_of (slice_get os ((place_in os o * suc k + k) / suc k)) else None) (mod-mul-add (place_in os o) (suc k) k last)
-      ∙ ap (λ b. if b then option_and_then import_of (slice_get os ((place_in os o * suc k + k) / suc k)) else None) (eq-eqb k k refl)
+      (sym (ap (λ t. if t == k then option_and_then import_of
+      (slice_get os ((place_in os o * suc k + k) / suc k)) else None) (mod-mul-add (place_in os o) (suc k) k last)
+      ∙ ap (λ b. if b then option_and_then import_of (slice_get os ((place_in os o * suc k + k) / suc k)) else None)
+      (eq-eqb k k refl)
       ∙ ap (λ p. option_and_then import_of (slice_get os p)) (div-mul-add (place_in os o) (suc k) k last)) ∙ h)
 
   told_of : (o : Origin) → MakerIsThere k o → import_at k os (number_in k os o) ≡ Some m → IsOf m o
@@ -68,8 +73,10 @@ module _ (k : ℕ) (os : List Origin) (m : List ℕ) where
   told_of (origins.Made i n) there h =
       let less : i < suc k = omega (arith, there) in
       let none : import_at k os (n * suc k + i) ≡ None =
-      ap (λ t. if t == k then option_and_then import_of (slice_get os ((n * suc k + i) / suc k)) else None) (mod-mul-add n (suc k) i less)
-      ∙ ap (λ b. if b then option_and_then import_of (slice_get os ((n * suc k + i) / suc k)) else None) (ne_eqb i k (λ e. absurd (omega (arith, there, e)))) in
+      ap (λ t. if t == k then option_and_then import_of (slice_get os ((n * suc k + i) / suc k)) else None)
+      (mod-mul-add n (suc k) i less)
+      ∙ ap (λ b. if b then option_and_then import_of (slice_get os ((n * suc k + i) / suc k)) else None)
+      (ne_eqb i k (λ e. absurd (omega (arith, there, e)))) in
       absurd (no (sym none ∙ h))
     where
       no : None ≡ Some m → ⊥
@@ -81,7 +88,8 @@ find_is : {X : Type 0} (p : X → Bool) (xs : List X) (x : X) → find p xs ≡ 
 find_is p [] x h = absurd cc
 find_is p (y ∷ xs) x h = one (p y) refl h (find_is p xs x)
   where
-    one : (b : Bool) → p y ≡ b → (if b then Some y else find p xs) ≡ Some x → (find p xs ≡ Some x → p x ≡ true) → p x ≡ true
+    one : (b : Bool) → p y ≡ b → (if b then Some y else find p xs) ≡ Some x → (find p xs ≡ Some x → p x ≡ true)
+        → p x ≡ true
     one true e h rest = ap p (sym (same_Some y x h)) ∙ e
     one false e h rest = rest h
 
@@ -92,20 +100,25 @@ same_truths false true e = absurd cc
 same_truths false false e = refl
 
 -- where the instance of a shape is not, nothing is exported
-nothing_given : (is_type : Bool) (path : Path) (t : Thing) (w : Wiring) (i : ℕ) → given_at (shape_at w.shapes i) is_type path ≡ Some t → i < length w.shapes
+nothing_given : (is_type : Bool) (path : Path) (t : Thing) (w : Wiring) (i : ℕ)
+    → given_at (shape_at w.shapes i) is_type path ≡ Some t → i < length w.shapes
 nothing_given is_type path t w i h = one (slice_get w.shapes i) refl h
   where
-    one : (s : Option ShapeTree) → slice_get w.shapes i ≡ s → given_at (unwrap_or s no_shape) is_type path ≡ Some t → i < length w.shapes
+    one : (s : Option ShapeTree) → slice_get w.shapes i ≡ s → given_at (unwrap_or s no_shape) is_type path ≡ Some t
+        → i < length w.shapes
     one None e h = absurd cc
     one (Some s) e h = slice_get_within w.shapes i s e
 
-given_type : (is_type : Bool) (path : Path) (xs : List Spot) (t : Thing) → option_map (λ (x : Spot). x.what) (find (is_exported_at is_type path) xs) ≡ Some t → t.is_type ≡ is_type
+given_type : (is_type : Bool) (path : Path) (xs : List Spot) (t : Thing)
+    → option_map (λ (x : Spot). x.what) (find (is_exported_at is_type path) xs) ≡ Some t → t.is_type ≡ is_type
 given_type is_type path xs t h = one (find (is_exported_at is_type path) xs) refl h
   where
-    one : (o : Option Spot) → find (is_exported_at is_type path) xs ≡ o → option_map (λ (x : Spot). x.what) o ≡ Some t → t.is_type ≡ is_type
+    one : (o : Option Spot) → find (is_exported_at is_type path) xs ≡ o → option_map (λ (x : Spot). x.what) o ≡ Some t
+        → t.is_type ≡ is_type
     one None e h = absurd cc
     one (Some s) e h =
-        let k = and_parts (same_truth s.what.is_type is_type) (same_path (s.name ∷ s.path) path) (find_is (is_exported_at is_type path) xs s e) in
+        let k = and_parts (same_truth s.what.is_type is_type) (same_path (s.name ∷ s.path) path)
+        (find_is (is_exported_at is_type path) xs s e) in
         ap (λ (x : Thing). x.is_type) (sym (same_Some s.what t h)) ∙ same_truths s.what.is_type is_type k.0
 
 -- the end of the wires from a thing, where it is in an import of this name that is left open
@@ -124,20 +137,38 @@ module _ (w : Wiring) where
   spot_is : (h : Held) (s : Spot) → brought_at (shape_at w.shapes h.instance) h.thing ≡ Some s → s.what ≡ h.thing
   spot_is h s e = one (h.thing.out == 1) e
     where
-      one : (b : Bool) → (if b then find (names h.thing) (spots (shape_at w.shapes h.instance).imports) else None) ≡ Some s → s.what ≡ h.thing
-      one true e = same_things s.what h.thing (find_is (names h.thing) (spots (shape_at w.shapes h.instance).imports) s e)
+      one : (b : Bool) → (if b then find (names h.thing) (spots (shape_at w.shapes h.instance).imports) else None)
+          ≡ Some s → s.what ≡ h.thing
+      one true e = same_things s.what h.thing (find_is (names h.thing)
+          (spots (shape_at w.shapes h.instance).imports) s e)
       one false e = absurd cc
 
-  ends : (k : ℕ) (h : Held) (m : List ℕ) → h.instance < length w.shapes → IsOf m (origin_within k w h) → Ends w h.thing.is_type m (origin_within k w h)
+  ends : (k : ℕ) (h : Held) (m : List ℕ) → h.instance < length w.shapes → IsOf m (origin_within k w h)
+      → Ends w h.thing.is_type m (origin_within k w h)
   unfolding origin_within
   ends zero h m lt of = absurd of
   ends (suc k) h m lt of = brought (brought_at (shape_at w.shapes h.instance) h.thing) refl of (ends k)
     where
-      wired : (s : Spot) → brought_at (shape_at w.shapes h.instance) h.thing ≡ Some s → (wire : Option Wire) → wire_into w.wires h.instance s.number ≡ wire
+      wired : (s : Spot) → brought_at (shape_at w.shapes h.instance) h.thing ≡ Some s → (wire : Option Wire)
+          → wire_into w.wires h.instance s.number ≡ wire
           → IsOf m (follow (origin_within k w) (along w s wire))
-          → ((h : Held) (m : List ℕ) → h.instance < length w.shapes → IsOf m (origin_within k w h) → Ends w h.thing.is_type m (origin_within k w h))
+          → ((h : Held) (m : List ℕ) → h.instance < length w.shapes → IsOf m (origin_within k w h)
+          → Ends w h.thing.is_type m (origin_within k w h))
           → Ends w h.thing.is_type m (follow (origin_within k w) (along w s wire))
-      wired s is None e of rest = record { instance = h.instance; thing = h.thing; there = lt; spot = s; brought = is; unwired = e; named = of; kind = refl; origin_is = refl }
+      wired s is None e of rest =
+          record {
+            instance =
+                h.instance;
+            thing =
+                h.thing;
+            there = lt;
+            spot = s;
+            brought = is;
+            unwired = e;
+            named = of;
+            kind = refl;
+            origin_is = refl;
+          }
       wired s is (Some wire) e of rest = given (given_at source s.what.is_type path) refl of
         where
           source : ShapeTree
@@ -146,15 +177,36 @@ module _ (w : Wiring) where
           path : Path
           path = given_path (shape_at w.shapes wire.source) wire.export s.path
 
-          given : (t : Option Thing) → given_at source s.what.is_type path ≡ t → IsOf m (follow (origin_within k w) (of_given wire.source path t)) → Ends w h.thing.is_type m (follow (origin_within k w) (of_given wire.source path t))
+          given : (t : Option Thing) → given_at source s.what.is_type path ≡ t
+              → IsOf m (follow (origin_within k w) (of_given wire.source path t))
+              → Ends w h.thing.is_type m (follow (origin_within k w) (of_given wire.source path t))
           given None e of = absurd of
           given (Some t) e of =
-              let kind : t.is_type ≡ h.thing.is_type = given_type s.what.is_type path (spots source.exports) t e ∙ ap (λ (x : Thing). x.is_type) (spot_is h s is) in
-              let r = rest (record { instance = wire.source; thing = t }) m (nothing_given s.what.is_type path t w wire.source e) of in
-              record { instance = r.instance; thing = r.thing; there = r.there; spot = r.spot; brought = r.brought; unwired = r.unwired; named = r.named; kind = r.kind ∙ kind; origin_is = r.origin_is }
+              let kind : t.is_type ≡ h.thing.is_type = given_type s.what.is_type path (spots source.exports) t e
+              ∙ ap (λ (x : Thing). x.is_type) (spot_is h s is) in
+              let r = rest (record { instance = wire.source; thing = t }) m
+              (nothing_given s.what.is_type path t w wire.source e) of in
+              record {
+                instance =
+                    r.instance;
+                thing =
+                    r.thing;
+                there =
+                    r.there;
+                spot =
+                    r.spot;
+                brought =
+                    r.brought;
+                unwired = r.unwired;
+                named = r.named;
+                kind = r.kind ∙ kind;
+                origin_is = r.origin_is;
+              }
 
-      brought : (o : Option Spot) → brought_at (shape_at w.shapes h.instance) h.thing ≡ o → IsOf m (follow (origin_within k w) (of_brought w h o))
-          → ((h : Held) (m : List ℕ) → h.instance < length w.shapes → IsOf m (origin_within k w h) → Ends w h.thing.is_type m (origin_within k w h))
+      brought : (o : Option Spot) → brought_at (shape_at w.shapes h.instance) h.thing ≡ o
+          → IsOf m (follow (origin_within k w) (of_brought w h o))
+          → ((h : Held) (m : List ℕ) → h.instance < length w.shapes → IsOf m (origin_within k w h)
+          → Ends w h.thing.is_type m (origin_within k w h))
           → Ends w h.thing.is_type m (follow (origin_within k w) (of_brought w h o))
       brought None e of rest = absurd of
       brought (Some s) e of rest = wired s e (wire_into w.wires h.instance s.number) refl of rest
@@ -164,17 +216,26 @@ module _ (w : Wiring) where
   maker_there zero h lt = lt
   maker_there (suc k) h lt = brought (brought_at (shape_at w.shapes h.instance) h.thing) (maker_there k)
     where
-      given : (s : Spot) (wire : Wire) (path : Path) → (t : Option Thing) → given_at (shape_at w.shapes wire.source) s.what.is_type path ≡ t
-          → ((h : Held) → h.instance < length w.shapes → MakerIsThere (length w.shapes) (origin_within k w h)) → MakerIsThere (length w.shapes) (follow (origin_within k w) (of_given wire.source path t))
+      given : (s : Spot) (wire : Wire) (path : Path) → (t : Option Thing)
+          → given_at (shape_at w.shapes wire.source) s.what.is_type path ≡ t
+          → ((h : Held) → h.instance < length w.shapes → MakerIsThere (length w.shapes) (origin_within k w h))
+          → MakerIsThere (length w.shapes) (follow (origin_within k w) (of_given wire.source path t))
       given s wire path None e rest = tt
-      given s wire path (Some t) e rest = rest (record { instance = wire.source; thing = t }) (nothing_given s.what.is_type path t w wire.source e)
+      given s wire path (Some t) e rest =
+          rest (record { instance = wire.source; thing = t }) (nothing_given s.what.is_type path t w wire.source e)
 
-      wired : (s : Spot) (wire : Option Wire) → ((h : Held) → h.instance < length w.shapes → MakerIsThere (length w.shapes) (origin_within k w h)) → MakerIsThere (length w.shapes) (follow (origin_within k w) (along w s wire))
+      wired : (s : Spot) (wire : Option Wire)
+          → ((h : Held) → h.instance < length w.shapes → MakerIsThere (length w.shapes) (origin_within k w h))
+          → MakerIsThere (length w.shapes) (follow (origin_within k w) (along w s wire))
       wired s None rest = tt
       wired s (Some wire) rest =
-          given s wire (given_path (shape_at w.shapes wire.source) wire.export s.path) (given_at (shape_at w.shapes wire.source) s.what.is_type (given_path (shape_at w.shapes wire.source) wire.export s.path)) refl rest
+          given s wire (given_path (shape_at w.shapes wire.source) wire.export s.path)
+          (given_at (shape_at w.shapes wire.source) s.what.is_type
+          (given_path (shape_at w.shapes wire.source) wire.export s.path)) refl rest
 
-      brought : (o : Option Spot) → ((h : Held) → h.instance < length w.shapes → MakerIsThere (length w.shapes) (origin_within k w h)) → MakerIsThere (length w.shapes) (follow (origin_within k w) (of_brought w h o))
+      brought : (o : Option Spot) → ((h : Held) → h.instance < length w.shapes
+          → MakerIsThere (length w.shapes) (origin_within k w h))
+          → MakerIsThere (length w.shapes) (follow (origin_within k w) (of_brought w h o))
       brought None rest = lt
       brought (Some s) rest = wired s (wire_into w.wires h.instance s.number) rest
 
@@ -182,9 +243,12 @@ module _ (w : Wiring) where
   abbrev pub numbered : ℕ → Thing → Thing
   numbered i t = record { is_type = t.is_type; out = 0; number = number_of w (record { instance = i; thing = t }) }
 
-  end_origin : (i : ℕ) (t : Thing) (s : Spot) → brought_at (shape_at w.shapes i) t ≡ Some s → wire_into w.wires i s.number ≡ None → origin w (record { instance = i; thing = t }) ≡ origins.Left s.name s.path
+  end_origin : (i : ℕ) (t : Thing) (s : Spot) → brought_at (shape_at w.shapes i) t ≡ Some s
+      → wire_into w.wires i s.number ≡ None → origin w (record { instance = i; thing = t }) ≡ origins.Left s.name s.path
   unfolding origin_within
-  end_origin i t s is e = ap (λ o. follow (origin_within (length w.shapes) w) (of_brought w (record { instance = i; thing = t }) o)) is ∙ ap (λ o. follow (origin_within (length w.shapes) w) (along w s o)) e
+  end_origin i t s is e =
+      ap (λ o. follow (origin_within (length w.shapes) w) (of_brought w (record { instance = i; thing = t }) o)) is
+      ∙ ap (λ o. follow (origin_within (length w.shapes) w) (along w s o)) e
 
   -- what comes from a left import has the number of what is brought by an import of that name, which is left open
   pub record Comes (t : Thing) (m : List ℕ) : Type 0 where
@@ -197,11 +261,15 @@ module _ (w : Wiring) where
     pub named : spot.name ≡ m
     pub same : numbered instance thing ≡ t
 
-  pub comes : (i : ℕ) (t : Thing) (m : List ℕ) → i < length w.shapes → lefts_of w (numbered i t).number ≡ Some m → Comes (numbered i t) m
+  pub comes : (i : ℕ) (t : Thing) (m : List ℕ) → i < length w.shapes → lefts_of w (numbered i t).number ≡ Some m
+      → Comes (numbered i t) m
   comes i t m lt h =
       let o = origin w (record { instance = i; thing = t }) in
-      let e = ends (suc (length w.shapes)) (record { instance = i; thing = t }) m lt (told_of (length w.shapes) (table w) m o (maker_there (suc (length w.shapes)) (record { instance = i; thing = t }) lt) h) in
-      let same : origin w (record { instance = e.instance; thing = e.thing }) ≡ o = end_origin e.instance e.thing e.spot e.brought e.unwired ∙ e.origin_is in
+      let e = ends (suc (length w.shapes)) (record { instance = i; thing = t }) m lt
+      (told_of (length w.shapes) (table w) m o
+      (maker_there (suc (length w.shapes)) (record { instance = i; thing = t }) lt) h) in
+      let same : origin w (record { instance = e.instance; thing = e.thing })
+      ≡ o = end_origin e.instance e.thing e.spot e.brought e.unwired ∙ e.origin_is in
       record {
         instance = e.instance;
         thing = e.thing;

@@ -1,5 +1,5 @@
--- Two instances ask for one named type under one name of an import, each by a number of its own: a composition that can be
--- checked, of which what is left open can't be written.
+-- Two instances ask for one named type under one name of an import, each by a number of its own: a composition that can
+-- be checked, of which what is left open can't be written.
 use Rattle.std.proofs.Common.{◌≡◌, ℕ, zero, suc, List, [], ◌∷◌, Some, None, refl, sym, ◌∙◌, true, false, arith}
 use Rattle.std.proofs.lemmas.Option.{same_Some}
 use Rattle.comp_format.specs.declared.types.DefinedType.TheVariants as defined
@@ -44,10 +44,10 @@ g = 0x67 ∷ []
 abbrev letters : Name → ValueTree
 letters n = EnumOf (Some n) ((0x65 ∷ []) ∷ [])
 
-abbrev a_type : Name → EntityTree
+abbrev pub a_type : Name → EntityTree
 a_type n = IsType (Value (letters n))
 
-abbrev takes : Name → EntityTree
+abbrev pub takes : Name → EntityTree
 takes n = IsFunc (record { params = (0x78 ∷ [], letters n) ∷ []; result = None })
 
 -- it imports t with an enum r, and p with that enum as r and a function f of it
@@ -67,12 +67,17 @@ shape_b = record {
   exports = [];
 }
 
-abbrev component_of : List ℕ → ShapeTree → ComponentTree
+abbrev pub component_of : List ℕ → ShapeTree → ComponentTree
 component_of name s = record { name = name; bytes = []; shape = s }
 
 -- an instance of each, with nothing wired
 abbrev pub two : CompositionTree
-two = record { components = component_of (0x61 ∷ []) shape_a ∷ component_of (0x62 ∷ []) shape_b ∷ []; instances = 0 ∷ 1 ∷ []; wires = [] }
+two = record {
+  components = component_of (0x61 ∷ []) shape_a ∷ component_of (0x62 ∷ []) shape_b ∷
+      [];
+  instances = 0 ∷ 1 ∷ [];
+  wires = [];
+}
 
 abbrev pub left_t : LeftTree
 left_t = record {
@@ -85,7 +90,8 @@ left_t = record {
 abbrev pub left_p : LeftTree
 left_p = record {
   name = p;
-  entity = IsInstance (entry r (a_type (made 2)) true (entry f (takes (made 2)) true (entry g (takes (made 5)) true no_entry)));
+  entity = IsInstance (entry r (a_type (made 2)) true
+      (entry f (takes (made 2)) true (entry g (takes (made 5)) true no_entry)));
   calls =
       record { number = 0; name = p; path = r ∷ []; what = record { is_type = true; out = 0; number = 2 } }
       ∷ record { number = 0; name = p; path = r ∷ []; what = record { is_type = true; out = 0; number = 5 } }
@@ -102,13 +108,13 @@ needs_row = refl
 
 -- ---- it can be checked
 
-no_wire : {P : Type 0} (w : Wire) → None ≡ Some w → P
+pub no_wire : {P : Type 0} (w : Wire) → None ≡ Some w → P
 no_wire w e = absurd cc
 
 nothing_wired : (c : Comparison) → EachFits c (wiring two)
 nothing_wired c target import j = no_wire j.wire j.wired
 
-unlike : (x y b a : List ℕ) → Some x ≡ Some b → Some y ≡ Some a → is_like x y ≡ false → is_like b a ≡ false
+pub unlike : (x y b a : List ℕ) → Some x ≡ Some b → Some y ≡ Some a → is_like x y ≡ false → is_like b a ≡ false
 unlike x y b a h k e = sym (λ i. is_like (same_Some x b h i) (same_Some y a k i)) ∙ e
 
 names_apart : AreApart (t ∷ p ∷ [])
@@ -141,7 +147,11 @@ sound_row = record {
     apart = (names_apart, (one_apart, (three_apart, tt)));
     ordered = record {
       order = 0 ∷ 1 ∷ [];
-      numbered = record { brought = (refl, (refl, tt)); in_order = ([], 1 ∷ [], refl, tt, refl, ([], [], refl, tt, refl, refl)) };
+      numbered = record {
+        brought = (refl, (refl, tt));
+        in_order =
+            ([], 1 ∷ [], refl, tt, refl, ([], [], refl, tt, refl, refl));
+      };
       written = refl;
     };
   };
@@ -152,7 +162,8 @@ sound_row = record {
 after_t : WrittenScope
 after_t = record outermost {
   decls = decls_of
-      (tree.Ty (tree.Instance (decls_of (tree.Ty (tree.Defined (defined.EnumOf ((0x65 ∷ []) ∷ []))) ∷ tree.Export r (description.TyEqual 0) ∷ [])))
+      (tree.Ty (tree.Instance (decls_of (tree.Ty (tree.Defined (defined.EnumOf ((0x65 ∷ []) ∷ []))) ∷ tree.Export r
+      (description.TyEqual 0) ∷ [])))
       ∷ tree.Import t (description.Instance 0)
       ∷ []);
   types = 1;
@@ -161,7 +172,8 @@ after_t = record outermost {
 }
 
 after_row : write_left left_t (outermost ∷ []) ≡ Some (after_t ∷ [])
-unfolding after_t all_called write_entity write_defined note_all note_here with_named closed on_top change_top type_index standing brought_in along knows
+unfolding after_t all_called write_entity write_defined note_all note_here with_named closed on_top change_top
+    type_index standing brought_in along knows
 after_row = refl
 
 unknown_row : is_known (knows (after_t ∷ [])) left_p.entity ≡ false
@@ -176,12 +188,14 @@ not_writable h = no (sym unknown_row ∙ (h.1 (after_t ∷ []) after_row).0.know
 
 -- nothing is written at all, in either order of the instances
 nothing_row : write_lefts (left_t ∷ left_p ∷ []) (outermost ∷ []) ≡ None
-unfolding write_lefts all_called write_entity write_defined write_func write_params write_result note_all note_here with_named closed on_top change_top type_index standing brought_in along knows
+unfolding write_lefts all_called write_entity write_defined write_func write_params write_result note_all note_here
+    with_named closed on_top change_top type_index standing brought_in along knows
 nothing_row = refl
 
 abbrev pub turned : Wiring
 turned = record { shapes = shape_b ∷ shape_a ∷ []; wires = [] }
 
 turned_row : write_lefts (lefts turned) (outermost ∷ []) ≡ None
-unfolding origin_within write_lefts all_called write_entity write_defined write_func write_params write_result note_all note_here with_named closed on_top change_top type_index standing brought_in along knows
+unfolding origin_within write_lefts all_called write_entity write_defined write_func write_params write_result note_all
+    note_here with_named closed on_top change_top type_index standing brought_in along knows
 turned_row = refl

@@ -1,20 +1,16 @@
 -- A left import of which all that it needs is known can be written.
-use Rattle.std.proofs.Common.{◌≡◌, ◌&&◌, Bool, true, false, [], sym, ap, ◌∙◌}
-use Rattle.std.specs.Prelude.{is_some}
+use Rattle.std.proofs.Common.{◌≡◌, ◌&&◌, Bool, true, false}
 use Rattle.std.proofs.lemmas.Bool.{and_parts}
 use Rattle.comp_entity.specs.Entity.{TypeShapeTree, Value, Resource, Func, Instance, Component, EntityTree, IsType, IsFunc, IsInstance, IsComponent, IsModule, IsOwnModule, Entries, no_entry, entry}
 use Rattle.comp_entity.specs.Names.{Mention}
-use Rattle.comp_entity.specs.Places.{leaves_of}
 use Rattle.compose_left.specs.declared.spots.Thing.{Thing}
 use Rattle.compose_needs.specs.Lefts.{Lefts}
-use Rattle.compose_needs.specs.Mentioned.{has, mentioned, outwards}
+use Rattle.compose_needs.specs.Mentioned.{has, mentioned}
 use Rattle.compose_needs.specs.Tied.{are_sides_tied, entity_holds_tied, entries_hold_tied, type_holds_tied}
 use Rattle.compose_order.specs.Needs.{LeftTree, is_own}
-use Rattle.compose_writing.specs.Conditions.{KeepsEntries, KeepsForm, KeepsType, is_known}
+use Rattle.compose_writing.specs.Conditions.{KeepsEntries, KeepsForm, KeepsType}
 use Rattle.compose_known.specs.InOrder.{AreInOrder, IsInOrder, TypeInOrder}
-use Rattle.compose_known.specs.Named.{NamesItsOwn}
-use Rattle.compose_known.proofs.BehindLaws.{AllStand, Stands, TypeStands, entity_goes, key_of, leaves_apart, tied_met}
-use Rattle.compose_known.proofs.MentionLaws.{leaves_mention}
+use Rattle.compose_known.proofs.BehindLaws.{AllStand, Stands, TypeStands, key_of}
 
 -- ---- entities in order, whose components keep to what they bring
 
@@ -51,13 +47,3 @@ mutual
 -- all that it mentions, and does not itself bring or export, is known
 abbrev pub NeedsKnown : Lefts → LeftTree → (Mention → Bool) → Type 0
 NeedsKnown left l f = (t : Thing) → has (mentioned l.entity) t ≡ true → is_own left l t ≡ false → f (key_of t) ≡ true
-
-pub import_known : (left : Lefts) (l : LeftTree) (f : Mention → Bool) → KeepsForm l.entity → entity_holds_tied l.entity ≡ true → NamesItsOwn left l → NeedsKnown left l f → is_known f l.entity ≡ true
-import_known left l f form tied numbered needs =
-    let stands = entity_stands l.entity numbered.in_order form tied in
-    let S : Thing → Type 0 = λ t. f (key_of t) ≡ true in
-    let same = leaves_mention 0 [] l.entity in
-    let goes = entity_goes l.entity f S [] (λ t h. h)
-    (tied_met (is_own left l) f (leaves_of [] l.entity) [] S (λ t h. h) (λ t h. absurd cc) numbered.numbered
-    (λ t h. needs t (ap (λ xs. has (outwards xs) t) (sym same) ∙ h)) (leaves_apart [] l.entity stands)) stands in
-    ap is_some goes.is

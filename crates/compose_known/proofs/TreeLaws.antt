@@ -51,18 +51,21 @@ no_resource r n h = one (nat_le 0 r.out) h
         go : false ≡ true → ⊥
         go e = absurd cc
 
-    one : (b : Bool) → has ((if b then resource (record { out = r.out - 0; number = r.number }) ∷ [] else []) ++ []) (named_type n) ≡ true → ⊥
+    one : (b : Bool) → has ((if b then resource (record { out = r.out - 0; number = r.number }) ∷ [] else []) ++ [])
+        (named_type n) ≡ true → ⊥
     one true h = no (resource (record { out = r.out - 0; number = r.number })) refl h
     one false h = absurd cc
 
 place_is : (m n : Name) → has (around named_type 0 m ++ []) (named_type n) ≡ true → m ≡ n
 place_is m n h = one (nat_le 0 m.out) h
   where
-    one : (b : Bool) → has ((if b then named_type (record { out = m.out - 0; number = m.number }) ∷ [] else []) ++ []) (named_type n) ≡ true → m ≡ n
+    one : (b : Bool) → has ((if b then named_type (record { out = m.out - 0; number = m.number }) ∷ [] else []) ++ [])
+        (named_type n) ≡ true → m ≡ n
     one true h =
         let same = has_one (named_type (record { out = m.out - 0; number = m.number })) (named_type n) h in
         let here : m.out ≡ m.out - 0 = omega arith in
-        (λ i. record { out = here i; number = m.number }) ∙ (λ i. record { out = (same i).out; number = (same i).number })
+        (λ i. record { out = here i; number = m.number })
+        ∙ (λ i. record { out = (same i).out; number = (same i).number })
     one false h = absurd cc
 
 module _ (mean : Meaning) (n : Name) where
@@ -73,17 +76,22 @@ module _ (mean : Meaning) (n : Name) where
   abbrev Within : ℕ → Type 0
   Within k = value_depth (mean.tree n) ≤ k
 
-  either : (xs ys : List (ℕ × Mention)) (k : ℕ) → Mentioned (xs ++ ys) → (Mentioned xs → Within k) → (Mentioned ys → Within k) → Within k
-  either xs ys k h f g = go (has_either (outwards xs) (outwards ys) (named_type n) (ap (λ ts. has ts (named_type n)) (sym (outwards-append xs ys)) ∙ h))
+  either : (xs ys : List (ℕ × Mention)) (k : ℕ) → Mentioned (xs ++ ys) → (Mentioned xs → Within k)
+      → (Mentioned ys → Within k) → Within k
+  either xs ys k h f g =
+      go (has_either (outwards xs) (outwards ys) (named_type n)
+      (ap (λ ts. has ts (named_type n)) (sym (outwards-append xs ys)) ∙ h))
     where
       go : (has (outwards xs) (named_type n) ≡ true) ⊎ (has (outwards ys) (named_type n) ≡ true) → Within k
       go (inl h) = f h
       go (inr h) = g h
 
-  named_within : (t : ValueTree) (p : Option Name) → IsNamed mean t p → Mentioned (at_place 0 p) → Within (value_depth t)
+  named_within : (t : ValueTree) (p : Option Name) → IsNamed mean t p → Mentioned (at_place 0 p)
+      → Within (value_depth t)
   named_within t None o h = absurd cc
   named_within t (Some m) o h =
-      let deep : value_depth t ≡ value_depth (mean.tree n) = sym (value_deep without_places 0 t) ∙ ap value_depth o.1 ∙ ap (λ m. value_depth (mean.tree m)) (place_is m n h) in
+      let deep : value_depth t ≡ value_depth (mean.tree n) = sym (value_deep without_places 0 t) ∙ ap value_depth o.1
+      ∙ ap (λ m. value_depth (mean.tree m)) (place_is m n h) in
       omega (arith, deep)
 
   mutual
@@ -91,16 +99,19 @@ module _ (mean : Meaning) (n : Name) where
     value_within (Primitive p) o h = absurd cc
     value_within (TupleOf ts) o h = let k = values_within ts o h in omega (arith, k)
     value_within (RecordOf p cs) o h =
-        either (at_place 0 p) (in_cases 0 cs) (1 + cases_depth cs) h (named_within (RecordOf p cs) p o.0) (λ h. let k = cases_within cs o.1 h in omega (arith, k))
+        either (at_place 0 p) (in_cases 0 cs) (1 + cases_depth cs) h (named_within (RecordOf p cs) p o.0)
+        (λ h. let k = cases_within cs o.1 h in omega (arith, k))
     value_within (VariantOf p cs) o h =
-        either (at_place 0 p) (in_cases 0 cs) (1 + cases_depth cs) h (named_within (VariantOf p cs) p o.0) (λ h. let k = cases_within cs o.1 h in omega (arith, k))
+        either (at_place 0 p) (in_cases 0 cs) (1 + cases_depth cs) h (named_within (VariantOf p cs) p o.0)
+        (λ h. let k = cases_within cs o.1 h in omega (arith, k))
     value_within (ListOf t) o h = let k = value_within t o h in omega (arith, k)
     value_within (FlagsOf p ls) o h = named_within (FlagsOf p ls) p o h
     value_within (EnumOf p ls) o h = named_within (EnumOf p ls) p o h
     value_within (OptionOf t) o h = let k = value_within t o h in omega (arith, k)
     value_within (ResultOf ok err) o h =
         either (in_payload 0 ok) (in_payload 0 err) (1 + max (payload_depth ok) (payload_depth err)) h
-        (λ h. let k = payload_within ok o.0 h in omega (arith, k)) (λ h. let k = payload_within err o.1 h in omega (arith, k))
+        (λ h. let k = payload_within ok o.0 h in omega (arith, k))
+        (λ h. let k = payload_within err o.1 h in omega (arith, k))
     value_within (Own r) o h = absurd (no_resource r n h)
     value_within (Borrow r) o h = absurd (no_resource r n h)
 
@@ -108,13 +119,15 @@ module _ (mean : Meaning) (n : Name) where
     values_within none o h = absurd cc
     values_within (more t ts) o h =
         either (in_value 0 t) (in_values 0 ts) (max (value_depth t) (parts_depth ts)) h
-        (λ h. let k = value_within t o.0 h in omega (arith, k)) (λ h. let k = values_within ts o.1 h in omega (arith, k))
+        (λ h. let k = value_within t o.0 h in omega (arith, k))
+        (λ h. let k = values_within ts o.1 h in omega (arith, k))
 
     cases_within : (cs : Cases) → OneTreeCases mean cs → Mentioned (in_cases 0 cs) → Within (cases_depth cs)
     cases_within no_case o h = absurd cc
     cases_within (labelled label p cs) o h =
         either (in_payload 0 p) (in_cases 0 cs) (max (payload_depth p) (cases_depth cs)) h
-        (λ h. let k = payload_within p o.0 h in omega (arith, k)) (λ h. let k = cases_within cs o.1 h in omega (arith, k))
+        (λ h. let k = payload_within p o.0 h in omega (arith, k))
+        (λ h. let k = cases_within cs o.1 h in omega (arith, k))
 
     payload_within : (p : Payload) → OneTreePayload mean p → Mentioned (in_payload 0 p) → Within (payload_depth p)
     payload_within absent o h = absurd cc
@@ -131,7 +144,8 @@ not_true false h = refl
 none_named : {P : Type 0} (n : Name) → None ≡ Some n → P
 none_named n e = absurd cc
 
-named_as : (mean : Meaning) (t : ValueTree) (p : Option Name) (n : Name) → p ≡ Some n → IsNamed mean t p → IsNamed mean t (Some n)
+named_as : (mean : Meaning) (t : ValueTree) (p : Option Name) (n : Name) → p ≡ Some n → IsNamed mean t p
+    → IsNamed mean t (Some n)
 named_as mean t p n e o = subst (IsNamed mean t) e o
 
 pub tree_apart : (mean : Meaning) (t : ValueTree) → OneTree mean t → IsApart t

@@ -30,8 +30,8 @@ scope_place l = record { named = option_to_list l.named; asked = filter is_of_sc
 abbrev pub is_instance_tied : Entries → Bool
 is_instance_tied es = are_tied [] (map scope_place (leaves_among [] es))
 
--- Types of instances name what they mention of their own scope there or earlier, and no value type mentions within it the
--- place that named it.
+-- Types of instances name what they mention of their own scope there or earlier, and no value type mentions within it
+-- the place that named it.
 abbrev mutual
   pub TypeInOrder : TypeShapeTree → Type 0
   TypeInOrder (Value t) = IsApart t

@@ -1,5 +1,4 @@
 pub mod InOrder
-pub mod Named
+pub mod Placed
 pub mod Whole
-pub mod Settled
 pub mod Importable
