@@ -1,0 +1,13 @@
+mod Bare
+mod Near
+mod Ties
+mod Settling
+mod Kept
+mod Lefts
+mod OneFact
+mod Standing
+mod Knowing
+mod Reading
+mod Readable
+mod Rows
+mod NamingRows
