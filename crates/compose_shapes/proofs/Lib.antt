@@ -1,0 +1,16 @@
+mod Things
+mod Mentions
+mod Tied
+mod Known
+mod Values
+mod Standing
+mod Formed
+mod Scopes
+mod Reading
+mod Types
+mod Parts
+mod Shapes
+mod InOrder
+mod OneFact
+mod Compositions
+mod Sound
