@@ -122,6 +122,15 @@ pub component_ref : (e : Entity) (c : ComponentShape) (ms mid next : List Writte
 unfolding write_entity
 component_ref e c ms mid next ds i is h k = rw (is, entity_component c) (ap (λ w. wrote_as description.Component (then_type (wrote_as tree.Component w))) h ∙ ap (wrote_as description.Component) k)
 
+-- a component by its imports and exports, and its import
+pub component_described : (is es : Entries) (ms mid next : List WrittenScope) (ds : Decls) (i : ℕ)
+    → write_component is es ms ≡ Some (mid, ds) → on_top (add_type (tree.Component ds)) mid ≡ Some (next, i)
+    → write_entity (IsComponent is es) ms ≡ Some (next, description.Component i)
+unfolding write_entity
+component_described is es ms mid next ds i h k =
+    ap (λ w. wrote_as description.Component (then_type (wrote_as tree.Component w))) h
+    ∙ ap (wrote_as description.Component) k
+
 pub module_ref : (e : Entity) (m : ModuleShape) (ms next : List WrittenScope) (i : ℕ) → e ≡ entity.Module m → on_top (add_core_type (core.Module (write_module m))) ms ≡ Some (next, i) → write_entity (entity_tree e) ms ≡ Some (next, description.Module i)
 unfolding write_entity
 module_ref e m ms next i is h = rw (is, entity_module m) (ap (wrote_as description.Module) h)
@@ -199,3 +208,16 @@ entries_step item xs i x ms mid next ty lt is h k =
 pub import_written : (name : List ℕ) (e : EntityTree) (ty : TypeRef) (top next : WrittenScope) (old mid new : List WrittenScope) → old ≡ top ∷ [] → mid ≡ next ∷ [] → counted ty (declare (tree.Import name ty) top) ≡ next → new ≡ noted e top mid → new ≡ write_import name e ty old
 unfolding with_named
 import_written name e ty top next old mid new was is c n = n ∙ ap (noted e top) (is ∙ ap (λ m. m ∷ []) (sym c)) ∙ sym (ap (write_import name e ty) was)
+
+-- a component brings nothing
+nothing_noted : (is es : Entries) (m : WrittenScope) (ms : List WrittenScope) → ms ≡ noted (IsComponent is es) m ms
+unfolding note_here
+nothing_noted is es m ms = refl
+
+-- an import of a component, which brings nothing
+pub component_imported : (is es : Entries) (name : List ℕ) (ty : TypeRef) (top next : WrittenScope)
+    (old new : List WrittenScope)
+    → old ≡ top ∷ [] → new ≡ next ∷ [] → counted ty (declare (tree.Import name ty) top) ≡ next
+    → new ≡ write_import name (IsComponent is es) ty old
+component_imported is es name ty top next old new was is_ c =
+    import_written name (IsComponent is es) ty top next old new new was is_ c (nothing_noted is es top new)

@@ -28,7 +28,7 @@ use crate::entities::{entity_ref, instance_type, write_entries};
 use crate::modules::module_type;
 use crate::state::TypeState;
 use comp_entity::{Entity, ModuleShape, Shape};
-use comp_format::{ComponentType, EncodeError, InstanceType, ModuleType, TypeRef};
+use comp_format::{ComponentType, DefType, EncodeError, InstanceType, ModuleType, TypeRef};
 use compose_meaning::laws::{
     a_component_type_reads_back, a_module_reads_back, an_instance_type_reads_back,
     what_is_written_reads_back,
@@ -155,6 +155,42 @@ impl<'a> TypeEncoder<'a> {
         a_module_reads_back();
         let ty = module_type(alloc, module)?;
         Ok(ty)
+    }
+
+    /// Writes what an import of a component with these imports and exports needs into the state, and gives its description
+    /// (`Binary.md`, `externdesc`). Their names are as for `component`.
+    ///
+    /// `TooLarge` has a number of 2^32 or more that would have to be written.
+    #[tactic(auto, using(crate::proofs::EntityLaws::component_described, crate::proofs::EntityLaws::tree_component))]
+    pub fn component_ref(
+        &self,
+        alloc: Global,
+        state: &mut TypeState,
+        imports: &[(Text, Entity)],
+        exports: &[(Text, Entity)],
+    ) -> Result<TypeRef, EncodeError>
+        requires form { KeepsForm
+            (IsComponent (entries_of (named_entities imports.now)) (entries_of (named_entities exports.now))) }
+        requires known { is_known (knows (scopes state.old))
+            (IsComponent (entries_of (named_entities imports.now)) (entries_of (named_entities exports.now))) ≡ true }
+        ensures written { IfOk result (λ ty. write_entity
+            (IsComponent (entries_of (named_entities imports.now)) (entries_of (named_entities exports.now)))
+            (scopes state.old) ≡ Some (scopes state.new, ty)) }
+        ensures possible { (x : List WrittenScope × TypeRef) × (write_entity
+            (IsComponent (entries_of (named_entities imports.now)) (entries_of (named_entities exports.now)))
+            (scopes state.old) ≡ Some x) }
+        ensures reads_back { (mean : Meaning) (m : WrittenScope) (k : Known) → scopes state.old ≡ m ∷ []
+            → Keeps mean m k → HasMeaning mean (spot_of m k)
+            (IsComponent (entries_of (named_entities imports.now)) (entries_of (named_entities exports.now)))
+            → IfOk result (λ ty. IsWritten mean m k (scopes state.new) ty
+            (IsComponent (entries_of (named_entities imports.now)) (entries_of (named_entities exports.now)))) }
+        ensures too_large { (n : ℕ) → result ≡ Err (EncodeError.TooLarge n) → 2 ^ 32 ≤ n }
+    {
+        what_is_known_is_written();
+        what_is_written_reads_back();
+        let ty = component_type(alloc, state, imports, exports)?;
+        let index = state.add_type(alloc, DefType::Component(ty))?;
+        Ok(TypeRef::Component(index))
     }
 
     /// Writes what an import of this entity needs into the state, and gives its description (`Binary.md`,

@@ -19,6 +19,7 @@ ghost use Rattle.comp_entity.specs.Names.{OfPlace, in_value};
 ghost use Rattle.comp_scope.specs.Spaces.{Known, Standing};
 ghost use Rattle.std.specs.List.{AllByRecursion, list_any};
 ghost use Rattle.std.specs.Str.{str_eq_ignore_ascii_case};
+ghost use Rattle.comp_entity.specs.Entity.{Entries, IsComponent};
 ghost use Rattle.comp_entity.specs.Views.{entity_tree};
 ghost use Rattle.comp_encoder.specs.Writing.{described_sort, next_index};
 ghost use Rattle.comp_encoder.specs.Builder.{entries_of};
@@ -317,6 +318,7 @@ impl TypeState {
         requires form { KeepsForm (entity_tree entity.now) }
         ensures written { OnOk result
             (scopes self.new ≡ write_import name.now (entity_tree entity.now) ty.now (scopes self.old)) }
+        ensures alone { OnOk result (scopes self.old ≡ outermost_scope self.old ∷ []) }
         ensures index { IfOk result (λ i.
             i ≡ next_index (described_sort ty.now) (entries_for (outermost_scope self.old).decls)) }
         ensures reads_back { (mean : Meaning) (m : WrittenScope) (k : Known) → scopes self.old ≡ m ∷ [] → Keeps mean m k
@@ -338,6 +340,56 @@ impl TypeState {
                 Ok(index)
             }
         }
+    }
+
+    /// Writes an import of a component of this description into the component that is built, and gives the index of what
+    /// is imported. A component brings nothing, so nothing more is known from then on.
+    ///
+    /// The description is the one that `TypeEncoder::component_ref` gave for the imports and exports of the component in
+    /// this state. `TooLarge` and what a refusal leaves are as of `import`.
+    pub fn import_component(
+        &mut self,
+        alloc: Global,
+        name: &str,
+        ty: &TypeRef,
+    ) -> Result<u32, EncodeError>
+        requires { 0 < length name.now }
+        ensures written { (imports exports : Entries) → OnOk result
+            (scopes self.new ≡ write_import name.now (IsComponent imports exports) ty.now (scopes self.old)) }
+        ensures alone { OnOk result (scopes self.old ≡ outermost_scope self.old ∷ []) }
+        ensures index { IfOk result (λ i.
+            i ≡ next_index (described_sort ty.now) (entries_for (outermost_scope self.old).decls)) }
+        ensures reads_back { (imports exports : Entries) (mean : Meaning) (m : WrittenScope) (k : Known)
+            → scopes self.old ≡ m ∷ [] → Keeps mean m k
+            → HasMeaning mean (spot_of m k) (IsComponent imports exports)
+            → IsDescribed mean (spot_of m k) ty.now (IsComponent imports exports) k.spaces
+            → list_any (str_eq_ignore_ascii_case name.now) (spot_of m k).names ≡ false
+            → OnOk result (IsImported mean m k (scopes self.new) name.now (IsComponent imports exports)) }
+        ensures too_large { (imports exports : Entries) (n : ℕ) → result ≡ Err (EncodeError.TooLarge n) → IsTooLarge n
+            (scopes_size (write_import name.now (IsComponent imports exports) ty.now (scopes self.old))) }
+    {
+        an_import_reads_back();
+        match self.inner.pop() {
+            Some(_) => Err(EncodeError::Memory),
+            None => {
+                let index = self.outermost.declared.import(alloc, name, *ty)?;
+                Ok(index)
+            }
+        }
+    }
+
+    /// How many types the component that is built has.
+    pub fn types(&self) -> u32
+        ensures { result ≡ (outermost_scope self.now).types }
+    {
+        self.outermost.declared.types
+    }
+
+    /// How many instances the component that is built has.
+    pub fn instances(&self) -> u32
+        ensures { result ≡ (outermost_scope self.now).instances }
+    {
+        self.outermost.declared.instances
     }
 
     /// Notes that a named type that the state knows at this place is called by this number too: the type of this index,
