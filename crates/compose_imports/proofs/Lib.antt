@@ -1,0 +1,7 @@
+mod NameLaws
+mod PathLaws
+mod FoundLaws
+mod LeftLaws
+mod AddedLaws
+mod RefusalLaws
+mod CallLaws
