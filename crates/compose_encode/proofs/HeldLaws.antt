@@ -28,7 +28,7 @@ use Rattle.compose_image.specs.Imports.{component_of}
 use Rattle.compose_image.specs.Instances.{Part, Written, args_of, component_index, component_items, export_of, exported_parts, has_part, instance_index, is_instance, is_part, part_index, part_of_wire, wires_of, with_export, with_instance, with_part, with_parts, written}
 use Rattle.compose_encode.specs.Held.{Holds, begun, component_item, with_component, with_made}
 use Rattle.compose_encode.specs.declared.output.Output.{Output}
-use Rattle.compose_encode.specs.Encoded.{singles}
+use Rattle.compose_imports.specs.Imported.{singles}
 use Rattle.compose_encode.specs.Numbers.{FitBehind, IsOfItems, IsOneOf, IsTooLarge, ItemsFit, numbers_of}
 use Rattle.compose_encode.specs.Parts.{part_cmp, part_of}
 use Rattle.compose_encode.specs.declared.part.Part.{Part as PartOf}

@@ -2,3 +2,7 @@ mod ListLaws
 mod HeldLaws
 mod LookLaws
 mod Errors
+mod AgreedLaws
+mod RefusingLaws
+mod OrderLaws
+mod WholeLaws

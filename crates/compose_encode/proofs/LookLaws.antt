@@ -15,12 +15,13 @@ use Rattle.comp_format.specs.declared.types.Arg.{Arg}
 use Rattle.compose_component.specs.declared.component.Component.{Component as ComponentOf}
 use Rattle.compose_left.specs.Wiring.{no_shape, wire_into}
 use Rattle.compose_left.specs.declared.wiring.Wire.{Wire}
-use Rattle.compose_check.specs.Composition.{ComponentTree, CompositionTree, component_tree, composition_tree, goes_to, shape_numbered, source_of}
+use Rattle.compose_check.specs.Composition.{ComponentTree, CompositionTree, HasEnds, component_tree, composition_tree, goes_to, shape_numbered, source_of, wiring}
 use Rattle.compose_check.specs.declared.composition.Composition.{Composition}
 use Rattle.compose_image.specs.Imports.{component_of, is_used, used}
 use Rattle.compose_image.specs.Instances.{Written, args_of, comes_from, component_index, first_ones, given_arg, given_args, import_index, no_entity, open_arg, open_from, open_imports, rank, shape_of, wires_of}
-use Rattle.compose_encode.specs.Encodable.{HasName, HaveNames, IsJoined}
-use Rattle.compose_encode.specs.Looked.{AreTables, found_import, lent_tree}
+use Rattle.compose_encode.specs.Encodable.{HasName, HaveNames}
+use Rattle.compose_imports.specs.Imported.{found_import}
+use Rattle.compose_encode.specs.Looked.{AreTables, lent_tree}
 use Rattle.compose_encode.specs.declared.tables.Tables.{Tables}
 
 pub get_map : {X Y : Type 0} (f : X → Y) (xs : List X) (n : ℕ) → slice_get (map f xs) n ≡ option_map f (slice_get xs n)
@@ -179,10 +180,10 @@ all_got P [] n x h e = absurd cc
 all_got P (y ∷ xs) zero x h e = subst P (some_is y x e) h.0
 all_got P (y ∷ xs) (suc n) x h e = all_got P xs n x h.1 e
 
-pub joined_into : (c : CompositionTree) (i : ℕ) → AllByRecursion (IsJoined c) c.wires → AllByRecursion (IsJoined c) (wires_of c i)
-joined_into c i h =
+pub ends_into : (c : CompositionTree) (i : ℕ) → AllByRecursion (HasEnds (wiring c)) c.wires → AllByRecursion (HasEnds (wiring c)) (wires_of c i)
+ends_into c i h =
     let ws = filter (goes_to i) c.wires in
-    all_flat (IsJoined c) (λ source. filter (comes_from source) ws) (first_ones [] (map source_of ws)) (λ source. all_filter (IsJoined c) (comes_from source) ws (all_filter (IsJoined c) (goes_to i) c.wires h))
+    all_flat (HasEnds (wiring c)) (λ source. filter (comes_from source) ws) (first_ones [] (map source_of ws)) (λ source. all_filter (HasEnds (wiring c)) (comes_from source) ws (all_filter (HasEnds (wiring c)) (goes_to i) c.wires h))
 
 shape_names : (c : CompositionTree) (i : ℕ) → AllByRecursion HaveNames c.components → AllByRecursion HasName (shape_of c i).imports
 shape_names c i h = subst (λ (o : Option ShapeTree). AllByRecursion HasName (unwrap_or o no_shape).imports) (sym (get_map (shape_numbered c.components) c.instances i)) (one (slice_get c.instances i))
@@ -211,15 +212,15 @@ open_named c i n (e ∷ es) h = one (is_none (wire_into c.wires i n)) (open_name
 abbrev pub IsNamedArg : Arg → Type 0
 IsNamedArg arg = 0 < length arg.name
 
-given_named : (c : CompositionTree) (w : Written) (wire : Wire) (o : Option ℕ) → AllByRecursion HaveNames c.components → IsJoined c wire → IsNamedArg (given_arg c w wire o)
+given_named : (c : CompositionTree) (w : Written) (wire : Wire) (o : Option ℕ) → AllByRecursion HaveNames c.components → HasEnds (wiring c) wire → IsNamedArg (given_arg c w wire o)
 given_named c w wire None h k = import_named (shape_of c wire.target).imports wire.import (shape_names c wire.target h) k.import
 given_named c w wire (Some export) h k = import_named (shape_of c wire.target).imports wire.import (shape_names c wire.target h) k.import
 
 -- no argument has an empty name
-pub args_named : (c : CompositionTree) (imports : List ItemTree) (w : Written) (i : ℕ) → AllByRecursion (IsJoined c) c.wires → AllByRecursion HaveNames c.components → AllByRecursion IsNamedArg (args_of c imports w i)
-args_named c imports w i joined named =
+pub args_named : (c : CompositionTree) (imports : List ItemTree) (w : Written) (i : ℕ) → AllByRecursion (HasEnds (wiring c)) c.wires → AllByRecursion HaveNames c.components → AllByRecursion IsNamedArg (args_of c imports w i)
+args_named c imports w i ends named =
     all_append IsNamedArg (given_args c w i) (map (open_arg imports) (open_imports c i))
-    (all_map IsNamedArg (IsJoined c) (λ wire. given_arg c w wire wire.export) (wires_of c i) (λ wire k. given_named c w wire wire.export named k) (joined_into c i joined))
+    (all_map IsNamedArg (HasEnds (wiring c)) (λ wire. given_arg c w wire wire.export) (wires_of c i) (λ wire k. given_named c w wire wire.export named k) (ends_into c i ends))
     (all_map IsNamedArg HasName (open_arg imports) (open_imports c i) (λ e k. k) (open_named c i 0 (shape_of c i).imports (shape_names c i named)))
 
 pub used_below : (c : CompositionTree) → AllByRecursion (λ n. n < length c.components) (used c)

@@ -1,16 +1,13 @@
 -- The bytes of a composition.
-use Rattle.std.specs.Prelude.{◌≡◌, ◌⊎◌, ℕ, Bool, List, map, Option}
+use Rattle.std.specs.Prelude.{◌≡◌, ◌⊎◌, ℕ, Bool, List, Option}
 use Rattle.std.specs.List.{AllByRecursion}
 use Rattle.comp_format.specs.Items.{ItemTree}
 use Rattle.comp_format.specs.Sections.{Reads}
-use Rattle.comp_encoder.specs.Writing.{Entry, Single, IsShort, IsTooLongAmong, component_text, sections_of}
+use Rattle.comp_encoder.specs.Writing.{IsShort, IsTooLongAmong, component_text, sections_of}
 use Rattle.compose_check.specs.Composition.{CompositionTree}
 use Rattle.compose_image.specs.Instances.{written}
+use Rattle.compose_imports.specs.Imported.{singles}
 use Rattle.compose_encode.specs.Numbers.{FitBehind, IsTooLarge}
-
--- what is added to a builder for items, one by one
-abbrev pub singles : List ItemTree → List Entry
-singles = map Single
 
 -- The bytes are those of the items that are written behind these imports, and have no other reading.
 pub record IsEncoded (c : CompositionTree) (define : Bool) (export : Option ℕ) (order : List ℕ)

@@ -19,7 +19,7 @@ use Rattle.compose_left.specs.declared.wiring.Wire.{Wire}
 use Rattle.compose_check.specs.Composition.{ComponentTree, CompositionTree, source_of}
 use Rattle.compose_image.specs.Imports.{component_of, is_used, used}
 use Rattle.compose_image.specs.Instances.{Part, Written, comes_from, first_ones, is_instance, is_part, rank}
-use Rattle.compose_encode.specs.Encoded.{singles}
+use Rattle.compose_imports.specs.Imported.{singles}
 use Rattle.compose_encode.specs.Numbers.{FitBehind}
 use Rattle.compose_encode.specs.Parts.{part_cmp, part_of}
 use Rattle.compose_encode.specs.declared.output.Output.{Output}

@@ -4,3 +4,6 @@ pub mod Encoded
 pub mod Parts
 pub mod Held
 pub mod Looked
+pub mod Refusing
+pub mod Errors
+pub mod Whole

@@ -1,34 +1,18 @@
 -- What code looks up while instances are written, as the definitions have it.
-use Rattle.std.specs.Prelude.{◌≡◌, ℕ, ◌<◌, ◌^◌, Bool, true, List, [], ◌∷◌, ◌++◌, filter, length, Option, Some, None, slice_index, bytes_eq, if◌then◌else◌}
-use Rattle.std.specs.BTreeMap.{BTreeMap, get}
+use Rattle.std.specs.Prelude.{◌≡◌, ℕ, ◌<◌, ◌^◌, Bool, true, List, filter, length, slice_index, if◌then◌else◌}
 use Rattle.std.specs.List.{AllByRecursion}
-use Rattle.comp_encoder.specs.Writing.{described_sort, numbered}
-use Rattle.comp_format.specs.Items.{ItemTree, Import}
+use Rattle.comp_encoder.specs.Writing.{numbered}
+use Rattle.comp_format.specs.Items.{ItemTree}
 use Rattle.comp_format.specs.declared.types.Sort.TheVariants as sort
-use Rattle.compose_left.specs.Merged.{name_cmp}
 use Rattle.compose_left.specs.Wired.{FindsWires}
-use Rattle.compose_check.specs.Composition.{CompositionTree, composition_tree, goes_to}
+use Rattle.compose_check.specs.Composition.{CompositionTree, HasEnds, composition_tree, goes_to, wiring}
 use Rattle.compose_image.specs.Imports.{is_used, used}
+use Rattle.compose_imports.specs.Imported.{FindsImports}
 use Rattle.compose_image.specs.Instances.{Written, rank}
-use Rattle.compose_encode.specs.Encodable.{HaveNames, IsJoined}
+use Rattle.compose_encode.specs.Encodable.{HaveNames}
 use Rattle.compose_encode.specs.Held.{Holds, wires_at}
 use Rattle.compose_encode.specs.declared.output.Output.{Output}
-use Rattle.comp_encoder.specs.Builder.{entries_of}
-use Rattle.compose_encode.specs.Encoded.{singles}
-use Rattle.compose_encode.specs.declared.encode.Imported.{Imported}
 use Rattle.compose_encode.specs.declared.tables.Tables.{Tables}
-use Rattle.warg_values.specs.declared.text.Text.{Text}
-
--- the index of the first import of a name, behind some items
-unfoldable pub found_import : List ℕ → List ItemTree → List ItemTree → Option ℕ
-found_import name front [] = None
-found_import name front (Import i ∷ items) =
-    if bytes_eq name i.name then Some (numbered (described_sort i.ty) front)
-    else found_import name (front ++ Import i ∷ []) items
-found_import name front (item ∷ items) = found_import name (front ++ item ∷ []) items
-
-abbrev pub FindsImports : BTreeMap Text ℕ → List ItemTree → Type 0
-FindsImports names items = (name : List ℕ) → get name_cmp names name ≡ found_import name [] items
 
 abbrev pub lent_tree : Tables → CompositionTree
 lent_tree t = composition_tree t.composition.now
@@ -36,7 +20,7 @@ lent_tree t = composition_tree t.composition.now
 -- the wires, which come from what is there, and go to imports with names that are not empty
 pub record HaveWires (t : Tables) : Type 0 where
   pub wires : (i : ℕ) → wires_at t.wires i ≡ filter (goes_to i) (lent_tree t).wires
-  pub joined : AllByRecursion (IsJoined (lent_tree t)) (lent_tree t).wires
+  pub ends : AllByRecursion (HasEnds (wiring (lent_tree t))) (lent_tree t).wires
   pub named : AllByRecursion HaveNames (lent_tree t).components
   pub small : (n : ℕ) → slice_index t.ranks.items n < 2 ^ 63
 
@@ -55,8 +39,3 @@ pub record IsHeld (t : Tables) (o : Output) : Type 0 where
   pub written : Written
   pub tables : AreTables t define imports
   pub holds : Holds imports o written
-
--- what was written for imports, and the index of the first of each name
-pub record AreImported (i : Imported) (imports : List ItemTree) : Type 0 where
-  pub entries : entries_of i.builder ≡ singles imports
-  pub names : FindsImports i.names imports

@@ -7,8 +7,9 @@ ghost use Rattle.compose_check.specs.Composition.{composition_tree};
 ghost use Rattle.compose_encode.specs.Encodable.{CanBeWritten};
 ghost use Rattle.compose_encode.specs.Encoded.{EncodingFits, IsEncoded, IsTooLargeFor};
 ghost use Rattle.compose_encode.specs.Held.{Holds, Items, WrittenItems};
-ghost use Rattle.compose_encode.specs.Looked.{AreImported, AreTables, HaveWires, IsHeld, lent_tree};
+ghost use Rattle.compose_encode.specs.Looked.{AreTables, HaveWires, IsHeld, lent_tree};
 ghost use Rattle.compose_encode.specs.Numbers.{IsTooLarge};
+ghost use Rattle.compose_imports.specs.Imported.{AreImported};
 ghost use Rattle.compose_image.specs.Instances.{exported_parts, with_export, with_instance, written};
 
 use crate::components::write_components;
@@ -18,22 +19,11 @@ use crate::output::Output;
 use crate::tables::Tables;
 use crate::used::used_components;
 use crate::wires::wires_by_target;
-use comp_encoder::ComponentBuilder;
 use comp_format::EncodeError;
 use compose_check::Composition;
+use compose_imports::Imported;
 use compose_left::wires_by_import;
 use std::alloc::Global;
-use std::collections::BTreeMap;
-use warg_values::Text;
-
-/// Imports that are written.
-#[derive(Drop)]
-pub struct Imported {
-    /// The component that is built, with these imports and what they need.
-    pub builder: ComponentBuilder,
-    /// The index of the first import of each name.
-    pub names: BTreeMap<Text, u32>,
-}
 
 /// Writes instances, and exports of one of them, where one is exported.
 fn write_made(

@@ -3,6 +3,7 @@
 //! The terms are those of the Component Model's `Explainer.md`.
 #![tactic(auto)]
 
+mod agreed;
 mod components;
 mod encode;
 mod exports;
@@ -10,11 +11,19 @@ mod instances;
 mod lookups;
 mod output;
 mod part;
+mod refused;
+mod refusing;
 mod tables;
 mod used;
+mod whole;
 mod wires;
 
-pub use comp_encoder::{ComponentBuilder, EncodeError};
+pub use agreed::encode_agreed;
+pub use comp_encoder::EncodeError;
 pub use compose_check::Composition;
-pub use encode::{Imported, encode_behind};
-pub use warg_values::Text;
+pub use compose_imports::Imported;
+pub use compose_order::LeftImport;
+pub use encode::encode_behind;
+pub use refused::CompositionError;
+pub use refusing::{first_clash, first_hidden};
+pub use whole::encode_composition;

@@ -7,9 +7,8 @@ ghost use Rattle.std.specs.Option.{option_or};
 ghost use Rattle.std.specs.Ordering.{nat_cmp};
 ghost use Rattle.comp_format.specs.declared.error.EncodeError.TheVariants as encode_error;
 ghost use Rattle.comp_encoder.specs.Builder.{entries_of};
-ghost use Rattle.compose_check.specs.Composition.{composition_tree};
-ghost use Rattle.compose_encode.specs.Encoded.{singles};
-ghost use Rattle.compose_encode.specs.Encodable.{IsJoined};
+ghost use Rattle.compose_check.specs.Composition.{HasEnds, composition_tree, wiring};
+ghost use Rattle.compose_imports.specs.Imported.{singles};
 ghost use Rattle.compose_encode.specs.Held.{Holds, Items, WrittenItems, begun};
 ghost use Rattle.compose_encode.specs.Numbers.{IsTooLarge};
 ghost use Rattle.compose_encode.specs.Parts.{part_cmp, part_of};
@@ -127,7 +126,7 @@ fn write_wire(
     output: &mut Output,
     wire: Wire,
 ) -> Result<(), EncodeError>
-    requires { IsJoined (composition_tree composition.now) wire }
+    requires { HasEnds (wiring (composition_tree composition.now)) wire }
     ensures written { (imports : Items) (w : WrittenItems) → Holds imports output.old w
         → OnOk result (Holds imports output.new (with_parts (composition_tree composition.now) w (wire ∷ []))) }
     ensures too_large { (imports : Items) (w : WrittenItems) (n : ℕ) → Holds imports output.old w
@@ -155,7 +154,7 @@ pub fn write_parts(
     output: &mut Output,
     wires: &[Wire],
 ) -> Result<(), EncodeError>
-    requires { AllByRecursion (IsJoined (composition_tree composition.now)) wires.now }
+    requires { AllByRecursion (HasEnds (wiring (composition_tree composition.now))) wires.now }
     ensures written { (imports : Items) (w : WrittenItems) → Holds imports output.old w
         → OnOk result (Holds imports output.new (with_parts (composition_tree composition.now) w wires.now)) }
     ensures too_large { (imports : Items) (w : WrittenItems) (n : ℕ) → Holds imports output.old w

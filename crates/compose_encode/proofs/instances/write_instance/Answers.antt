@@ -6,21 +6,21 @@ use Rattle.std.proofs.lemmas.Result.{err_from_is_err_and}
 use Rattle.comp_format.specs.declared.error.EncodeError.{EncodeError}
 use Rattle.comp_format.specs.declared.error.EncodeError.TheVariants as encode_error
 use Rattle.comp_format.specs.declared.types.Arg.{Arg}
+use Rattle.compose_check.specs.Composition.{HasEnds, wiring}
 use Rattle.compose_image.specs.Instances.{args_of, by_source, component_index, wires_of, with_instance, with_parts}
-use Rattle.compose_encode.specs.Encodable.{IsJoined}
 use Rattle.compose_encode.specs.Held.{Holds, with_made}
 use Rattle.compose_encode.specs.Looked.{lent_tree}
 use Rattle.compose_encode.specs.Numbers.{IsTooLarge}
 use Rattle.compose_encode.proofs.Errors.{err_is}
 use Rattle.compose_encode.proofs.HeldLaws.{index_large, instance_behind, large_still}
-use Rattle.compose_encode.proofs.LookLaws.{IsNamedArg, args_named, joined_into}
+use Rattle.compose_encode.proofs.LookLaws.{IsNamedArg, args_named, ends_into}
 use Rattle.compose_encode.proofs.instances.write_instance.Goals as goal
 
 pub write_parts-requires : goal.write_parts-requires
 write_parts-requires c =
     let k = lent_tree c.args.tables.now in
     let same = c.deref.ensures.value ∙ c.in_ok-wires.ensures ∙ ap by_source (c.requires.wires.wires c.args.instance) in
-    subst (λ ws. AllByRecursion (IsJoined k) ws) (sym same) (joined_into k c.args.instance c.requires.wires.joined)
+    subst (λ ws. AllByRecursion (HasEnds (wiring k)) ws) (sym same) (ends_into k c.args.instance c.requires.wires.ends)
 
 pub returns-in_err-write_parts-clause-too_large : goal.returns-in_err-write_parts-clause-too_large
 returns-in_err-write_parts-clause-too_large c = λ define imports w n t h e.
@@ -54,7 +54,7 @@ add_instance-requires c =
     let held = subst (λ ws. Holds imports c.write_parts.new.output (with_parts k w ws)) same (c.in_ok-write_parts.ensures.written imports w c.requires.held.holds) in
     let args = c.deref-3.ensures.value ∙ c.in_ok-args.ensures c.requires.held.define imports (with_parts k w (wires_of k i)) c.requires.held.tables held in
     subst (λ (xs : List Arg). All IsNamedArg xs) (sym args)
-    (All-from_recursion IsNamedArg (args_of k imports (with_parts k w (wires_of k i)) i) (args_named k imports (with_parts k w (wires_of k i)) i c.requires.wires.joined c.requires.wires.named))
+    (All-from_recursion IsNamedArg (args_of k imports (with_parts k w (wires_of k i)) i) (args_named k imports (with_parts k w (wires_of k i)) i c.requires.wires.ends c.requires.wires.named))
 
 pub returns-clause-written : goal.returns-clause-written
 returns-clause-written c = λ define imports w t h.
