@@ -1,18 +1,18 @@
 -- A composition graph is a composition.
-use Rattle.std.proofs.Common.{◌≡◌, ◌∙◌, ap, sym, subst, refl, arith, ℕ, suc, ◌<◌, Bool, true, false, true≢false, cond, List, [], ◌∷◌, length, map, Option, Some, None}
-use Rattle.std.specs.Prelude.{◌==◌, ◌&&◌, find, is_some, slice_get}
+use Rattle.std.proofs.Common.{◌≡◌, ◌∙◌, sym, subst, refl, arith, ℕ, suc, ◌<◌, Bool, true, false, true≢false, cond, List, [], ◌∷◌, length, map, Option, Some, None}
+use Rattle.std.specs.Prelude.{◌==◌, ◌&&◌, is_some, option_map}
 use Rattle.std.specs.List.{AllByRecursion}
 use Rattle.std.proofs.lemmas.List.{length-map}
-use Rattle.std.proofs.lemmas.Option.{same_Some, slice_get_within}
+use Rattle.std.proofs.lemmas.Option.{slice_get_within}
 use Rattle.compose_left.specs.Wiring.{is_into as wire_is_into, wire_into}
-use Rattle.compose_left.specs.declared.wiring.Wire.{Wire}
 use Rattle.compose_check.specs.Checked.{IsCircle}
-use Rattle.compose_check.specs.Composition.{HaveOwnImports as WiresHaveOwnImports, IsBetween, IsComposition}
+use Rattle.compose_check.specs.Composition.{HasEnds, HaveOwnImports as WiresHaveOwnImports, IsBetween, IsComposition, wiring}
 use Rattle.compose_graph.specs.Composed.{component_id, composed, composed_component, composed_instance}
 use Rattle.compose_graph.specs.Wiring.{instance_id, place_among, place_of, wire_of}
 use Rattle.compose_graph.specs.Graph.{ComponentEntry, InstanceEntry, GraphTree, component_at, component_of, connection_into, fault_between, instance_at, is_into}
 use Rattle.compose_graph.specs.Kept.{HaveOwnImports, IsGraph, IsJoined}
 use Rattle.compose_graph.specs.declared.connection.Connection.{Connection}
+use Rattle.compose_graph.proofs.EndLaws.{has_ends}
 use Rattle.compose_graph.proofs.GraphLaws.{made_parts, there_is}
 use Rattle.compose_graph.proofs.ListLaws.{same_number}
 
@@ -39,6 +39,14 @@ instance_below (j ∷ is) id m e = one (id == j.id) refl e (instance_below is id
     one : (b : Bool) → (id == j.id) ≡ b → cond b (Some j) (instance_at is id) ≡ Some m → (instance_at is id ≡ Some m → place_of is id < length is) → at (id == j.id)
     one true h e rest = let first : at true = omega arith in subst at (sym h) first
     one false h e rest = let lt = rest e in let later : at false = omega (arith, lt) in subst at (sym h) later
+
+-- an instance that is there has its place among them
+pub instance_within : (is : List InstanceEntry) (id : ℕ) → is_some (option_map (λ (i : InstanceEntry). i.component) (instance_at is id)) ≡ true → place_of is id < length is
+instance_within is id there = by (instance_at is id) refl there
+  where
+    by : (o : Option InstanceEntry) → instance_at is id ≡ o → is_some (option_map (λ (i : InstanceEntry). i.component) o) ≡ true → place_of is id < length is
+    by None e h = absurd (true≢false (sym h))
+    by (Some m) e h = instance_below is id m e
 
 -- no two numbers that are there have one place
 one_place : (is : List InstanceEntry) (a b : ℕ) (m : InstanceEntry) → instance_at is a ≡ Some m → place_of is a ≡ place_of is b → a ≡ b
@@ -130,6 +138,7 @@ is_composition g k = record {
       (λ i there. let c = there_is (component_at g.components i.component) there in subst (λ n. composed_instance g.components i < n) (sym (length-map g.components composed_component)) (component_below g.components i.component c.0 c.1))
       g.instances k.made;
   joined = all_mapped (IsJoined g) (IsBetween (length (map (composed_instance g.components) g.instances))) (wire_of g.instances) (between g) g.connections k.joined;
+  ends = all_mapped (IsJoined g) (HasEnds (wiring (composed g))) (wire_of g.instances) (has_ends g) g.connections k.joined;
   apart = own_imports g g.connections k.joined k.apart;
 }
 

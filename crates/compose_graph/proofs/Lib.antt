@@ -10,5 +10,7 @@ mod GraphLaws
 mod HeldLaws
 mod FaultLaws
 mod WiringLaws
+mod EndLaws
 mod ComposedLaws
 mod PlaceLaws
+mod NamedLaws

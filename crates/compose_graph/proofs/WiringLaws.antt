@@ -41,19 +41,19 @@ wire_fits (Export name x) e s t fits = fits
 
 -- ---- what a connection joins
 
-record Parts (g : GraphTree) (c : Connection) : Type 0 where
-  source : ComponentEntry
-  target : ComponentEntry
-  given : Given
-  asked : List ℕ × EntityTree
-  from : component_of g c.source ≡ Some source
-  into : component_of g c.target ≡ Some target
-  gives : given_of source.shape c.export ≡ Some given
-  asks : slice_get target.shape.imports c.import ≡ Some asked
-  fits : fits_loosely (given_entity given) asked.1 ≡ true
+pub record Parts (g : GraphTree) (c : Connection) : Type 0 where
+  pub source : ComponentEntry
+  pub target : ComponentEntry
+  pub given : Given
+  pub asked : List ℕ × EntityTree
+  pub from : component_of g c.source ≡ Some source
+  pub into : component_of g c.target ≡ Some target
+  pub gives : given_of source.shape c.export ≡ Some given
+  pub asks : slice_get target.shape.imports c.import ≡ Some asked
+  pub fits : fits_loosely (given_entity given) asked.1 ≡ true
 
 module _ (g : GraphTree) (c : Connection) where
-  parts : IsJoined g c → Parts g c
+  pub parts : IsJoined g c → Parts g c
   parts joined = ends (component_of g c.source) (component_of g c.target) refl refl joined
     where
       fit : (x y : ComponentEntry) (given : Given) (asked : List ℕ × EntityTree) (b : Bool) → component_of g c.source ≡ Some x → component_of g c.target ≡ Some y → slice_get y.shape.imports c.import ≡ Some asked → given_of x.shape c.export ≡ Some given
@@ -78,19 +78,21 @@ module _ (g : GraphTree) (c : Connection) where
 
 -- ---- instances by their places
 
-place_there : (cs : List ComponentEntry) (is : List InstanceEntry) (id : ℕ) (m : InstanceEntry) → instance_at is id ≡ Some m → slice_get (map (shape_of_instance cs) is) (place_of is id) ≡ Some (shape_of_instance cs m)
-place_there cs [] id m e = absurd cc
-place_there cs (j ∷ is) id m e = one (id == j.id) refl e (place_there cs is id m)
-  where
-    one : (b : Bool) → (id == j.id) ≡ b → cond b (Some j) (instance_at is id) ≡ Some m → (instance_at is id ≡ Some m → slice_get (map (shape_of_instance cs) is) (place_of is id) ≡ Some (shape_of_instance cs m))
-        → slice_get (map (shape_of_instance cs) (j ∷ is)) (place_of (j ∷ is) id) ≡ Some (shape_of_instance cs m)
-    one true h e rest = (λ i. slice_get (map (shape_of_instance cs) (j ∷ is)) (cond (h i) 0 (suc (place_of is id)))) ∙ ap (λ (k : InstanceEntry). Some (shape_of_instance cs k)) (same_Some j m e)
-    one false h e rest = (λ i. slice_get (map (shape_of_instance cs) (j ∷ is)) (cond (h i) 0 (suc (place_of is id)))) ∙ rest e
+module _ {X : Type 0} (f : InstanceEntry → X) where
+  -- an instance stands at its place, whatever is shown of instances
+  pub place_there : (is : List InstanceEntry) (id : ℕ) (m : InstanceEntry) → instance_at is id ≡ Some m → slice_get (map f is) (place_of is id) ≡ Some (f m)
+  place_there [] id m e = absurd cc
+  place_there (j ∷ is) id m e = one (id == j.id) refl e (place_there is id m)
+    where
+      one : (b : Bool) → (id == j.id) ≡ b → cond b (Some j) (instance_at is id) ≡ Some m → (instance_at is id ≡ Some m → slice_get (map f is) (place_of is id) ≡ Some (f m))
+          → slice_get (map f (j ∷ is)) (place_of (j ∷ is) id) ≡ Some (f m)
+      one true h e rest = (λ i. slice_get (map f (j ∷ is)) (cond (h i) 0 (suc (place_of is id)))) ∙ ap (λ (k : InstanceEntry). Some (f k)) (same_Some j m e)
+      one false h e rest = (λ i. slice_get (map f (j ∷ is)) (cond (h i) 0 (suc (place_of is id)))) ∙ rest e
 
 shape_there : (g : GraphTree) (id : ℕ) (x : ComponentEntry) → component_of g id ≡ Some x → slice_get (map (shape_of_instance g.components) g.instances) (place_of g.instances id) ≡ Some x.shape
 shape_there g id x e =
     let m = made_parts g.components g.instances id x e in
-    place_there g.components g.instances id m.made m.there
+    place_there (shape_of_instance g.components) g.instances id m.made m.there
     ∙ ap (λ (o : Option ComponentEntry). Some (option_map_or (λ (c : ComponentEntry). c.shape) o no_shape)) m.from
 
 -- the connection of a wire that is found

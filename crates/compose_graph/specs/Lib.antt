@@ -11,3 +11,4 @@ pub mod Faults
 pub mod Wiring
 pub mod Composed
 pub mod Judged
+pub mod Encoding

@@ -29,7 +29,7 @@ pub struct CompositionGraph<'a> {
     /// The components.
     components: Components<'a>,
     /// The instances.
-    instances: Instances,
+    pub(crate) instances: Instances,
     /// The connections.
     connections: Connections,
 }

@@ -7,11 +7,11 @@ use std::alloc::Global;
 use std::test::Fail;
 
 /// A component that imports an instance of a function `f` as `x`, and exports it as `y`.
-const THROUGH: &[u8] =
+pub const THROUGH: &[u8] =
     b"\0asm\r\0\x01\0\x07\x0e\x01\x42\x02\x01\x40\0\x01\0\x04\0\x01f\x01\0\x0a\x06\x01\0\x01x\x05\0\x0b\x07\x01\0\x01y\x05\0\0";
 
 /// A component that imports a function as `x`, and one that imports it as `X`.
-const FUNCTION: &[u8] = b"\0asm\r\0\x01\0\x07\x05\x01\x40\0\x01\0\x0a\x06\x01\0\x01x\x01\0";
+pub const FUNCTION: &[u8] = b"\0asm\r\0\x01\0\x07\x05\x01\x40\0\x01\0\x0a\x06\x01\0\x01x\x01\0";
 
 const CAPITAL: &[u8] = b"\0asm\r\0\x01\0\x07\x05\x01\x40\0\x01\0\x0a\x06\x01\0\x01X\x01\0";
 

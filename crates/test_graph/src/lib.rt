@@ -5,3 +5,5 @@
 mod calls;
 #[cfg(test)]
 mod check;
+#[cfg(test)]
+mod encode;

@@ -1,7 +1,6 @@
 use Rattle.std.proofs.Common.{◌≡◌, ◌++◌, ℕ, map}
 use Rattle.compose_check.specs.Composition.{component_tree}
 use Rattle.compose_graph.specs.Composed.{composed_component}
-use Rattle.compose_graph.specs.Graph.{ComponentEntry}
 use Rattle.compose_graph.specs.Listed.{component_entries, entry_of}
 use Rattle.compose_graph.specs.declared.part.Part.{Part}
 use Rattle.compose_graph.proofs.components.Components.list.Given as goal

@@ -1,10 +1,8 @@
-use Rattle.std.proofs.Common.{◌≡◌, ◌∙◌, ap, sym, subst, ℕ, List, map}
-use Rattle.compose_check.specs.Composition.{composition_tree}
-use Rattle.compose_left.specs.declared.wiring.Wire.{Wire}
-use Rattle.compose_graph.specs.Composed.{FindsPlaces, component_id, composed, composed_component, composed_instance}
-use Rattle.compose_graph.specs.Graph.{ComponentEntry, InstanceEntry}
+use Rattle.std.proofs.Common.{◌≡◌, ◌∙◌, ap, subst, map}
+use Rattle.compose_graph.specs.Composed.{FindsPlaces, component_id, composed, composed_instance}
+use Rattle.compose_graph.specs.Graph.{InstanceEntry}
 use Rattle.compose_graph.specs.Listed.{HeldGraph, component_entries, graph_of}
-use Rattle.compose_graph.specs.Wiring.{instance_id, place_among, wire_of}
+use Rattle.compose_graph.specs.Wiring.{place_among, wire_of}
 use Rattle.compose_graph.proofs.PartLaws.{twice}
 use Rattle.compose_graph.proofs.graph.CompositionGraph.composition.Goals as goal
 
