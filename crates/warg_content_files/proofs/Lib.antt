@@ -1,0 +1,2 @@
+pub mod ContentFileLaws
+pub mod DigestLaws

@@ -1,0 +1,2 @@
+pub mod ContentFiles
+pub mod Shown
