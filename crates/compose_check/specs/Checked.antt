@@ -1,6 +1,6 @@
 -- Which compositions can be written, and by what others are refused: their wires have no circle and fit, and what they leave
 -- open agrees.
-use Rattle.std.specs.Prelude.{◌≡◌, ℕ, true, List, [], map, length, Some, Option, slice_get}
+use Rattle.std.specs.Prelude.{◌≡◌, ◌⊎◌, ℕ, true, List, [], map, length, Some, Option, slice_get}
 use Rattle.std.specs.List.{range_with_len}
 use Rattle.comp_entity.specs.Entity.{EntityTree}
 use Rattle.compose_agree.specs.Order.{IsOrder, all_of, is_ready}
@@ -9,10 +9,11 @@ use Rattle.compose_fit.specs.declared.misfit.Misfit.{Misfit}
 use Rattle.compose_fit.specs.declared.misfit.Unfit.TheVariants as unfit
 use Rattle.compose_left.specs.Origins.{placed}
 use Rattle.compose_left.specs.Wiring.{HasNoCircle, Wiring, shape_at}
+use Rattle.compose_naming.specs.Bits.{HaveBits, LacksBit}
 use Rattle.compose_order.specs.Agreed.{AreOrdered, HasNoPlace, IsCaseClash, IsUnbrought, NoClash}
 use Rattle.compose_needs.specs.Exports.{export_hides}
 use Rattle.compose_order.specs.Needs.{LeftTree}
-use Rattle.compose_needs.specs.Lefts.{lefts_of}
+use Rattle.compose_needs.specs.Lefts.{Lefts, lefts_of}
 use Rattle.compose_check.specs.Circles.{IsLastOnCircle}
 use Rattle.compose_check.specs.Composition.{ComponentTree, CompositionTree, sources_of, wiring}
 use Rattle.compose_check.specs.Open.{IsDisagreement, all_agree, left_open, lefts}
@@ -39,11 +40,12 @@ pub record IsComponentOf (c : CompositionTree) (instance : ℕ) (name : List ℕ
   pub named : name ≡ component.name
 
 -- What instances leave open agrees: all that is asked under one name merges, no names differ in letter case alone, all
--- that is mentioned can be had, and there is this order.
+-- that is mentioned can be had, there is this order, and each function has the naming bit as it is written.
 pub record IsAgreement (w : Wiring) (out : List LeftTree) : Type 0 where
   pub merges : all_agree [] (left_open w) ≡ true
   pub apart : NoClash (lefts w)
   pub ordered : AreOrdered (lefts_of w) (lefts w) out
+  pub bits : HaveBits out
 
 -- a composition that can be written, with the order of its instances and of what they leave open
 pub record IsSound (c : CompositionTree) (order : List ℕ) (out : List LeftTree) : Type 0 where
@@ -53,6 +55,16 @@ pub record IsSound (c : CompositionTree) (order : List ℕ) (out : List LeftTree
   pub agree : IsAgreement (wiring c) out
 
 -- ---- refusals, each with what held of those before it
+
+-- the name of the first left import, in their order, that has a function without the naming bit
+pub record IsWithoutBit (left : Lefts) (ls : List LeftTree) (name : List ℕ) : Type 0 where
+  pub out : List LeftTree
+  pub ordered : AreOrdered left ls out
+  pub lacks : LacksBit out name
+
+-- An import mentions what it can't have there, or has a function over a type with parts that no place named.
+abbrev pub IsUnfounded : Lefts → List LeftTree → List ℕ → Type 0
+IsUnfounded left ls name = IsUnbrought left ls name ⊎ IsWithoutBit left ls name
 
 -- the wire that does not fit, by the name of its import and the cause
 abbrev pub IsUnfitWire : Why → Misfit → Type 0
@@ -76,7 +88,7 @@ IsIncompatible w (why.NotInstance import) = (m : Misfit) × IsMisfit w m × IsUn
 IsIncompatible w (why.Unfit export import) = (m : Misfit) × IsMisfit w m × IsUnfitWire (why.Unfit export import) m
 IsIncompatible w (why.Disagree name) = IsOpenRefusal w (IsDisagreement (left_open w) name)
 IsIncompatible w (why.CaseClash earlier later) = IsMergedRefusal w (IsCaseClash (lefts w) earlier later)
-IsIncompatible w (why.NeedsUnbrought name) = IsMergedRefusal w (NoClash (lefts w) × IsUnbrought (lefts_of w) (lefts w) name)
+IsIncompatible w (why.NeedsUnbrought name) = IsMergedRefusal w (NoClash (lefts w) × IsUnfounded (lefts_of w) (lefts w) name)
 IsIncompatible w (why.Circle name) = IsMergedRefusal w (NoClash (lefts w) × HasNoPlace (lefts_of w) (lefts w) name)
 IsIncompatible w (why.ExportNeeds name) = ⊥
 

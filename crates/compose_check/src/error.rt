@@ -19,7 +19,8 @@ pub enum Why {
     /// Two names differ in the case of letters alone: the one that is needed first, and the other.
     #[error("`{0}` and `{1}` differ in the case of letters alone: connect one of them, or give it another name")]
     CaseClash(Text, Text),
-    /// The import of this name mentions a type that it can't have there.
+    /// The import of this name mentions a type that it can't have there, or a function in it a type of which a part has
+    /// no name where it is written.
     #[error("the import `{0}` mentions a type that it can't have there: connect it, or take another release of it")]
     NeedsUnbrought(Text),
     /// The import of this name has no place in an order, since imports need types of each other in a circle.

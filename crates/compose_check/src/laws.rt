@@ -12,7 +12,8 @@ ghost use Rattle.compose_left.specs.Wiring.{Wiring};
 ghost use Rattle.compose_order.specs.Known.{Imports};
 
 use compose_fit::laws::what_does_not_fit;
-use compose_order::laws::outcomes_exclude_each_other;
+use compose_naming::laws::functions_have_bits_or_not;
+use compose_order::laws::{outcomes_are_one, outcomes_exclude_each_other};
 
 /// A composition that can be written is refused by no error but want of memory.
 pub fn what_can_be_written_is_not_refused()
@@ -21,6 +22,8 @@ pub fn what_can_be_written_is_not_refused()
 {
     what_does_not_fit();
     outcomes_exclude_each_other();
+    outcomes_are_one();
+    functions_have_bits_or_not();
 }
 
 /// Where instances are given to each other in a circle, there is no other cause; and what is asked under one name does

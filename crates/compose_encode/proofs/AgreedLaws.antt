@@ -7,7 +7,7 @@ use Rattle.comp_format.specs.Items.{ItemTree}
 use Rattle.compose_order.specs.Needs.{LeftTree}
 use Rattle.compose_check.specs.Composition.{CompositionTree}
 use Rattle.compose_image.specs.Imports.{component_import, component_of}
-use Rattle.compose_image.specs.Settled.{settled}
+use Rattle.compose_naming.specs.Settled.{settled}
 use Rattle.compose_imports.specs.Begun.{imports_numbered}
 use Rattle.compose_imports.specs.Calls.{HasNamedCalls}
 use Rattle.compose_encode.specs.Encoded.{IsTooLargeFor}

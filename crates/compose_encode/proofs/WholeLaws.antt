@@ -6,7 +6,7 @@ use Rattle.compose_needs.specs.Exports.{component_hides}
 use Rattle.compose_order.specs.Needs.{LeftTree}
 use Rattle.compose_check.specs.Composition.{ComponentTree, CompositionTree}
 use Rattle.compose_image.specs.Imports.{component_import, component_of, imports_of, used, used_components}
-use Rattle.compose_image.specs.Settled.{settled}
+use Rattle.compose_naming.specs.Settled.{settled}
 use Rattle.compose_image.specs.Writable.{HaveOwnNames, is_of}
 use Rattle.compose_encode.specs.Refusing.{first_of, has_name, hidden_at, hidden_in, name_left}
 use Rattle.compose_encode.specs.Whole.{HaveComponentNames, hides, shared_name}

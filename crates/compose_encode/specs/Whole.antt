@@ -83,9 +83,10 @@ pub record IsTooLargeIn (c : CompositionTree) (define : Bool) (export : Option �
 
 abbrev pub IsRefusedBy : CompositionTree → Bool → Option ℕ → CheckError → Type 0
 IsRefusedBy c define export (check.Incompatible (why.ExportNeeds name)) = IsHidden c define export name
+IsRefusedBy c define export check.Memory = ⊥
 IsRefusedBy c define export e = IsCheckRefusal c e
 
--- why there are no bytes; want of memory has no cause here
+-- why there are no bytes; want of memory has no cause here, and is told in one way alone
 abbrev pub IsEncodeRefusal : CompositionTree → Bool → Option ℕ → CompositionError → Type 0
 IsEncodeRefusal c define export (refusal.Refused e) = IsRefusedBy c define export e
 IsEncodeRefusal c define export (refusal.ImportNameClash name) = IsNameClash c define export name

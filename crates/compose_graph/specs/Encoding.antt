@@ -42,9 +42,10 @@ pub record IsInvalid (g : GraphTree) (o : EncodeOptions) (e : ShapeError) : Type
 
 abbrev pub IsRefusedBy : GraphTree → EncodeOptions → CheckError → Type 0
 IsRefusedBy g o (check.Incompatible (why.ExportNeeds name)) = IsHidden (composed g) o.define_components (export_place g o) name
+IsRefusedBy g o check.Memory = ⊥
 IsRefusedBy g o e = IsJudgement g e
 
--- why a graph is not encoded; want of memory has no cause here
+-- why a graph is not encoded; want of memory has no cause here, and is told in one way alone
 abbrev pub IsComposeRefusal : GraphTree → EncodeOptions → ComposeError → Type 0
 IsComposeRefusal g o refusal.NoExportInstance = HasNoExport g o
 IsComposeRefusal g o (refusal.Check e) = IsRefusedBy g o e

@@ -14,7 +14,7 @@ use Rattle.comp_scope.specs.Image.{Image, Left, OfComponent, Progress, nothing_s
 use Rattle.comp_scope.specs.Spaces.{sort_of}
 use Rattle.compose_order.specs.Needs.{LeftTree}
 use Rattle.compose_check.specs.Composition.{ComponentTree, CompositionTree}
-use Rattle.compose_image.specs.Settled.{settled}
+use Rattle.compose_naming.specs.Settled.{settled}
 use Rattle.compose_image.specs.Imports.{component_import, imports_of, used_components}
 use Rattle.compose_image.specs.Instances.{component_items, import_index}
 use Rattle.compose_image.specs.Writable.{HaveOwnNames, is_of}

@@ -12,7 +12,7 @@ use Rattle.compose_agree.specs.Order.{Takes, all_of, has, is_ready}
 use Rattle.compose_order.specs.Needs.{LeftTree}
 use Rattle.compose_check.specs.Composition.{CompositionTree, IsComposition}
 use Rattle.compose_check.specs.Checked.{IsInstanceOrder, IsSound, sources}
-use Rattle.compose_image.specs.Settled.{settled}
+use Rattle.compose_naming.specs.Settled.{settled}
 use Rattle.compose_image.specs.Imports.{import_items, imports_of}
 use Rattle.compose_image.specs.Instances.{Part, Written, component_items, component_rank, export_of, exported_parts, import_index, open_imports, part_index, rank, shape_of, wires_of, with_export, with_instance, with_part, with_parts, written}
 use Rattle.compose_image.specs.Writable.{HaveOwnNames}

@@ -15,7 +15,7 @@ use Rattle.compose_writing.specs.Scopes.{WrittenScope, Wrote, wrote_as, declared
 use Rattle.compose_writing.specs.WriteEntities.{write_entity, write_type, write_import, write_resource, with_named, write_also, counted}
 use Rattle.comp_entity.specs.Names.{OfResource}
 use Rattle.compose_meaning.specs.Items.{items_for}
-use Rattle.compose_image.specs.Settled.{name_in}
+use Rattle.compose_naming.specs.Settled.{name_in}
 use Rattle.compose_image.specs.Imports.{write_left, write_lefts, all_called, called_too, place_in, import_items, items_in}
 use Rattle.compose_image.proofs.QuietLaws.{IsQuiet, Adds, QuietTo, Quietly, quiet_entity, Knowing, knowing_here, knowing_on, knowing_new, knowing_noted, counted_decls, one_behind}
 

@@ -7,7 +7,7 @@ use Rattle.compose_needs.specs.Lefts.{lefts_of}
 use Rattle.compose_order.specs.Agreed.{AreOrdered, all_needs, import_at_number, in_turn}
 use Rattle.compose_order.specs.Needs.{LeftTree}
 use Rattle.compose_check.specs.Open.{Asked, left_open, lefts, merged_with, with_asked}
-use Rattle.compose_image.specs.Settled.{settled}
+use Rattle.compose_naming.specs.Settled.{settled}
 use Rattle.compose_image.specs.Writable.{HaveOwnNames, is_of}
 use Rattle.compose_image.proofs.ListLaws.{all_append, all_at, all_none, none_found}
 use Rattle.compose_image.proofs.OrderLaws.{once, times, times_before, times_first}

@@ -22,7 +22,7 @@ use Rattle.compose_order.specs.Needs.{LeftTree}
 use Rattle.compose_check.specs.Composition.{CompositionTree, shape_numbered, wiring}
 use Rattle.compose_check.specs.Checked.{IsAgreement}
 use Rattle.compose_check.specs.Open.{Asked, agrees, all_agree, asked_by_all, asked_from, is_named, left_open, lefts, merged_with, with_asked}
-use Rattle.compose_image.specs.Settled.{names_of, settled, written_as}
+use Rattle.compose_naming.specs.Settled.{names_of, settled, written_as}
 use Rattle.compose_image.specs.Instances.{open_from, open_imports, shape_of}
 use Rattle.compose_image.proofs.ListLaws.{AnyOf, all_after, all_left, all_right, any_left, any_right, any_place}
 use Rattle.compose_image.proofs.OrderLaws.{is_in_order}

@@ -4,7 +4,7 @@ use Rattle.std.specs.Prelude.{codes}
 use Rattle.comp_entity.specs.Entity.{Name, made, ValueTree, EnumOf, Value, EntityTree, IsType, IsFunc, IsInstance, entry, no_entry}
 use Rattle.compose_left.specs.declared.spots.Spot.{Spot}
 use Rattle.compose_order.specs.Needs.{LeftTree}
-use Rattle.compose_image.specs.Settled.{names_of, settled}
+use Rattle.compose_naming.specs.Settled.{names_of, settled}
 
 abbrev letters : Name → ValueTree
 letters n = EnumOf (Some n) (codes "e" ∷ [])

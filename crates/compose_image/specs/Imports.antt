@@ -15,7 +15,7 @@ use Rattle.compose_writing.specs.Scopes.{WrittenScope, outermost}
 use Rattle.compose_writing.specs.WriteEntities.{write_also, write_entity, write_import}
 use Rattle.compose_meaning.specs.Items.{items_for}
 use Rattle.compose_check.specs.Composition.{ComponentTree, CompositionTree}
-use Rattle.compose_image.specs.Settled.{name_in, settled}
+use Rattle.compose_naming.specs.Settled.{name_in, settled}
 
 -- the components of which instances are made, by their numbers, in the order added
 abbrev pub is_used : CompositionTree → ℕ → Bool

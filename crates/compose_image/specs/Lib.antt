@@ -1,4 +1,3 @@
-pub mod Settled
 pub mod Imports
 pub mod Instances
 pub mod CompositionImage

@@ -1,5 +1,3 @@
-mod NameLaws
-mod PathLaws
 mod FoundLaws
 mod LeftLaws
 mod AddedLaws

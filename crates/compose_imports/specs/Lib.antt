@@ -1,4 +1,3 @@
-pub mod Names
 pub mod Calls
 pub mod Imported
 pub mod Begun

@@ -8,12 +8,9 @@ mod calls;
 mod imported;
 pub mod laws;
 mod left;
-mod paths;
-mod settling;
 
 pub use comp_encoder::{ComponentBuilder, EncodeError};
 pub use compose_check::Composition;
 pub use compose_order::LeftImport;
 pub use imported::{Imported, write_imports};
-pub use settling::{settle, settled};
 pub use warg_values::{Memory, Text};

@@ -14,7 +14,7 @@ use Rattle.compose_left.specs.Spots.{named_by, named_type}
 use Rattle.compose_needs.specs.Lefts.{Lefts}
 use Rattle.compose_needs.specs.Mentioned.{has}
 use Rattle.compose_order.specs.Needs.{LeftTree, thing_of}
-use Rattle.compose_image.specs.Settled.{names_of, settled, written_as}
+use Rattle.compose_naming.specs.Settled.{names_of, settled, written_as}
 use Rattle.compose_known.proofs.BehindLaws.{key_of}
 use Rattle.compose_known.proofs.CalledLaws.{CallsWhatStands}
 use Rattle.compose_known.proofs.KnowLaws.{leaf_keys, mention_itself}

@@ -13,7 +13,7 @@ use Rattle.compose_check.specs.Composition.{ComponentTree, CompositionTree, shap
 use Rattle.compose_check.specs.Open.{lefts}
 use Rattle.compose_image.specs.Imports.{component_import, imports_of, used_components}
 use Rattle.compose_image.specs.Writable.{AreWritable}
-use Rattle.compose_image.specs.Settled.{settled}
+use Rattle.compose_naming.specs.Settled.{settled}
 use Rattle.compose_known.specs.Importable.{IsImportable, KeepsImports, NamesImports}
 use Rattle.compose_known.specs.InOrder.{IsInOrder}
 use Rattle.compose_known.proofs.ComponentLaws.{component_known}
@@ -41,7 +41,7 @@ shapes_keep cs (n ∷ ns) keep names = (shape_keeps cs n keep names, shapes_keep
 -- the rule by which imports are brought, as the definition decides it
 abbrev pub BroughtRule : Type 0
 BroughtRule =
-    (left : ℕ → Option (List ℕ)) (ls : List LeftTree) (l : LeftTree) → is_brought left ls l ≡ true → IsBrought left ls l
+    (left : ℕ → Option (List ℕ)) (l : LeftTree) → is_brought left l ≡ true → IsBrought left l
 
 module _ (rule : BroughtRule) (c : CompositionTree) (order : List ℕ) (out : List LeftTree) (sound : IsSound c order out)
     (keep : AllByRecursion KeepsImports c.components) (names : AllByRecursion NamesImports c.components)

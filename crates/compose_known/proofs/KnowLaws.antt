@@ -17,7 +17,7 @@ use Rattle.compose_order.specs.Needs.{LeftTree}
 use Rattle.compose_writing.specs.Keys.{At, Index, InInstance, KnownThings, known_at, from_within}
 use Rattle.compose_writing.specs.Scopes.{WrittenScope, change_top, declared, knows, with_known}
 use Rattle.compose_writing.specs.WriteEntities.{at_end, counted, leaves_known, note_all, note_here, note_new, noted, with_named, write_also, write_entity, write_import}
-use Rattle.compose_image.specs.Settled.{name_in}
+use Rattle.compose_naming.specs.Settled.{name_in}
 use Rattle.compose_image.specs.Imports.{all_called, called_too, place_in, write_left}
 use Rattle.compose_known.proofs.StayLaws.{shells, written_knows, entity_stays}
 use Rattle.compose_known.proofs.MentionLaws.{name_is, name_itself}

@@ -19,4 +19,3 @@ mod ChangedLaws
 mod StandingLaws
 mod CalledLaws
 mod SettledLaws
-mod NamedRows

@@ -154,6 +154,7 @@ sound_row = record {
       };
       written = refl;
     };
+    bits = record { scopes = _; are = refl };
   };
 }
 

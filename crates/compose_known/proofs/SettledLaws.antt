@@ -20,7 +20,7 @@ use Rattle.compose_needs.specs.Mentioned.{has, mentioned, outwards}
 use Rattle.compose_needs.specs.Tied.{are_tied, entity_holds_tied}
 use Rattle.compose_order.specs.Needs.{LeftTree, called_at, is_at, is_bound, is_of, is_own, left_place, left_places, thing_of}
 use Rattle.compose_writing.specs.Conditions.{KeepsForm, is_known}
-use Rattle.compose_image.specs.Settled.{WrittenNames, along_leaves, at_leaf, called_as, is_type, name_in, names_of, settled, written_as}
+use Rattle.compose_naming.specs.Settled.{WrittenNames, along_leaves, at_leaf, called_as, is_type, name_in, names_of, settled, written_as}
 use Rattle.compose_known.specs.InOrder.{IsInOrder}
 use Rattle.compose_known.proofs.BehindLaws.{And, LeafApart, Leaves, Met, asked_mentioned, asked_of, entity_goes, key_of, leaves_apart}
 use Rattle.compose_known.proofs.CalledLaws.{CallsWhatStands, IsCalledAsItStands, called_as_it_stands}

@@ -8,7 +8,7 @@ use Rattle.compose_writing.specs.WriteValues.{write_defined, write_func, write_p
 use Rattle.compose_writing.specs.WriteEntities.{note_all, note_here, with_named, write_entity}
 use Rattle.compose_check.specs.Open.{lefts}
 use Rattle.compose_image.specs.Imports.{all_called, write_lefts}
-use Rattle.compose_image.specs.Settled.{names_of, settled}
+use Rattle.compose_naming.specs.Settled.{names_of, settled}
 use Rattle.compose_known.proofs.Rows.{a_type, f, g, left_p, left_t, r, takes, turned}
 
 -- both numbers of the enum are written as the one under which it stands in p

@@ -7,14 +7,14 @@ use Rattle.std.proofs.lemmas.Slice.Eq.{bytes_eq-Decides}
 use Rattle.compose_left.specs.declared.spots.Thing.{Thing}
 use Rattle.compose_left.specs.Wiring.{Wiring}
 use Rattle.compose_needs.specs.Lefts.{Lefts, lefts_of}
-use Rattle.compose_needs.specs.Mentioned.{has, mentioned, mentioned_by_functions}
+use Rattle.compose_needs.specs.Mentioned.{has, mentioned}
 use Rattle.compose_needs.specs.Tied.{are_tied, entity_holds_tied}
 use Rattle.compose_order.specs.Agreed.{AreOrdered}
 use Rattle.compose_order.specs.Brought.{Brings, IsBrought}
-use Rattle.compose_order.specs.Needs.{LeftTree, have_bits, is_brought, is_of, is_own, left_places, thing_of}
+use Rattle.compose_order.specs.Needs.{LeftTree, is_brought, is_of, is_own, left_places, thing_of}
 use Rattle.compose_writing.specs.Scopes.{WrittenScope}
 use Rattle.compose_known.specs.InOrder.{IsInOrder}
-use Rattle.compose_image.specs.Settled.{settled}
+use Rattle.compose_naming.specs.Settled.{settled}
 use Rattle.compose_check.specs.Open.{Asked, all_agree, left_open, lefts}
 use Rattle.compose_image.specs.Writable.{AreWritable}
 use Rattle.compose_known.proofs.AgreeLaws.{stands_keyed}
@@ -76,12 +76,12 @@ module _ (w : Wiring) (keep : AllByRecursion ShapeKeeps w.shapes) where
 
   module _ (agreed : all_agree [] (left_open w) ≡ true)
       (orders : AllByRecursion (λ (l : LeftTree). IsInOrder (settled l).entity) (lefts w))
-      (rule : (ls : List LeftTree) (l : LeftTree) → is_brought (lefts_of w) ls l ≡ true → IsBrought (lefts_of w) ls l)
-      (brought : AllByRecursion (λ (l : LeftTree). is_brought (lefts_of w) (lefts w) l ≡ true) (lefts w)) where
+      (rule : (l : LeftTree) → is_brought (lefts_of w) l ≡ true → IsBrought (lefts_of w) l)
+      (brought : AllByRecursion (λ (l : LeftTree). is_brought (lefts_of w) l ≡ true) (lefts w)) where
     others : (n : ℕ) (l : LeftTree) → slice_get (lefts w) n ≡ Some l → (t : Thing) → has (mentioned l.entity) t ≡ true
         → is_own (lefts_of w) l t ≡ false → NeedsOther (lefts_of w) (lefts w) l t
     others n l there t h own =
-        let b = rule (lefts w) l (all_at (λ (l : LeftTree). is_brought (lefts_of w) (lefts w) l ≡ true)
+        let b = rule l (all_at (λ (l : LeftTree). is_brought (lefts_of w) l ≡ true)
         (lefts w) n l brought there) in
         let m = some_of (lefts_of w t.number) (b.origins t
         (h, λ brings. no_truth (is_own (lefts_of w) l t) (brings_own (lefts_of w) l t brings) own)) in
@@ -122,14 +122,12 @@ module _ (w : Wiring) (keep : AllByRecursion ShapeKeeps w.shapes) where
     all_fit : (n : ℕ) (l : LeftTree) → slice_get (lefts w) n ≡ Some l → IsFit (lefts_of w) (lefts w) l
     all_fit n l there =
         let form = all_at KeepsLeft (lefts w) n l all_formed there in
-        let b = all_at (λ (l : LeftTree). is_brought (lefts_of w) (lefts w) l ≡ true) (lefts w) n l brought there in
-        let parts = and_parts (are_tied [] (left_places (lefts_of w) l))
-        (entity_holds_tied l.entity && have_bits (lefts_of w) (lefts w) l (mentioned_by_functions l.entity)) b in
+        let b = all_at (λ (l : LeftTree). is_brought (lefts_of w) l ≡ true) (lefts w) n l brought there in
+        let parts = and_parts (are_tied [] (left_places (lefts_of w) l)) (entity_holds_tied l.entity) b in
         record {
           named = form.0;
           form = form.1;
-          tied = (and_parts (entity_holds_tied l.entity)
-              (have_bits (lefts_of w) (lefts w) l (mentioned_by_functions l.entity)) parts.1).0;
+          tied = parts.1;
           places = parts.0;
           calls = all_at CallsWhatStands (lefts w) n l calls there;
           in_order = all_at (λ (l : LeftTree). IsInOrder (settled l).entity) (lefts w) n l orders there;
@@ -139,7 +137,7 @@ module _ (w : Wiring) (keep : AllByRecursion ShapeKeeps w.shapes) where
 
   pub agreed_writable : (out : List LeftTree) (ms : List WrittenScope) → IsOpen ms → all_agree [] (left_open w) ≡ true
       → AllByRecursion (λ (l : LeftTree). IsInOrder (settled l).entity) (lefts w)
-      → ((ls : List LeftTree) (l : LeftTree) → is_brought (lefts_of w) ls l ≡ true → IsBrought (lefts_of w) ls l)
+      → ((l : LeftTree) → is_brought (lefts_of w) l ≡ true → IsBrought (lefts_of w) l)
       → AreOrdered (lefts_of w) (lefts w) out → AreWritable (map settled out) ms
   agreed_writable out ms o agreed orders rule ordered =
       subst (λ ls. AreWritable (map settled ls) ms) (sym ordered.written)

@@ -21,7 +21,7 @@ use Rattle.compose_order.specs.Needs.{LeftTree, is_own, left_places, need_of, ot
 use Rattle.compose_writing.specs.Conditions.{KeepsForm}
 use Rattle.compose_writing.specs.Scopes.{WrittenScope, knows}
 use Rattle.compose_image.specs.Writable.{AreWritable}
-use Rattle.compose_image.specs.Settled.{names_of, settled, written_as}
+use Rattle.compose_naming.specs.Settled.{names_of, settled, written_as}
 use Rattle.compose_known.specs.InOrder.{IsInOrder}
 use Rattle.compose_known.proofs.BehindLaws.{key_of}
 use Rattle.compose_known.proofs.KnowLaws.{Grows, Imported, IsOpen, KnowsType, each_known, leaf_keys, left_imported}

@@ -13,7 +13,7 @@ ghost use Rattle.compose_check.specs.Composition.{CompositionTree, wiring};
 ghost use Rattle.compose_check.specs.Open.{lefts};
 ghost use Rattle.compose_image.specs.Imports.{imports_of, used_components};
 ghost use Rattle.compose_image.specs.Writable.{AreWritable};
-ghost use Rattle.compose_image.specs.Settled.{settled};
+ghost use Rattle.compose_naming.specs.Settled.{settled};
 ghost use Rattle.compose_known.specs.Importable.{IsImportable, KeepsImports, NamesImports};
 ghost use Rattle.compose_known.specs.InOrder.{IsApart, IsInOrder};
 

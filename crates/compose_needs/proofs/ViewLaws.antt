@@ -18,7 +18,6 @@ use Rattle.comp_entity.specs.Views.{value_tree, value_step, values_of, fields_of
 use Rattle.compose_left.specs.Renaming.{case_tree, field_tree}
 use Rattle.compose_left.specs.declared.spots.Thing.{Thing}
 use Rattle.compose_needs.specs.Mentioned.{outward, outwards}
-use Rattle.compose_needs.specs.Bits.{cases_bit, payload_bit, value_bit, values_bit}
 use Rattle.compose_needs.specs.Payloads.{boxed_payload, in_field}
 
 pub record_is : (p : Option Name) (fs : Vec (List ℕ × ValueShape) Global) → value_tree (value.RecordOf p fs) ≡ RecordOf p (fields_of (map field_tree fs.items))
@@ -49,15 +48,6 @@ variant_mentions d p fs = ap (in_value d) (variant_is p fs)
 
 pub tuple_mentions : (d : ℕ) (ts : Vec ValueShape Global) → in_value d (value_tree (value.TupleOf ts)) ≡ in_values d (values_of (map value_tree ts.items))
 tuple_mentions d ts = ap (in_value d) (tuple_is ts)
-
-pub record_bit : (p : Option Name) (fs : Vec (List ℕ × ValueShape) Global) → value_bit (value_tree (value.RecordOf p fs)) ≡ (is_some p && cases_bit (fields_of (map field_tree fs.items)))
-record_bit p fs = ap value_bit (record_is p fs)
-
-pub variant_bit : (p : Option Name) (fs : Vec (List ℕ × Option ValueShape) Global) → value_bit (value_tree (value.VariantOf p fs)) ≡ (is_some p && cases_bit (cases_of (map case_tree fs.items)))
-variant_bit p fs = ap value_bit (variant_is p fs)
-
-pub tuple_bit : (ts : Vec ValueShape Global) → value_bit (value_tree (value.TupleOf ts)) ≡ values_bit (values_of (map value_tree ts.items))
-tuple_bit ts = ap value_bit (tuple_is ts)
 
 -- entities
 
@@ -91,9 +81,6 @@ result_is (Some o) (Some e) = ap value_tree (sym (value.rolls-ResultOf (Some o) 
 
 pub result_mentions : (d : ℕ) (ok err : Option (Box ValueShape Global)) → in_value d (value_tree (value.ResultOf ok err)) ≡ in_payload d (boxed_payload ok) ++ in_payload d (boxed_payload err)
 result_mentions d ok err = ap (in_value d) (result_is ok err)
-
-pub result_bit : (ok err : Option (Box ValueShape Global)) → value_bit (value_tree (value.ResultOf ok err)) ≡ (payload_bit (boxed_payload ok) && payload_bit (boxed_payload err))
-result_bit ok err = ap value_bit (result_is ok err)
 
 pub next : (d n : ℕ) → n ≡ d + 1 → n ≡ suc d
 next d n e = omega (arith, e)

@@ -1,6 +1,5 @@
 pub mod Mentioned
 pub mod Payloads
-pub mod Bits
 pub mod Leaves
 pub mod Lefts
 pub mod Seen

@@ -25,27 +25,3 @@ outwards ms = flat_map outward ms
 -- the resources and the named types of the scopes around an entity that it mentions, from left to right
 abbrev pub mentioned : EntityTree → List Thing
 mentioned e = outwards (in_entity 0 e)
-
--- what the functions in an entity mention, through instances, and types of instances and of components
-abbrev mutual
-  pub by_type : ℕ → TypeShapeTree → List (ℕ × Mention)
-  by_type d (Value t) = []
-  by_type d (Resource r) = []
-  by_type d (Func f) = []
-  by_type d (Instance exports) = by_entries (suc d) exports
-  by_type d (Component imports exports) = by_entries (suc (suc d)) imports ++ by_entries (suc (suc d)) exports
-
-  pub by_entity : ℕ → EntityTree → List (ℕ × Mention)
-  by_entity d (IsType t) = by_type d t
-  by_entity d (IsFunc f) = in_func d f
-  by_entity d (IsInstance exports) = by_entries d exports
-  by_entity d (IsComponent imports exports) = by_entries (suc (suc d)) imports ++ by_entries (suc (suc d)) exports
-  by_entity d (IsModule m) = []
-  by_entity d IsOwnModule = []
-
-  pub by_entries : ℕ → Entries → List (ℕ × Mention)
-  by_entries d no_entry = []
-  by_entries d (entry name e mark es) = by_entity d e ++ by_entries d es
-
-abbrev pub mentioned_by_functions : EntityTree → List Thing
-mentioned_by_functions e = outwards (by_entity 0 e)

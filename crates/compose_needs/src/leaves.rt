@@ -4,7 +4,6 @@ ghost use Rattle.std.specs.Prelude.{◌≡◌, ◌++◌, ◌∷◌, [], IfOk};
 ghost use Rattle.comp_entity.specs.Views.{entity_tree, entries_of, named_entities};
 ghost use Rattle.compose_needs.specs.Leaves.{leaf_of, leaves_among, leaves_at, leaves_from};
 
-use crate::bits::entity_bit;
 use crate::mentions::mentioned;
 use comp_entity::Entity;
 use compose_left::{Path, Thing};
@@ -20,8 +19,6 @@ pub struct Leaf {
     pub named: Option<Thing>,
     /// What it mentions of the scopes around the entity.
     pub mentioned: Sequence<Thing>,
-    /// Whether it has the naming bit, which is asked of value types alone.
-    pub has_bit: bool,
 }
 
 /// Adds what stands at a path, which is no instance.
@@ -38,7 +35,6 @@ fn push_leaf(
         path: path.try_clone(alloc)?,
         named: Thing::named_by(entity),
         mentioned: mentioned(alloc, entity)?,
-        has_bit: entity_bit(entity),
     };
     leaves.push(leaf)?;
     Ok(())

@@ -4,9 +4,7 @@
 //! The terms are those of the Component Model's `Explainer.md`.
 #![tactic(auto)]
 
-mod bits;
 mod exports;
-mod functions;
 pub mod laws;
 mod leaves;
 mod mentions;
@@ -15,7 +13,6 @@ mod tied;
 mod values;
 
 pub use exports::{component_needs, export_needs};
-pub use functions::mentioned_by_functions;
 pub use leaves::{Leaf, leaves_at};
 pub use mentions::mentioned;
 pub use place::Place;

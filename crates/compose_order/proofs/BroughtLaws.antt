@@ -16,11 +16,11 @@ use Rattle.compose_needs.specs.declared.place.Place.{Place}
 use Rattle.compose_needs.specs.Components.{HoldsTied}
 use Rattle.compose_needs.specs.Leaves.{leaf_of, leaves_at}
 use Rattle.compose_needs.specs.Lefts.{Lefts}
-use Rattle.compose_needs.specs.Mentioned.{has, mentioned, mentioned_by_functions, outward, outwards}
+use Rattle.compose_needs.specs.Mentioned.{has, mentioned, outward, outwards}
 use Rattle.compose_needs.specs.ThingLaws.{both, same_itself, same_things}
 use Rattle.compose_needs.specs.Tied.{AreTied, are_tied, entity_holds_tied, named_in}
-use Rattle.compose_order.specs.Brought.{Brings, BringsInOrder, BringsType, ExportsType, HasBits, IsBrought, IsBroughtAmong, IsNamedFirst, IsOriginOf, NeedsSomethingOf, NeedsThing}
-use Rattle.compose_order.specs.Needs.{LeftTree, called_at, have_bits, is_bound, is_brought, is_of, is_own, lacks, lacks_bit, leaf_bit, left_place, left_places, misses_bit, names_there, need_of, needs, origin_bit, other_name, place_bit, place_named, thing_of}
+use Rattle.compose_order.specs.Brought.{Brings, BringsInOrder, IsBrought, IsBroughtAmong, NeedsSomethingOf, NeedsThing}
+use Rattle.compose_order.specs.Needs.{LeftTree, called_at, is_bound, is_brought, is_of, is_own, left_place, left_places, need_of, needs, other_name, thing_of}
 use Rattle.compose_order.proofs.ThingLists.{all_has, contains_cases, contains_first, contains_later, filter_has, find_first, first_found, flat_has, has_all, has_filter, has_flat, or_left, or_parts, or_right, split_at, unmapped}
 
 no_truth : {A : Type 0} → true ≡ false → A
@@ -138,117 +138,22 @@ order_tied left l origins in_order before after p t e a =
         no_origin None n s = absurd cc
         no_origin (Some m) n s = absurd cc
 
--- ---- the naming bit
-
--- the bit of the first place that names a type
-bit_set : (m : LeftTree) (t : Thing) (leaf : Leaf) → lacks (place_bit m t) ≡ false → IsNamedFirst m t leaf → leaf.has_bit ≡ true
-bit_set m t leaf e first = one leaf.has_bit (sym (ap (λ (o : Option Leaf). lacks (option_map leaf_bit o)) (first_found (names_there m.calls t) (leaves_at m.entity) first.before first.after leaf first.all first.named first.first)) ∙ e)
-  where
-    one : (b : Bool) → not b ≡ false → b ≡ true
-    one true h = refl
-    one false h = absurd cc
-
-set_bit : (m : LeftTree) (t : Thing) → ((leaf : Leaf) → IsNamedFirst m t leaf → leaf.has_bit ≡ true) → lacks (place_bit m t) ≡ false
-set_bit m t h = one (find (names_there m.calls t) (leaves_at m.entity)) refl
-  where
-    one : (o : Option Leaf) → find (names_there m.calls t) (leaves_at m.entity) ≡ o → lacks (option_map leaf_bit o) ≡ false
-    one None e = refl
-    one (Some leaf) e =
-        let f = find_first (names_there m.calls t) (leaves_at m.entity) leaf e in
-        ap not (h leaf (record { before = f.before; after = f.after; all = f.all; named = f.passes; first = f.none }))
-
--- the first import of a name
-abbrev is_of_name : List ℕ → LeftTree → Bool
-is_of_name name l = bytes_eq name l.name
-
-import_found : (ls : List LeftTree) (name : List ℕ) → option_and_then (slice_get ls) (place_named ls name) ≡ find (is_of_name name) ls
-import_found [] name = refl
-import_found (l ∷ ls) name = one (bytes_eq name l.name) (place_named ls name) (import_found ls name)
-  where
-    one : (b : Bool) (o : Option ℕ) → option_and_then (slice_get ls) o ≡ find (is_of_name name) ls → option_and_then (slice_get (l ∷ ls)) (cond b (Some 0) (option_map suc o)) ≡ cond b (Some l) (find (is_of_name name) ls)
-    one true o e = refl
-    one false None e = e
-    one false (Some k) e = e
-
-origin_set : (left : Lefts) (ls : List LeftTree) (t : Thing) (m : LeftTree) → lacks (origin_bit left ls t) ≡ false → IsOriginOf left ls t m → lacks (place_bit m t) ≡ false
-origin_set left ls t m e o =
-    sym (ap (λ (p : Option (List ℕ)). lacks (option_and_then (λ m. place_bit m t) (option_and_then (slice_get ls) (option_and_then (place_named ls) p)))) o.origin
-    ∙ ap (λ (p : Option LeftTree). lacks (option_and_then (λ m. place_bit m t) p)) (import_found ls o.name ∙ first_found (is_of_name o.name) ls o.first.before o.first.after m o.first.all o.first.named o.first.first)) ∙ e
-
-set_origin : (left : Lefts) (ls : List LeftTree) (t : Thing) → ((m : LeftTree) → IsOriginOf left ls t m → lacks (place_bit m t) ≡ false) → lacks (origin_bit left ls t) ≡ false
-set_origin left ls t h = one (left t.number) refl
-  where
-    among : (name : List ℕ) → left t.number ≡ Some name → (o : Option LeftTree) → find (is_of_name name) ls ≡ o → lacks (option_and_then (λ m. place_bit m t) o) ≡ false
-    among name e None f = refl
-    among name e (Some m) f = let first = find_first (is_of_name name) ls m f in h m (record { name = name; origin = e; first = record { before = first.before; after = first.after; all = first.all; named = first.passes; first = first.none } })
-
-    one : (o : Option (List ℕ)) → left t.number ≡ o → lacks (option_and_then (λ m. place_bit m t) (option_and_then (slice_get ls) (option_and_then (place_named ls) o))) ≡ false
-    one None e = refl
-    one (Some name) e = ap (λ (p : Option LeftTree). lacks (option_and_then (λ m. place_bit m t) p)) (import_found ls name) ∙ among name e (find (is_of_name name) ls) refl
-
-neither : (a b : Bool) → (a || b) ≡ false → (a ≡ false) × (b ≡ false)
-neither true b e = no_truth e
-neither false b e = (refl, e)
-
-nor : (a b : Bool) → a ≡ false → b ≡ false → (a || b) ≡ false
-nor true b p q = no_truth p
-nor false b p q = q
-
-last_false : (a b : Bool) → (a && b) ≡ false → a ≡ true → b ≡ false
-last_false true b e p = e
-last_false false b e p = no_truth (sym p)
-
-false_and : (a b : Bool) → (a ≡ true → b ≡ false) → (a && b) ≡ false
-false_and true b h = h refl
-false_and false b h = refl
-
-not_true : (b : Bool) → not b ≡ true → b ≡ false
-not_true true e = absurd cc
-not_true false e = refl
-
--- a type that is not missed has the bit where it is brought
-not_missed : (left : Lefts) (ls : List LeftTree) (l : LeftTree) (t : Thing) (m : LeftTree) (leaf : Leaf) → misses_bit left ls l t ≡ false → BringsType left ls l t m → IsNamedFirst m t leaf → leaf.has_bit ≡ true
-not_missed left ls l t m leaf e (inl h) first =
-    let parts = neither (is_own left l t && lacks (place_bit l t)) (lacks (origin_bit left ls t)) (last_false t.is_type (lacks_bit left ls l t) e h.0.0) in
-    bit_set m t leaf (ap (λ (x : LeftTree). lacks (place_bit x t)) (sym h.1) ∙ last_false (is_own left l t) (lacks (place_bit l t)) parts.0 (brings_own left l t (inr h.0))) first
-not_missed left ls l t m leaf e (inr h) first =
-    let parts = neither (is_own left l t && lacks (place_bit l t)) (lacks (origin_bit left ls t)) (last_false t.is_type (lacks_bit left ls l t) e h.0) in
-    bit_set m t leaf (origin_set left ls t m parts.1 h.1) first
-
-bits_sound : (left : Lefts) (ls : List LeftTree) (l : LeftTree) → have_bits left ls l (mentioned_by_functions l.entity) ≡ true → HasBits left ls l
-bits_sound left ls l e t m leaf h brings first =
-    not_missed left ls l t m leaf (not_true (misses_bit left ls l t) (all_has (λ u. not (misses_bit left ls l u)) (mentioned_by_functions l.entity) t e h)) brings first
-
-bits_complete : (left : Lefts) (ls : List LeftTree) (l : LeftTree) → HasBits left ls l → have_bits left ls l (mentioned_by_functions l.entity) ≡ true
-bits_complete left ls l h = has_all (λ u. not (misses_bit left ls l u)) (mentioned_by_functions l.entity) (λ t e. ap not (one t e))
-  where
-    exported : (t : Thing) → has (mentioned_by_functions l.entity) t ≡ true → t.is_type ≡ true → is_own left l t ≡ true → ExportsType l t
-    exported t e is own = (is, (and_parts (has (map thing_of l.calls) t) (t.is_type || is_of l.name (left t.number)) own).0)
-
-    one : (t : Thing) → has (mentioned_by_functions l.entity) t ≡ true → misses_bit left ls l t ≡ false
-    one t e = false_and t.is_type (lacks_bit left ls l t) (λ is.
-        nor (is_own left l t && lacks (place_bit l t)) (lacks (origin_bit left ls t))
-        (false_and (is_own left l t) (lacks (place_bit l t)) (λ own. set_bit l t (λ leaf first. h t l leaf e (inl (exported t e is own, refl)) first)))
-        (set_origin left ls t (λ m o. set_bit m t (λ leaf first. h t m leaf e (inr (is, o)) first))))
-
 -- ---- the rule
 
 module _ (tied_is : (ps : List Place) → (are_tied [] ps ≡ true) ↔ AreTied ps) (holds_is : (e : EntityTree) → (entity_holds_tied e ≡ true) ↔ HoldsTied e) where
-  pub brought_is : (left : Lefts) (ls : List LeftTree) (l : LeftTree) → (is_brought left ls l ≡ true) ↔ IsBrought left ls l
-  brought_is left ls l = (sound, complete)
+  pub brought_is : (left : Lefts) (l : LeftTree) → (is_brought left l ≡ true) ↔ IsBrought left l
+  brought_is left l = (sound, complete)
     where
-      sound : is_brought left ls l ≡ true → IsBrought left ls l
+      sound : is_brought left l ≡ true → IsBrought left l
       sound e =
-          let outer = and_parts (are_tied [] (left_places left l)) (entity_holds_tied l.entity && have_bits left ls l (mentioned_by_functions l.entity)) e in
-          let inner = and_parts (entity_holds_tied l.entity) (have_bits left ls l (mentioned_by_functions l.entity)) outer.1 in
-          let tied : AreTied (left_places left l) = (tied_is (left_places left l)).0 outer.0 in
-          record { origins = tied_origins left l tied; in_order = tied_in_order left l tied; within = (holds_is l.entity).0 inner.0; bits = bits_sound left ls l inner.1 }
+          let parts = and_parts (are_tied [] (left_places left l)) (entity_holds_tied l.entity) e in
+          let tied : AreTied (left_places left l) = (tied_is (left_places left l)).0 parts.0 in
+          record { origins = tied_origins left l tied; in_order = tied_in_order left l tied; within = (holds_is l.entity).0 parts.1 }
 
-      complete : IsBrought left ls l → is_brought left ls l ≡ true
+      complete : IsBrought left l → is_brought left l ≡ true
       complete h =
-          both (are_tied [] (left_places left l)) (entity_holds_tied l.entity && have_bits left ls l (mentioned_by_functions l.entity))
-          ((tied_is (left_places left l)).1 (order_tied left l h.origins h.in_order))
-          (both (entity_holds_tied l.entity) (have_bits left ls l (mentioned_by_functions l.entity)) ((holds_is l.entity).1 h.within) (bits_complete left ls l h.bits))
+          both (are_tied [] (left_places left l)) (entity_holds_tied l.entity)
+          ((tied_is (left_places left l)).1 (order_tied left l h.origins h.in_order)) ((holds_is l.entity).1 h.within)
 
 -- ---- what is needed of other imports
 

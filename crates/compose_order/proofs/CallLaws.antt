@@ -17,8 +17,8 @@ use Rattle.compose_left.specs.declared.spots.Thing.{Thing}
 use Rattle.compose_left.specs.Origins.{same_path, same_thing}
 use Rattle.compose_left.specs.Merged.{name_cmp}
 use Rattle.compose_left.specs.Wired.{thing_cmp}
-use Rattle.compose_order.specs.Known.{AreCalls, FindsBits, FindsImports, path_cmp, things_at, things_in}
-use Rattle.compose_order.specs.Needs.{LeftTree, called_at, is_at, leaf_bit, names_there, place_named, thing_of}
+use Rattle.compose_order.specs.Known.{AreCalls, FindsImports, path_cmp, things_at, things_in}
+use Rattle.compose_order.specs.Needs.{LeftTree, called_at, is_at, place_named, thing_of}
 use Rattle.compose_needs.specs.Mentioned.{has}
 use Rattle.compose_order.specs.declared.calls.Calls.{Calls}
 use Rattle.compose_needs.specs.declared.leaves.Leaf.{Leaf}
@@ -57,28 +57,6 @@ calls_more old new xs x h all paths = record {
   paths = λ p. paths p ∙ (λ i. cond (sym (path_ties x.path p) i) (h.paths p i ++ x.what ∷ []) (h.paths p i)) ∙ sym (called_push xs x p);
 }
 
--- ---- bits
-
-found_bit : (xs : List Spot) (leaf : Leaf) (t : Thing) (b : Bool) → has (called_at xs leaf.path) t ≡ b → option_map leaf_bit (find (names_there xs t) (leaf ∷ [])) ≡ cond b (Some leaf.has_bit) None
-found_bit xs leaf t b e = (λ i. option_map leaf_bit (cond (e i) (Some leaf) None)) ∙ one b
-  where
-    one : (b : Bool) → option_map leaf_bit (cond b (Some leaf) None) ≡ cond b (Some leaf.has_bit) None
-    one true = refl
-    one false = refl
-
-bit_or : (a b : Option Leaf) → option_map leaf_bit (option_or a b) ≡ option_or (option_map leaf_bit a) (option_map leaf_bit b)
-bit_or None b = refl
-bit_or (Some x) b = refl
-
--- one place more
-pub bits_more : (old new : BTreeMap Thing Bool) (xs : List Spot) (ls : List Leaf) (leaf : Leaf) (named : List Thing) (bit : Bool) → FindsBits old xs ls → named ≡ called_at xs leaf.path → bit ≡ leaf.has_bit
-    → ((t : Thing) → get thing_cmp new t ≡ option_or (get thing_cmp old t) (cond (has named t) (Some bit) None)) → FindsBits new xs (ls ++ leaf ∷ [])
-bits_more old new xs ls leaf named bit h is same got t =
-    got t ∙ (λ i. option_or (h t i) (cond (has (is i) t) (Some (same i)) None))
-    ∙ ap (λ o. option_or (option_map leaf_bit (find (names_there xs t) ls)) o) (sym (found_bit xs leaf t (has (called_at xs leaf.path) t) refl))
-    ∙ sym (bit_or (find (names_there xs t) ls) (find (names_there xs t) (leaf ∷ [])))
-    ∙ ap (λ o. option_map leaf_bit o) (sym (find-append (names_there xs t) ls (leaf ∷ [])))
-
 -- ---- maps from paths
 
 same_paths : (a b : List (List ℕ)) → same_path a b ≡ true → a ≡ b
@@ -96,41 +74,6 @@ put_more old mid new key path things x is taken put u p = ap (λ o. things_in o)
     one : (b : Bool) → is_eq (path_cmp path p) ≡ b → things_in (cond b (Some things) (get path_cmp mid p)) ≡ cond b (things_at old p ++ x ∷ []) (things_at old p)
     one true e = put ∙ ap (λ q. things_at old q ++ x ∷ []) (same_paths path p (path_ties path p ∙ e))
     one false e = taken p ∙ (λ i. cond (e i) [] (things_at old p))
-
-no_bit : (o : Option Bool) → o ≡ option_or o None
-no_bit None = refl
-no_bit (Some b) = refl
-
-pub bit_there : (m : BTreeMap Thing Bool) (x : Thing) (bit : Bool) → is_some (get thing_cmp m x) ≡ true → (t : Thing) → get thing_cmp m t ≡ option_or (get thing_cmp m t) (cond (same_thing x t) (Some bit) None)
-bit_there m x bit there t = one (get thing_cmp m t) refl (same_thing x t) refl
-  where
-    one : (o : Option Bool) → get thing_cmp m t ≡ o → (b : Bool) → same_thing x t ≡ b → o ≡ option_or o (cond b (Some bit) None)
-    one (Some k) h b e = refl
-    one None h false e = refl
-    one None h true e = absurd (let bad : is_some (get thing_cmp m x) ≡ false = ap (λ y. is_some (get thing_cmp m y)) (same_things x t e) ∙ ap (λ (o : Option Bool). is_some o) h in (let worse : true ≡ false = sym there ∙ bad in cc))
-
-pub bit_added : (m n : BTreeMap Thing Bool) (x : Thing) (bit : Bool) → get thing_cmp m x ≡ None → Updates thing_cmp m n x (Some bit) → (t : Thing) → get thing_cmp n t ≡ option_or (get thing_cmp m t) (cond (same_thing x t) (Some bit) None)
-bit_added m n x bit none u t = u.0 t ∙ (λ i. cond (sym (thing_ties x t) i) (Some bit) (get thing_cmp m t)) ∙ one (same_thing x t) refl
-  where
-    one : (b : Bool) → same_thing x t ≡ b → cond b (Some bit) (get thing_cmp m t) ≡ option_or (get thing_cmp m t) (cond b (Some bit) None)
-    one true e = ap (λ o. option_or o (Some bit)) (sym none ∙ ap (λ y. get thing_cmp m y) (same_things x t e))
-    one false e = no_bit (get thing_cmp m t)
-
-or_both : (f : Option Bool) (a b v : Bool) → option_or (option_or f (cond a (Some v) None)) (cond b (Some v) None) ≡ option_or f (cond (cond b true a) (Some v) None)
-or_both (Some x) a b v = refl
-or_both None true true v = refl
-or_both None true false v = refl
-or_both None false true v = refl
-or_both None false false v = refl
-
--- one thing more of those that are named
-pub noted_more : (first old new : BTreeMap Thing Bool) (named : List Thing) (i : ℕ) (d : Thing) (bit : Bool) → i < length named
-    → ((t : Thing) → get thing_cmp old t ≡ option_or (get thing_cmp first t) (cond (has (take i named) t) (Some bit) None))
-    → ((t : Thing) → get thing_cmp new t ≡ option_or (get thing_cmp old t) (cond (same_thing (get_or named i d) t) (Some bit) None))
-    → (t : Thing) → get thing_cmp new t ≡ option_or (get thing_cmp first t) (cond (has (take (i + 1) named) t) (Some bit) None)
-noted_more first old new named i d bit lt h u t =
-    u t ∙ ap (λ o. option_or o (cond (same_thing (get_or named i d) t) (Some bit) None)) (h t) ∙ or_both (get thing_cmp first t) (has (take i named) t) (same_thing (get_or named i d) t) bit
-    ∙ ap (λ b. option_or (get thing_cmp first t) (cond b (Some bit) None)) (sym (has_push (take i named) (get_or named i d) t) ∙ ap (λ ts. has ts t) (sym (take_more named i d lt)))
 
 -- ---- imports by their names
 

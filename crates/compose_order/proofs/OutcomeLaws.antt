@@ -34,7 +34,7 @@ all_at P (y ∷ xs) (suc n) x all at = all_at P xs n x all.1 at
 
 pub none_unbrought : (left : Lefts) (ls : List LeftTree) (n : List ℕ) → AllBrought left ls → IsUnbrought left ls n → ⊥
 none_unbrought left ls n all u =
-    no_truth (sym (all_at (λ (l : LeftTree). is_brought left ls l ≡ true) ls u.number u.first.import all u.first.there) ∙ u.first.unbrought)
+    no_truth (sym (all_at (λ (l : LeftTree). is_brought left l ≡ true) ls u.number u.first.import all u.first.there) ∙ u.first.unbrought)
 
 -- ---- one outcome alone
 
@@ -82,7 +82,7 @@ neither_less : (a b : ℕ) → (a < b → ⊥) → (b < a → ⊥) → a ≡ b
 neither_less a b p q = omega (arith, p, q)
 
 not_before : (left : Lefts) (ls : List LeftTree) (m n : List ℕ) (p : IsUnbrought left ls m) (q : IsUnbrought left ls n) → p.number < q.number → ⊥
-not_before left ls m n p q lt = no_truth (sym (all_before (λ (l : LeftTree). is_brought left ls l ≡ true) ls p.number q.number p.first.import q.first.brought lt p.first.there) ∙ p.first.unbrought)
+not_before left ls m n p q lt = no_truth (sym (all_before (λ (l : LeftTree). is_brought left l ≡ true) ls p.number q.number p.first.import q.first.brought lt p.first.there) ∙ p.first.unbrought)
 
 pub one_unbrought : (left : Lefts) (ls : List LeftTree) (m n : List ℕ) → IsUnbrought left ls m → IsUnbrought left ls n → m ≡ n
 one_unbrought left ls m n p q = same_named ls p.number q.number m n (neither_less p.number q.number (not_before left ls m n p q) (not_before left ls n m q p)) p.named q.named

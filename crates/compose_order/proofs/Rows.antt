@@ -1,7 +1,7 @@
 -- Worked rows of what imports need.
 use Rattle.std.proofs.Common.{◌≡◌, ℕ, List, [], ◌∷◌, Some, None, refl, true, false}
 use Rattle.std.specs.Prelude.{◌==◌, if◌then◌else◌}
-use Rattle.comp_entity.specs.Entity.{made, ValueTree, EnumOf, RecordOf, labelled, no_case, present, Own, Value, Resource, EntityTree, IsType, IsFunc, IsInstance, no_entry, entry}
+use Rattle.comp_entity.specs.Entity.{made, ValueTree, EnumOf, Own, Value, Resource, EntityTree, IsType, IsFunc, IsInstance, no_entry, entry}
 use Rattle.compose_left.specs.Spots.{spots_in}
 use Rattle.compose_agree.specs.Order.{IsOrder, all_of, is_ready}
 use Rattle.compose_needs.specs.Lefts.{Lefts}
@@ -38,14 +38,14 @@ giving = left_import m (IsInstance (entry (0x74 ∷ []) (a_type (t_of 1)) true n
 abbrev later : LeftTree
 later = left_import n (IsInstance (entry (0x66 ∷ []) (takes (t_of 1)) true (entry (0x74 ∷ []) (a_type (t_of 1)) true no_entry)))
 
-later_row : is_brought of_m (giving ∷ later ∷ []) later ≡ false
+later_row : is_brought of_m later ≡ false
 later_row = refl
 
 -- or before: then it needs nothing of m
 abbrev earlier : LeftTree
 earlier = left_import n (IsInstance (entry (0x74 ∷ []) (a_type (t_of 1)) true (entry (0x66 ∷ []) (takes (t_of 1)) true no_entry)))
 
-earlier_row : is_brought of_m (giving ∷ earlier ∷ []) earlier ≡ true
+earlier_row : is_brought of_m earlier ≡ true
 earlier_row = refl
 
 again_row : needs of_m earlier ≡ []
@@ -79,47 +79,6 @@ circle_row = record {
   named = record { import = first_of_two; there = refl; named = refl };
 }
 
--- ---- the naming bit
-
--- a record of an enum, which a place named or none did
-abbrev plain : ValueTree
-plain = RecordOf (Some (made 1)) (labelled (0x66 ∷ []) (present (EnumOf None ((0x61 ∷ []) ∷ []))) no_case)
-
-abbrev enum : ValueTree
-enum = EnumOf (Some (made 2)) ((0x61 ∷ []) ∷ [])
-
-abbrev named : ValueTree
-named = RecordOf (Some (made 1)) (labelled (0x66 ∷ []) (present enum) no_case)
-
--- what two need is merged: the first knows no name of the enum, and the other has a function over the record
-abbrev merged_first : LeftTree
-merged_first = record (left_import m (IsInstance (entry (0x72 ∷ []) (a_type plain) true (entry (0x65 ∷ []) (a_type enum) true (entry (0x66 ∷ []) (takes named) true no_entry))))) {
-  calls = spots_in 0 m [] (IsInstance (entry (0x72 ∷ []) (a_type plain) true (entry (0x65 ∷ []) (a_type enum) true no_entry)));
-}
-
-merged_row : is_brought of_m (merged_first ∷ []) merged_first ≡ false
-merged_row = refl
-
--- with the other in front the function is written
-abbrev merged_last : LeftTree
-merged_last = left_import m (IsInstance (entry (0x65 ∷ []) (a_type enum) true (entry (0x72 ∷ []) (a_type named) true (entry (0x66 ∷ []) (takes named) true no_entry))))
-
-merged_last_row : is_brought of_m (merged_last ∷ []) merged_last ≡ true
-merged_last_row = refl
-
--- along a wire: m brings both, and n has the function
-abbrev wired_types : LeftTree
-wired_types = left_import m (IsInstance (entry (0x72 ∷ []) (a_type plain) true (entry (0x65 ∷ []) (a_type enum) true no_entry)))
-
-abbrev wired_api : LeftTree
-wired_api = left_import n (IsInstance (entry (0x66 ∷ []) (takes named) true no_entry))
-
-wired_row : is_brought of_m (wired_types ∷ wired_api ∷ []) wired_api ≡ false
-wired_row = refl
-
-wired_types_row : is_brought of_m (wired_types ∷ wired_api ∷ []) wired_types ≡ true
-wired_types_row = refl
-
 -- ---- resources
 
 -- an instance makes the resource
@@ -133,5 +92,5 @@ abbrev again : LeftTree
 again = left_import n (IsInstance (entry (0x72 ∷ []) (IsType (Resource (made 0))) true (entry (0x66 ∷ []) handing true no_entry)))
 
 -- exported again, it is still not brought
-made_row : is_brought of_none (again ∷ []) again ≡ false
+made_row : is_brought of_none again ≡ false
 made_row = refl

@@ -54,7 +54,7 @@ IsCaseClash ls earlier later = IsNameClash (map name_of ls) earlier later ⊎ (A
 -- ---- needs
 
 abbrev pub AllBrought : Lefts → List LeftTree → Type 0
-AllBrought left ls = AllByRecursion (λ (l : LeftTree). is_brought left ls l ≡ true) ls
+AllBrought left ls = AllByRecursion (λ (l : LeftTree). is_brought left l ≡ true) ls
 
 -- an import of this number has this name
 pub record IsNamedAt (ls : List LeftTree) (number : ℕ) (name : Bytes) : Type 0 where
@@ -66,8 +66,8 @@ pub record IsNamedAt (ls : List LeftTree) (number : ℕ) (name : Bytes) : Type 0
 pub record IsFirstUnbrought (left : Lefts) (ls : List LeftTree) (number : ℕ) : Type 0 where
   pub import : LeftTree
   pub there : slice_get ls number ≡ Some import
-  pub brought : AllByRecursion (λ (l : LeftTree). is_brought left ls l ≡ true) (take number ls)
-  pub unbrought : is_brought left ls import ≡ false
+  pub brought : AllByRecursion (λ (l : LeftTree). is_brought left l ≡ true) (take number ls)
+  pub unbrought : is_brought left import ≡ false
 
 -- its name
 pub record IsUnbrought (left : Lefts) (ls : List LeftTree) (name : Bytes) : Type 0 where

@@ -6,7 +6,7 @@ use Rattle.compose_needs.specs.declared.leaves.Leaf.{Leaf}
 use Rattle.compose_needs.specs.Components.{HoldsTied}
 use Rattle.compose_needs.specs.Leaves.{leaves_at}
 use Rattle.compose_needs.specs.Lefts.{Lefts}
-use Rattle.compose_needs.specs.Mentioned.{has, mentioned, mentioned_by_functions}
+use Rattle.compose_needs.specs.Mentioned.{has, mentioned}
 use Rattle.compose_order.specs.Needs.{LeftTree, called_at, thing_of}
 
 -- ---- what an import brings and exports
@@ -59,43 +59,9 @@ BringsInOrder left l = (before after : List Leaf) (leaf : Leaf) (t : Thing)
     → leaves_at l.entity ≡ before ++ leaf ∷ after
     → has leaf.mentioned t ≡ true → Brings left l t → IsBroughtAmong left l t (before ++ leaf ∷ [])
 
--- ---- the naming bit
-
--- the first place of an import at which a type is named
-pub record IsNamedFirst (l : LeftTree) (t : Thing) (leaf : Leaf) : Type 0 where
-  pub before : List Leaf
-  pub after : List Leaf
-  pub all : leaves_at l.entity ≡ before ++ leaf ∷ after
-  pub named : IsNamedAtLeaf l t leaf
-  pub first : AllByRecursion (λ (x : Leaf). has (called_at l.calls x.path) t ≡ false) before
-
--- the first import of a name
-pub record IsFirstOf (ls : List LeftTree) (name : List ℕ) (l : LeftTree) : Type 0 where
-  pub before : List LeftTree
-  pub after : List LeftTree
-  pub all : ls ≡ before ++ l ∷ after
-  pub named : bytes_eq name l.name ≡ true
-  pub first : AllByRecursion (λ (x : LeftTree). bytes_eq name x.name ≡ false) before
-
--- the import of the type's origin
-pub record IsOriginOf (left : Lefts) (ls : List LeftTree) (t : Thing) (l : LeftTree) : Type 0 where
-  pub name : List ℕ
-  pub origin : left t.number ≡ Some name
-  pub first : IsFirstOf ls name l
-
--- Two imports bring a named type that one mentions: this one, where it exports the type, and the one of its origin.
-abbrev pub BringsType : Lefts → List LeftTree → LeftTree → Thing → LeftTree → Type 0
-BringsType left ls l t m = (ExportsType l t × (l ≡ m)) ⊎ ((t.is_type ≡ true) × IsOriginOf left ls t m)
-
--- each named type that a function mentions has the naming bit where it is brought
-abbrev pub HasBits : Lefts → List LeftTree → LeftTree → Type 0
-HasBits left ls l = (t : Thing) (m : LeftTree) (leaf : Leaf) → has (mentioned_by_functions l.entity) t ≡ true
-    → BringsType left ls l t m → IsNamedFirst m t leaf → leaf.has_bit ≡ true
-
 -- ---- the rule
 
-pub record IsBrought (left : Lefts) (ls : List LeftTree) (l : LeftTree) : Type 0 where
+pub record IsBrought (left : Lefts) (l : LeftTree) : Type 0 where
   pub origins : (t : Thing) → NeedsThing left l t → IsSome (left t.number)
   pub in_order : BringsInOrder left l
   pub within : HoldsTied l.entity
-  pub bits : HasBits left ls l

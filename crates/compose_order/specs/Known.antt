@@ -23,7 +23,7 @@ use Rattle.compose_order.specs.declared.known.AllKnown.{AllKnown}
 use Rattle.compose_needs.specs.Leaves.{leaves_at}
 use Rattle.compose_order.specs.Agreed.{IsCaseClash, IsNameClash, IsExportClash}
 use Rattle.compose_needs.specs.Seen.{Holds}
-use Rattle.compose_order.specs.Needs.{LeftTree, called_at, thing_of, names_there, leaf_bit, place_named}
+use Rattle.compose_order.specs.Needs.{LeftTree, called_at, thing_of, place_named}
 
 abbrev pub Spots : Type 0
 Spots = List Spot
@@ -50,10 +50,6 @@ pub record AreCalls (found : Calls) (calls : List Spot) : Type 0 where
   pub all : Holds found.all (map thing_of calls)
   pub paths : (path : Names) → things_at found.paths path ≡ called_at calls path
 
--- the bits of the places that name types first
-abbrev pub FindsBits : BTreeMap Thing Bool → List Spot → List Leaf → Type 0
-FindsBits bits calls leaves = (t : Thing) → get thing_cmp bits t ≡ option_map leaf_bit (find (names_there calls t) leaves)
-
 abbrev pub FindsImports : BTreeMap Text ℕ → List LeftTree → Type 0
 FindsImports places ls = (name : List ℕ) → get name_cmp places name ≡ place_named ls name
 
@@ -78,7 +74,6 @@ IsCaseClashOf ls c = IsCaseClash ls c.0 c.1
 pub record IsKnown (k : Known) : Type 0 where
   pub calls : AreCalls k.calls k.import.now.calls.items
   pub leaves : k.leaves.items ≡ leaves_at (entity_tree k.import.now.entity)
-  pub bits : FindsBits k.bits k.import.now.calls.items k.leaves.items
 
 abbrev pub AreEachKnown : AllKnown → Type 0
 AreEachKnown k = AllByRecursion IsKnown k.list.items

@@ -10,7 +10,7 @@ use Rattle.compose_needs.specs.declared.place.Place.{Place}
 use Rattle.compose_needs.specs.declared.leaves.Leaf.{Leaf}
 use Rattle.compose_needs.specs.Leaves.{leaves_at}
 use Rattle.compose_needs.specs.Lefts.{Lefts}
-use Rattle.compose_needs.specs.Mentioned.{has, mentioned, mentioned_by_functions}
+use Rattle.compose_needs.specs.Mentioned.{has, mentioned}
 use Rattle.compose_needs.specs.Tied.{are_tied, entity_holds_tied}
 
 -- A left import: its name; what is written for it, with the numbers of origins in place; and what each of those that need
@@ -51,49 +51,12 @@ left_place left l leaf = record { named = filter (is_own left l) (called_at l.ca
 abbrev pub left_places : Lefts → LeftTree → List Place
 left_places left l = map (left_place left l) (leaves_at l.entity)
 
--- ---- the naming bit
-
--- whether the place that names a type in an import has the naming bit
-abbrev pub names_there : List Spot → Thing → Leaf → Bool
-names_there calls t leaf = has (called_at calls leaf.path) t
-
-abbrev pub leaf_bit : Leaf → Bool
-leaf_bit leaf = leaf.has_bit
-
-abbrev pub place_bit : LeftTree → Thing → Option Bool
-place_bit l t = option_map leaf_bit (find (names_there l.calls t) (leaves_at l.entity))
-
-abbrev pub lacks : Option Bool → Bool
-lacks None = false
-lacks (Some bit) = not bit
-
--- the place of the first import of a name
-abbrev pub place_named : List LeftTree → List ℕ → Option ℕ
-place_named [] name = None
-place_named (l ∷ ls) name = if bytes_eq name l.name then Some 0 else option_map suc (place_named ls name)
-
--- the bit of the place that names a type in the import of its origin
-abbrev pub origin_bit : Lefts → List LeftTree → Thing → Option Bool
-origin_bit left ls t =
-    option_and_then (λ m. place_bit m t) (option_and_then (slice_get ls) (option_and_then (place_named ls) (left t.number)))
-
--- Two imports bring a named type that one mentions: this one, where it exports the type, and the one of the type's origin.
-abbrev pub lacks_bit : Lefts → List LeftTree → LeftTree → Thing → Bool
-lacks_bit left ls l t = (is_own left l t && lacks (place_bit l t)) || lacks (origin_bit left ls t)
-
-abbrev pub misses_bit : Lefts → List LeftTree → LeftTree → Thing → Bool
-misses_bit left ls l t = t.is_type && lacks_bit left ls l t
-
-abbrev pub have_bits : Lefts → List LeftTree → LeftTree → List Thing → Bool
-have_bits left ls l ts = list_all (λ t. not (misses_bit left ls l t)) ts
-
 -- ---- the rule
 
--- Whether each thing that an import mentions can be had. Of what functions mention, the places have the naming bit.
-abbrev pub is_brought : Lefts → List LeftTree → LeftTree → Bool
-is_brought left ls l =
-    are_tied [] (left_places left l) && (entity_holds_tied l.entity
-    && have_bits left ls l (mentioned_by_functions l.entity))
+-- Whether each thing that an import mentions can be had.
+abbrev pub is_brought : Lefts → LeftTree → Bool
+is_brought left l =
+    are_tied [] (left_places left l) && entity_holds_tied l.entity
 
 -- the names of the other imports of which an import needs something
 abbrev pub other_name : List ℕ → Option (List ℕ) → List (List ℕ)
@@ -105,3 +68,8 @@ need_of left l t = if is_own left l t then [] else other_name l.name (left t.num
 
 abbrev pub needs : Lefts → LeftTree → List (List ℕ)
 needs left l = flat_map (need_of left l) (mentioned l.entity)
+
+-- the place of the first import of a name
+abbrev pub place_named : List LeftTree → List ℕ → Option ℕ
+place_named [] name = None
+place_named (l ∷ ls) name = if bytes_eq name l.name then Some 0 else option_map suc (place_named ls name)

@@ -10,7 +10,7 @@ pub enum OrderError {
     #[error("`{0}` and `{1}` differ in the case of letters alone: connect one of them, or give it another name")]
     CaseClash(Text, Text),
     /// An import mentions a type that it can't have there: it brings the type only later, no import that is left open
-    /// has it, a component within the import hides it, or a part of it has no name.
+    /// has it, or a component within the import hides it.
     #[error("the import `{0}` mentions a type that it can't have there: connect it, or take another release of it")]
     NeedsUnbrought(Text),
     /// An import has no place in an order, since what it needs, or what that needs in turn, comes in a circle or is not

@@ -1,18 +1,10 @@
 //! Left imports, found by maps.
 
-ghost use Rattle.std.specs.Prelude.{◌≡◌, ◌++◌, ◌∷◌, [], Some, None, map, length, if◌then◌else◌, IfOk};
-ghost use Rattle.std.specs.BTreeMap.{get};
-ghost use Rattle.std.specs.Option.{option_or};
-ghost use Rattle.compose_left.specs.Origins.{same_thing};
-ghost use Rattle.compose_left.specs.Wired.{thing_cmp};
-ghost use Rattle.compose_left.specs.declared.spots.Thing.{Thing};
-ghost use Rattle.compose_order.specs.Known.{AreCalls, AreKnown, FindsBits, FindsImports};
-ghost use Rattle.compose_order.specs.Known.{Imports, IsKnown, Spots, left_tree};
-ghost use Rattle.compose_needs.specs.Mentioned.{has};
+ghost use Rattle.std.specs.Prelude.{◌≡◌, ◌++◌, ◌∷◌, [], map, length, IfOk};
+ghost use Rattle.compose_order.specs.Known.{AreKnown, FindsImports, Imports, IsKnown, left_tree};
 
-use crate::calls::{Calls, called_at, calls_of};
+use crate::calls::{Calls, calls_of};
 use crate::left::LeftImport;
-use compose_left::Thing;
 use compose_needs::{Leaf, leaves_at};
 use std::alloc::Global;
 use std::collections::BTreeMap;
@@ -27,8 +19,6 @@ pub struct Known<'a> {
     pub calls: Calls,
     /// What stands in it.
     pub leaves: Vec<Leaf>,
-    /// Whether the place that names a thing first has the naming bit.
-    pub bits: BTreeMap<Thing, bool>,
 }
 
 /// Left imports, with what is found of them.
@@ -40,43 +30,6 @@ pub struct AllKnown<'a> {
     pub places: BTreeMap<Text, usize>,
 }
 
-/// Notes the bit of a place for a thing, where none is noted.
-fn note_bit(bits: &mut BTreeMap<Thing, bool>, thing: Thing, has_bit: bool) -> Result<(), Memory>
-    ensures { IfOk result (λ done. (t : Thing) → get thing_cmp bits.new t
-        ≡ option_or (get thing_cmp bits.old t) (if same_thing thing t then Some has_bit else None)) }
-{
-    match bits.get(&thing) {
-        Some(_) => Ok(()),
-        None => {
-            bits.insert(thing, has_bit)?;
-            Ok(())
-        }
-    }
-}
-
-/// Notes the bit of a place for what it names, where none is noted.
-fn note_bits(bits: &mut BTreeMap<Thing, bool>, named: &[Thing], has_bit: bool) -> Result<(), Memory>
-    ensures { IfOk result (λ done. (t : Thing) → get thing_cmp bits.new t
-        ≡ option_or (get thing_cmp bits.old t) (if has named.now t then Some has_bit else None)) }
-{
-    for thing in named {
-        note_bit(bits, *thing, has_bit)?;
-    }
-    Ok(())
-}
-
-/// The bits of the places that name things first.
-fn bits_of(alloc: Global, calls: &Calls, leaves: &[Leaf]) -> Result<BTreeMap<Thing, bool>, Memory>
-    ensures { (xs : Spots) → AreCalls calls.now xs → IfOk result (λ bits. FindsBits bits xs leaves.now) }
-{
-    let mut bits = BTreeMap::new(alloc);
-    for leaf in leaves {
-        let named = called_at(alloc, calls, &leaf.path)?;
-        note_bits(&mut bits, named.as_slice(), leaf.has_bit)?;
-    }
-    Ok(bits)
-}
-
 /// A left import, with what is found of it.
 fn known_import<'a>(alloc: Global, import: &'a LeftImport) -> Result<Known<'a>, Memory>
     ensures known { IfOk result (λ known. IsKnown known) }
@@ -84,12 +37,10 @@ fn known_import<'a>(alloc: Global, import: &'a LeftImport) -> Result<Known<'a>, 
 {
     let calls = calls_of(alloc, &import.calls)?;
     let leaves = leaves_at(alloc, &import.entity)?;
-    let bits = bits_of(alloc, &calls, &leaves)?;
     Ok(Known {
         import,
         calls,
         leaves,
-        bits,
     })
 }
 

@@ -13,7 +13,7 @@ use compose_needs::laws::{components_name_what_they_mention, what_is_mentioned_i
 
 /// Whether what an import mentions is brought is decided as the rule says it.
 pub fn what_is_mentioned_is_brought()
-    ensures { (left : Lefts) (ls : Imports) (l : LeftTree) → (is_brought left ls l ≡ true) ↔ IsBrought left ls l }
+    ensures { (left : Lefts) (l : LeftTree) → (is_brought left l ≡ true) ↔ IsBrought left l }
 {
     what_is_mentioned_is_named();
     components_name_what_they_mention();

@@ -8,15 +8,13 @@ ghost use Rattle.compose_order.specs.Agreed.{AllBrought, IsFirstUnbrought, all_n
 ghost use Rattle.compose_order.specs.Agreed.{number_of, numbers_needed, numbers_of};
 ghost use Rattle.compose_order.specs.Known.{AreEachKnown, AreKnown, Imports, IsKnown, known_left};
 ghost use Rattle.compose_agree.specs.Order.{needs_of};
-ghost use Rattle.compose_order.specs.Needs.{have_bits, is_bound, is_brought, is_of, is_own, lacks};
-ghost use Rattle.compose_order.specs.Needs.{lacks_bit, left_place, left_places};
+ghost use Rattle.compose_order.specs.Needs.{is_bound, is_brought, is_of, is_own, left_place, left_places, need_of};
 ghost use Rattle.compose_needs.specs.Lefts.{lefts_of};
-ghost use Rattle.compose_order.specs.Needs.{misses_bit, need_of, origin_bit};
 
 use crate::calls::called_at;
 use crate::known::{AllKnown, Known};
 use compose_left::{Origins, Thing};
-use compose_needs::{Leaf, Place, are_tied, entity_holds_tied, mentioned, mentioned_by_functions};
+use compose_needs::{Leaf, Place, are_tied, entity_holds_tied, mentioned};
 use std::alloc::Global;
 use std::collections::BTreeSet;
 use warg_values::{Memory, Sequence, Text};
@@ -118,82 +116,19 @@ fn left_places(alloc: Global, origins: &Origins, known: &Known<'_>) -> Result<Ve
     Ok(places)
 }
 
-/// Whether a bit that is found is not set.
-fn lacks(bit: Option<bool>) -> bool
-    ensures { result ≡ lacks bit }
-{
-    match bit {
-        Some(bit) => !bit,
-        None => false,
-    }
-}
-
-/// The bit of the place that names a type in the import of its origin.
-fn origin_bit(origins: &Origins, all: &AllKnown<'_>, thing: Thing) -> Option<bool>
-    ensures { (w : Wiring) (ls : Imports) → AreOrigins origins.now w → AreKnown all.now ls
-        → result ≡ origin_bit (lefts_of w) ls thing }
-{
-    let name = origins.left_import(thing.number)?;
-    let number = all.places.get(name)?;
-    let known = all.list.get(*number)?;
-    known.bits.get(&thing).copied()
-}
-
-/// Whether a place that brings a named type has parts without the naming bit.
-fn lacks_bit(origins: &Origins, all: &AllKnown<'_>, known: &Known<'_>, thing: Thing) -> bool
-    requires { IsKnown known.now }
-    ensures { (w : Wiring) (ls : Imports) → AreOrigins origins.now w → AreKnown all.now ls
-        → result ≡ lacks_bit (lefts_of w) ls (known_left known.now) thing }
-{
-    (is_own(origins, known, thing) && lacks(known.bits.get(&thing).copied()))
-        || lacks(origin_bit(origins, all, thing))
-}
-
-/// Whether a thing is a type of which that is so.
-fn misses_bit(origins: &Origins, all: &AllKnown<'_>, known: &Known<'_>, thing: Thing) -> bool
-    requires { IsKnown known.now }
-    ensures { (w : Wiring) (ls : Imports) → AreOrigins origins.now w → AreKnown all.now ls
-        → result ≡ misses_bit (lefts_of w) ls (known_left known.now) thing }
-{
-    thing.is_type && lacks_bit(origins, all, known, thing)
-}
-
-/// Whether no type among what functions mention is such a one.
-fn have_bits(origins: &Origins, all: &AllKnown<'_>, known: &Known<'_>, things: &[Thing]) -> bool
-    requires { IsKnown known.now }
-    ensures { (w : Wiring) (ls : Imports) → AreOrigins origins.now w → AreKnown all.now ls
-        → result ≡ have_bits (lefts_of w) ls (known_left known.now) things.now }
-{
-    for thing in things {
-        if misses_bit(origins, all, known, *thing) {
-            return false;
-        }
-    }
-    true
-}
-
 /// Whether each thing that an import mentions can be had.
-fn is_brought(
-    alloc: Global,
-    origins: &Origins,
-    all: &AllKnown<'_>,
-    known: &Known<'_>,
-) -> Result<bool, Memory>
+fn is_brought(alloc: Global, origins: &Origins, known: &Known<'_>) -> Result<bool, Memory>
     requires { IsKnown known.now }
-    ensures { (w : Wiring) (ls : Imports) → AreOrigins origins.now w → AreKnown all.now ls
-        → IfOk result (λ brought. brought ≡ is_brought (lefts_of w) ls (known_left known.now)) }
+    ensures { (w : Wiring) → AreOrigins origins.now w
+        → IfOk result (λ brought. brought ≡ is_brought (lefts_of w) (known_left known.now)) }
 {
     let places = left_places(alloc, origins, known)?;
     let mut seen = BTreeSet::new(alloc);
     if !are_tied(&places, &mut seen)? {
         return Ok(false);
     }
-    if !entity_holds_tied(alloc, &known.import.entity)? {
-        return Ok(false);
-    }
-    let things = mentioned_by_functions(alloc, &known.import.entity)?;
-    let have_bits = have_bits(origins, all, known, things.as_slice());
-    Ok(have_bits)
+    let holds_tied = entity_holds_tied(alloc, &known.import.entity)?;
+    Ok(holds_tied)
 }
 
 /// The number of the first import that mentions what can't be had.
@@ -209,7 +144,7 @@ pub fn first_unbrought(
 {
     let list = all.list.as_slice();
     for (number, known) in list.iter().enumerate() {
-        if !is_brought(alloc, origins, all, known)? {
+        if !is_brought(alloc, origins, known)? {
             return Ok(Some(number));
         }
     }

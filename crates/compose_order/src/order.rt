@@ -104,9 +104,8 @@ fn in_turn(
 /// The list has one merged import for each name of a left import, in the order in which they are needed first, with the
 /// numbers of these origins in place. Of what refuses it the first is the error: `CaseClash` where two names of
 /// imports, or of the exports of one, differ in letter case alone; `NeedsUnbrought` where an import mentions a resource
-/// or a named type that it brings or exports only later or that no left import has, where a component within it hides
-/// what it mentions, or where a function mentions a type whose place has parts that no place named; `Circle` where an
-/// import has no place, since what it needs comes in a circle or is not in the list.
+/// or a named type that it brings or exports only later or that no left import has, or where a component within it hides
+/// what it mentions; `Circle` where an import has no place, since what it needs comes in a circle or is not in the list.
 pub fn ordered(
     alloc: Global,
     origins: &Origins,

@@ -20,7 +20,7 @@ use Rattle.compose_coherence.specs.Agreement.{Agrees}
 use Rattle.compose_coherence.specs.Remaining.{Remains}
 use Rattle.compose_check.specs.Open.{Asked, lefts}
 use Rattle.compose_origins.specs.Placed.{CallsOneType, CallsWhatStands, StandsThere, IsTypeOf, OneTypeEach, PlacedCohere}
-use Rattle.compose_image.specs.Settled.{names_of, settled, written_as}
+use Rattle.compose_naming.specs.Settled.{names_of, settled, written_as}
 use Rattle.compose_known.specs.InOrder.{AreInOrder, IsApart}
 use Rattle.compose_settled.specs.Written.{HasImportsInOrder, HasMeaningAsWritten, HaveMeaningsAsWritten, IsWrittenInOrder, OneTypeAsWritten}
 use Rattle.compose_settled.proofs.Bare.{bare_twice, bared, coheres_bared}

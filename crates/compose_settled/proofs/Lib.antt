@@ -10,4 +10,8 @@ mod Knowing
 mod Reading
 mod Readable
 mod Rows
-mod NamingRows
+mod ValueBits
+mod Grown
+mod Remaining
+mod Paths
+mod CallBits

@@ -5,7 +5,7 @@ use Rattle.std.specs.List.{AllByRecursion}
 use Rattle.comp_entity.specs.Entity.{ValueTree, TypeShapeTree, Value, Resource, Func, Instance, Component, EntityTree, IsType, IsFunc, IsInstance, IsComponent, IsModule, IsOwnModule, Entries, no_entry, entry}
 use Rattle.compose_order.specs.Needs.{LeftTree}
 use Rattle.compose_check.specs.Composition.{ComponentTree, shape_numbered}
-use Rattle.compose_image.specs.Settled.{settled}
+use Rattle.compose_naming.specs.Settled.{settled}
 use Rattle.compose_known.specs.InOrder.{AreInOrder, IsApart, IsInOrder, TypeInOrder}
 use Rattle.compose_known.specs.Whole.{IsWhole}
 use Rattle.compose_settled.specs.Written.{HasImportsInOrder, IsWrittenInOrder}

@@ -4,7 +4,7 @@ use Rattle.std.specs.Prelude.{bytes_eq, option_and_then, option_map}
 use Rattle.std.specs.List.{AllByRecursion, Contains}
 use Rattle.comp_entity.specs.Entity.{Name, ValueTree, RecordOf, VariantOf, FlagsOf, EnumOf, Value, EntityTree, IsType, IsInstance, Entries, no_entry, entry}
 use Rattle.comp_entity.specs.Fits.{place_of, under}
-use Rattle.comp_entity.specs.Names.{Change, changing, outside, value_by, entity_by, entries_by}
+use Rattle.comp_entity.specs.Names.{Mention, Change, changing, outside, value_by, entity_by, entries_by}
 use Rattle.comp_entity.specs.Places.{Path}
 use Rattle.comp_scope.specs.Spaces.{is_named}
 use Rattle.comp_coherence.specs.Coherence.{Coheres, AllCohere, Names, OneTree, bare_value}
@@ -18,9 +18,9 @@ use Rattle.compose_meaning.specs.Readable.{Spot}
 use Rattle.compose_coherence.specs.Agreement.{Agrees}
 use Rattle.compose_check.specs.Open.{lefts}
 use Rattle.compose_origins.specs.Placed.{CallsWhatStands, StandsThere, value_at}
-use Rattle.compose_image.specs.Settled.{name_in, names_of, settled, written_as}
+use Rattle.compose_naming.specs.Settled.{name_in, names_of, settled, written_as}
 use Rattle.compose_known.specs.Placed.{HasPlace, HasPlaces, HavePlaces}
-use Rattle.compose_settled.specs.ReadBack.{AllRemainToRead, AreReadable, AreReadableAsWritten, BitMeans, CallMeans, IsCalled, IsReadable, RemainsToRead}
+use Rattle.compose_settled.specs.ReadBack.{AllRemainToRead, AreReadable, AreReadableAsWritten, BitsMean, CallsMean, IsCalled, IsReadable, RemainsToRead, known_behind, with_call}
 use Rattle.compose_settled.specs.Written.{HasImportsPlaced, OneTypeAsWritten}
 use Rattle.compose_settled.proofs.Bare.{bare_changed}
 use Rattle.compose_settled.proofs.Kept.{lefts_keep}
@@ -191,9 +191,10 @@ module _ (names : Names) (mean : Meaning) (agrees : Agrees names mean) (l : Left
         bit = bit (new x.ty) (outside g 0 n.0) there named;
       }
 
-  all_called : (ss : List Call) → AllByRecursion (λ (s : Call). s.what.is_type ≡ true → StandsThere names l.entity s.path s.what) ss → AllByRecursion (BitMeans mean (settled l).entity) ss → AllByRecursion (CallMeans mean (settled l).entity) ss
-  all_called [] h k = tt
-  all_called (s ∷ ss) h k = ((λ kind. is_called s (h.0 kind) (k.0 kind)), all_called ss h.1 k.1)
+  all_called : (ss : List Call) (known : Mention → Bool) → AllByRecursion (λ (s : Call). s.what.is_type ≡ true → StandsThere names l.entity s.path s.what) ss
+      → BitsMean mean (settled l).entity known ss → CallsMean mean (settled l).entity known ss
+  all_called [] known h k = tt
+  all_called (s ∷ ss) known h k = ((λ kind new. is_called s (h.0 kind) (k.0 kind new)), all_called ss (with_call known s) h.1 k.1)
 
 -- ---- all of them
 
@@ -211,7 +212,7 @@ module _ (means : Means) (names : Names) where
   can_be_read l written h mean agrees p r = record {
     meaning = means names mean p agrees (settled l).entity written r.meaning;
     apart = r.apart;
-    called = all_called names mean agrees l written h.1 l.calls h.0 r.bits;
+    called = all_called names mean agrees l written h.1 l.calls (known_behind p.known (settled l).entity) h.0 r.bits;
   }
 
   among : (P : LeftTree → Type 0) (ls : List LeftTree) → AllByRecursion P ls → (l : LeftTree) → Contains ls l → P l

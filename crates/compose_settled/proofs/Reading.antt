@@ -16,19 +16,20 @@ use Rattle.comp_scope.specs.Types.{with_decl, with_decls}
 use Rattle.compose_left.specs.declared.spots.Spot.{Spot as Call}
 use Rattle.compose_order.specs.Needs.{LeftTree}
 use Rattle.compose_writing.specs.Conditions.{with_these}
-use Rattle.compose_writing.specs.Scopes.{WrittenScope, knows, outermost}
-use Rattle.compose_writing.specs.WriteEntities.{at_end, write_also, write_entity, write_import}
+use Rattle.compose_writing.specs.Keys.{At}
+use Rattle.compose_writing.specs.Scopes.{WrittenScope, change_top, knows, outermost, with_known}
+use Rattle.compose_writing.specs.WriteEntities.{at_end, note_new, write_also, write_entity, write_import}
 use Rattle.compose_meaning.specs.Described.{IsDescribed}
 use Rattle.compose_meaning.specs.Keeps.{GoesOn, IsImported, IsWritten, Keeps, spot_of}
 use Rattle.compose_meaning.specs.Meaning.{Meaning, Means, meant, named_type}
 use Rattle.compose_meaning.specs.Readable.{HasMeaning, Importing, IsOlder, Spot, behind, brought_keys}
 use Rattle.compose_meaning.specs.Stands.{at_place}
 use Rattle.compose_image.specs.Imports.{all_called, import_items, items_in, next_place, place_in, write_left, write_lefts}
-use Rattle.compose_image.specs.Settled.{name_in}
+use Rattle.compose_naming.specs.Settled.{name_in}
 use Rattle.comp_format.specs.Items.{ItemTree}
 use Rattle.comp_scope.specs.Shape.{after_parts, in_front_of, nothing}
 use Rattle.compose_meaning.specs.Items.{items_for, parts_for}
-use Rattle.compose_settled.specs.ReadBack.{AreReadable, ReadAsMeant, first_import, CallMeans, IsCalled, IsReadable, ReadsBack, called_keys, is_type, key_of, meant_import, read_import, spot_behind}
+use Rattle.compose_settled.specs.ReadBack.{AreReadable, ReadAsMeant, first_import, CallsMean, IsCalled, IsReadable, ReadsBack, called_keys, is_type, key_of, known_behind, meant_import, read_import, spot_behind, with_call}
 use Rattle.compose_settled.proofs.Standing.{key_at, decl_behind, import_is, map_some, means_there, meant_at, some_is, stands_there, then_some, with_described}
 use Rattle.compose_settled.proofs.Knowing.{import_decls, knows_noted, or_both, or_false}
 
@@ -54,16 +55,40 @@ record AllCalled (mean : Meaning) (k : Known) (calls : List Call) (m : WrittenSc
   keeps : Keeps mean scope k
   known : (key : Mention) → knows (scope ∷ []) key ≡ with_these (knows (m ∷ [])) (called_keys calls) key
 
+-- of each that was not known
+abbrev CallsStand : Meaning → Known → ℕ → (Mention → Bool) → List Call → Type 0
+CallsStand mean k index known [] = Unit {0}
+CallsStand mean k index known (s ∷ ss) =
+    (s.what.is_type ≡ true → known (key_of s) ≡ false → CallStands mean k index s) × CallsStand mean k index (with_call known s) ss
+
+-- a call that is no type makes nothing known
+same_known : (known : Mention → Bool) (s : Call) → s.what.is_type ≡ false → with_call known s ≡ known
+same_known known s kind = λ i key. one key i
+  where
+    one : (key : Mention) → with_call known s key ≡ known key
+    one key = (λ i. known key || list_any (λ (x : Mention). same_mention x key) (map key_of (cond (kind i) (s ∷ []) []))) ∙ or_false (known key)
+
+-- and one that is makes its name known
+call_known : (m scope : WrittenScope) (s : Call) (at : At) → s.what.is_type ≡ true → note_new (key_of s) at (m ∷ []) ≡ scope ∷ []
+    → with_call (knows (m ∷ [])) s ≡ knows (scope ∷ [])
+call_known m scope s at kind is = λ i key. one key i
+  where
+    one : (key : Mention) → with_call (knows (m ∷ [])) s key ≡ knows (scope ∷ []) key
+    one key =
+        (λ i. knows (m ∷ []) key || list_any (λ (x : Mention). same_mention x key) (map key_of (cond (kind i) (s ∷ []) [])))
+        ∙ ap (λ b. knows (m ∷ []) key || b) (or_false (same_mention (key_of s) key))
+        ∙ sym (ap (λ ms. knows ms key) (sym is) ∙ knows_noted (key_of s) at m key)
+
 module _ (also : Also) (mean : Meaning) (k : Known) (index : ℕ) where
   abbrev CalledBy : Call → List Call → WrittenScope → Bool → Type 0
   CalledBy s calls m b = (scope : WrittenScope) × (all_called index calls (cond b (write_also (name_in s.what) index s.path (m ∷ [])) (m ∷ [])) ≡ scope ∷ []) × Keeps mean scope k
       × ((key : Mention) → knows (scope ∷ []) key ≡ with_these (knows (m ∷ [])) (map key_of (cond b (s ∷ filter is_type calls) (filter is_type calls))) key)
 
-  all_kept : (calls : List Call) (m : WrittenScope) → Keeps mean m k → AllByRecursion (λ (s : Call). s.what.is_type ≡ true → CallStands mean k index s) calls → AllCalled mean k calls m (all_called index calls (m ∷ []))
+  all_kept : (calls : List Call) (m : WrittenScope) → Keeps mean m k → CallsStand mean k index (knows (m ∷ [])) calls → AllCalled mean k calls m (all_called index calls (m ∷ []))
   unfolding all_called
   all_kept [] m keeps h = record { scope = m; is = refl; keeps = keeps; known = λ key. sym (or_false (knows (m ∷ []) key)) }
   all_kept (s ∷ calls) m keeps h =
-      let r = by s.what.is_type refl h.0 (λ m keeps. all_kept calls m keeps h.1) in
+      let r = by s.what.is_type refl h.0 (λ m keeps behind. all_kept calls m keeps (subst (λ known. CallsStand mean k index known calls) behind h.1)) in
       record { scope = r.0; is = r.1; keeps = r.2; known = r.3 }
     where
       behind_also : (n : Name) (scope : WrittenScope) → write_also n index s.path (m ∷ []) ≡ scope ∷ [] → (key : Mention)
@@ -74,15 +99,21 @@ module _ (also : Also) (mean : Meaning) (k : Known) (index : ℕ) where
           ∙ ap (λ b. b || list_any (λ (x : Mention). same_mention x key) (called_keys calls)) (ap (λ ms. knows ms key) (sym is) ∙ knows_noted (OfPlace n) (at_end index s.path) m key)
           ∙ or_both (knows (m ∷ []) key) (same_mention (OfPlace n) key) (list_any (λ (x : Mention). same_mention x key) (called_keys calls))
 
-      by : (b : Bool) → s.what.is_type ≡ b → (s.what.is_type ≡ true → CallStands mean k index s)
-          → ((m : WrittenScope) → Keeps mean m k → AllCalled mean k calls m (all_called index calls (m ∷ [])))
+      noted : (b : Bool) → knows (m ∷ []) (key_of s) ≡ b → (knows (m ∷ []) (key_of s) ≡ false → CallStands mean k index s)
+          → (scope : WrittenScope) × (write_also (name_in s.what) index s.path (m ∷ []) ≡ scope ∷ []) × Keeps mean scope k
+      noted true is stands = (m, (λ i. cond (is i) (m ∷ []) (change_top (with_known (key_of s) (at_end index s.path)) (m ∷ []))), keeps)
+      noted false is stands =
+          let c = stands is in
+          also mean m k (name_in s.what) index s.path c.standing keeps c.there c.means (c.older m)
+
+      by : (b : Bool) → s.what.is_type ≡ b → (s.what.is_type ≡ true → knows (m ∷ []) (key_of s) ≡ false → CallStands mean k index s)
+          → ((later : WrittenScope) → Keeps mean later k → with_call (knows (m ∷ [])) s ≡ knows (later ∷ []) → AllCalled mean k calls later (all_called index calls (later ∷ [])))
           → CalledBy s calls m b
       by true kind stands rest =
-          let c = stands kind in
-          let next = also mean m k (name_in s.what) index s.path c.standing keeps c.there c.means (c.older m) in
-          let r = rest next.0 next.2 in
+          let next = noted (knows (m ∷ []) (key_of s)) refl (stands kind) in
+          let r = rest next.0 next.2 (call_known m next.0 s (at_end index s.path) kind next.1) in
           (r.scope, ap (all_called index calls) next.1 ∙ r.is, r.keeps, λ key. behind_also (name_in s.what) next.0 next.1 key (knows (r.scope ∷ []) key) (r.known key))
-      by false kind stands rest = let r = rest m keeps in (r.scope, r.is, r.keeps, r.known)
+      by false kind stands rest = let r = rest m keeps (same_known (knows (m ∷ [])) s kind) in (r.scope, r.is, r.keeps, r.known)
 
 -- ---- one import
 
@@ -152,9 +183,12 @@ module _ (also : Also) (mean : Meaning) (m : WrittenScope) (k : Known) (l : Left
             subst (λ t. AllByRecursion (IsOlder mean (spot_of m i.known)) (in_value 0 t)) (sym c.tree)
             (subst (λ n. AllByRecursion (IsOlder mean (record (spot_of m i.known) { resources = n })) (in_value 0 (mean.tree c.place))) (sym i.resources) behind_it)
 
-    calls_stand : (ss : List Call) → AllByRecursion (CallMeans mean l.entity) ss → AllByRecursion (λ (s : Call). s.what.is_type ≡ true → CallStands mean i.known (next_place l.entity g.scope) s) ss
-    calls_stand [] h = tt
-    calls_stand (s ∷ ss) h = ((λ kind. call_stands s (h.0 kind)), calls_stand ss h.1)
+    calls_stand : (ss : List Call) (known : Mention → Bool) → CallsMean mean l.entity known ss → CallsStand mean i.known (next_place l.entity g.scope) known ss
+    calls_stand [] known h = tt
+    calls_stand (s ∷ ss) known h = ((λ kind new. call_stands s (h.0 kind new)), calls_stand ss (with_call known s) h.1)
+
+    behind_import : known_behind (spot_of m k).known l.entity ≡ knows (i.scope ∷ [])
+    behind_import = λ j key. sym (i.knows key ∙ ap (λ (p : Spot). with_these p.known (brought_keys l.entity) key) g.spot) j
 
     module _ (c : AllCalled mean i.known l.calls i.scope (all_called (next_place l.entity g.scope) l.calls (i.scope ∷ []))) where
       abbrev p : Spot
@@ -199,7 +233,8 @@ one_read written imports also mean m k l later keeps r is =
     let w = written mean m k l.entity x.0.0 x.0.1 keeps r.meaning x.1 in
     let g = w.goes_on in
     let i = imports mean g.scope g.known l.name l.entity x.0.1 g.keeps (has also mean m k l r x.0.0 x.0.1 w) (describes also mean m k l r x.0.0 x.0.1 w) (apart also mean m k l r x.0.0 x.0.1 w) in
-    let c = all_kept also mean i.known (next_place l.entity g.scope) l.calls i.scope i.keeps (calls_stand also mean m k l r x.0.0 x.0.1 w i l.calls r.called) in
+    let c = all_kept also mean i.known (next_place l.entity g.scope) l.calls i.scope i.keeps (subst (λ known. CallsStand mean i.known (next_place l.entity g.scope) known l.calls) (behind_import also mean m k l r x.0.0 x.0.1 w i)
+    (calls_stand also mean m k l r x.0.0 x.0.1 w i l.calls (known_behind (spot_of m k).known l.entity) r.called)) in
     read_whole also mean m k l r x.0.0 x.0.1 w i c later x.2
 
 -- ---- all of them

@@ -12,7 +12,7 @@ use Rattle.compose_needs.specs.Mentioned.{has}
 use Rattle.compose_order.specs.Needs.{LeftTree}
 use Rattle.compose_check.specs.Open.{lefts}
 use Rattle.compose_origins.specs.Placed.{CallsOneType}
-use Rattle.compose_image.specs.Settled.{names_of, settled}
+use Rattle.compose_naming.specs.Settled.{names_of, settled}
 use Rattle.compose_known.specs.InOrder.{IsInOrder}
 use Rattle.compose_meaning.specs.Meaning.{Meaning, own_bit, params_bit}
 use Rattle.compose_settled.specs.ReadBack.{AreReadable, first_import}
@@ -115,15 +115,15 @@ readable_row = (
   record {
     meaning = (refl, ((refl, refl), (λ unknown. refl)), tt);
     apart = refl;
-    called = ((λ kind. record { ty = letters (Some (made 2)); place = made 2; there = refl; named = refl; tree = refl; bit = refl }), tt);
+    called = ((λ kind new. record { ty = letters (Some (made 2)); place = made 2; there = refl; named = refl; tree = refl; bit = refl }), tt);
   },
   (
     record {
       meaning = (refl, ((refl, refl), (λ unknown. refl)), (refl, ((((refl, refl), tt), tt), refl), (refl, ((((refl, refl), tt), tt), refl), tt)));
       apart = refl;
       called = (
-        (λ kind. record { ty = letters (Some (made 2)); place = made 2; there = refl; named = refl; tree = refl; bit = refl }),
-        ((λ kind. record { ty = letters (Some (made 2)); place = made 2; there = refl; named = refl; tree = refl; bit = refl }), tt),
+        (λ kind new. record { ty = letters (Some (made 2)); place = made 2; there = refl; named = refl; tree = refl; bit = refl }),
+        ((λ kind new. record { ty = letters (Some (made 2)); place = made 2; there = refl; named = refl; tree = refl; bit = refl }), tt),
       );
     },
     tt,

@@ -15,7 +15,7 @@ use Rattle.compose_left.specs.declared.spots.Thing.{Thing}
 use Rattle.compose_needs.specs.declared.leaves.Leaf.{Leaf}
 use Rattle.compose_needs.specs.Leaves.{leaves_at}
 use Rattle.compose_order.specs.Needs.{LeftTree, called_at}
-use Rattle.compose_image.specs.Settled.{WrittenNames, along_leaves, at_leaf, called_as, is_type, name_in, names_of, settled, written_as}
+use Rattle.compose_naming.specs.Settled.{WrittenNames, along_leaves, at_leaf, called_as, is_type, name_in, names_of, settled, written_as}
 use Rattle.compose_origins.specs.Placed.{CallsOneType, IsTypeOf, type_of}
 use Rattle.compose_settled.proofs.Bare.{bared, coheres_bared, map_some}
 

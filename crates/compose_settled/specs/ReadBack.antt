@@ -24,7 +24,7 @@ use Rattle.compose_coherence.specs.Agreement.{Agrees}
 use Rattle.compose_coherence.specs.Remaining.{Remains}
 use Rattle.compose_check.specs.Open.{lefts}
 use Rattle.compose_origins.specs.Placed.{value_at}
-use Rattle.compose_image.specs.Settled.{name_in, settled}
+use Rattle.compose_naming.specs.Settled.{name_in, settled}
 
 -- At a path stands a type that a place named, and a name means what that place means.
 pub record IsCalled (mean : Meaning) (e : EntityTree) (path : Path) (n : Name) : Type 0 where
@@ -34,17 +34,6 @@ pub record IsCalled (mean : Meaning) (e : EntityTree) (path : Path) (n : Name) :
   pub named : place_of ty ≡ Some place
   pub tree : mean.tree n ≡ mean.tree place
   pub bit : mean.bit n ≡ mean.bit place
-
--- what is called at a path, where it is a type, means what stands there
-abbrev pub CallMeans : Meaning → EntityTree → Call → Type 0
-CallMeans mean e s = s.what.is_type ≡ true → IsCalled mean e s.path (name_in s.what)
-
--- An import has a meaning where it stands, and a name of its own, letter case set aside, and what is called in it means
--- what stands there.
-pub record IsReadable (mean : Meaning) (p : Spot) (l : LeftTree) : Type 0 where
-  pub meaning : HasMeaning mean p l.entity
-  pub apart : list_any (str_eq_ignore_ascii_case l.name) p.names ≡ false
-  pub called : AllByRecursion (CallMeans mean l.entity) l.calls
 
 -- the names by which named types are called in an import
 abbrev pub is_type : Call → Bool
@@ -56,10 +45,33 @@ key_of s = OfPlace (name_in s.what)
 abbrev pub called_keys : List Call → List Mention
 called_keys calls = map key_of (filter is_type calls)
 
+-- what is known behind an import, and a call in it
+abbrev pub known_behind : (Mention → Bool) → EntityTree → Mention → Bool
+known_behind known e = with_these known (brought_keys e)
+
+abbrev pub with_call : (Mention → Bool) → Call → Mention → Bool
+with_call known s = with_these known (called_keys (s ∷ []))
+
+-- what is called at a path, where it is a type that was not known, means what stands there
+abbrev pub CallMeans : Meaning → EntityTree → (Mention → Bool) → Call → Type 0
+CallMeans mean e known s =
+    s.what.is_type ≡ true → known (key_of s) ≡ false → IsCalled mean e s.path (name_in s.what)
+
+abbrev pub CallsMean : Meaning → EntityTree → (Mention → Bool) → List Call → Type 0
+CallsMean mean e known [] = Unit {0}
+CallsMean mean e known (s ∷ ss) = CallMeans mean e known s × CallsMean mean e (with_call known s) ss
+
+-- An import has a meaning where it stands, and a name of its own, letter case set aside, and what is called in it means
+-- what stands there.
+pub record IsReadable (mean : Meaning) (p : Spot) (l : LeftTree) : Type 0 where
+  pub meaning : HasMeaning mean p l.entity
+  pub apart : list_any (str_eq_ignore_ascii_case l.name) p.names ≡ false
+  pub called : CallsMean mean l.entity (known_behind p.known l.entity) l.calls
+
 -- where the next import stands
 abbrev pub spot_behind : Meaning → Spot → LeftTree → Spot
 spot_behind mean p l = record (behind mean p l.name l.entity) {
-  known = with_these (with_these p.known (brought_keys l.entity)) (called_keys l.calls);
+  known = with_these (known_behind p.known l.entity) (called_keys l.calls);
 }
 
 -- each behind those before it
@@ -97,18 +109,23 @@ pub record ReadAsMeant (mean : Meaning) (ls : List LeftTree) (items : List ItemT
 
 -- ---- what remains, of left imports
 
--- what is called at a path has the naming bit of the place that stands there
-abbrev pub BitMeans : Meaning → EntityTree → Call → Type 0
-BitMeans mean e s = s.what.is_type ≡ true → (t : ValueTree) (r : Name) → value_at s.path e ≡ Some t
+-- what is called at a path, and was not known, has the naming bit of the place that stands there
+abbrev pub BitMeans : Meaning → EntityTree → (Mention → Bool) → Call → Type 0
+BitMeans mean e known s = s.what.is_type ≡ true → known (key_of s) ≡ false → (t : ValueTree) (r : Name)
+    → value_at s.path e ≡ Some t
     → place_of t ≡ Some r
     → mean.bit (name_in s.what) ≡ mean.bit r
+
+abbrev pub BitsMean : Meaning → EntityTree → (Mention → Bool) → List Call → Type 0
+BitsMean mean e known [] = Unit {0}
+BitsMean mean e known (s ∷ ss) = BitMeans mean e known s × BitsMean mean e (with_call known s) ss
 
 -- What remains to be seen to, so that a left import is readable as it is written: what remains of its meaning, a name
 -- of its own, and naming bits.
 pub record RemainsToRead (mean : Meaning) (p : Spot) (l : LeftTree) : Type 0 where
   pub meaning : Remains mean p (settled l).entity
   pub apart : list_any (str_eq_ignore_ascii_case l.name) p.names ≡ false
-  pub bits : AllByRecursion (BitMeans mean (settled l).entity) l.calls
+  pub bits : BitsMean mean (settled l).entity (known_behind p.known (settled l).entity) l.calls
 
 -- of each behind those before it
 abbrev pub AllRemainToRead : Meaning → Spot → List LeftTree → Type 0

@@ -13,7 +13,7 @@ use Rattle.compose_coherence.specs.Agreement.{Agrees}
 use Rattle.compose_coherence.specs.Remaining.{Remains}
 use Rattle.compose_check.specs.Open.{lefts}
 use Rattle.compose_origins.specs.Placed.{OneTypeEach}
-use Rattle.compose_image.specs.Settled.{settled}
+use Rattle.compose_naming.specs.Settled.{settled}
 use Rattle.compose_known.specs.InOrder.{AreInOrder, IsInOrder}
 use Rattle.compose_known.specs.Placed.{HasPlaces}
 

@@ -15,9 +15,12 @@ ghost use Rattle.compose_check.specs.Open.{lefts};
 ghost use Rattle.compose_origins.specs.Named.{IsWellNamed};
 ghost use Rattle.compose_origins.specs.Placed.{OneTypeEach};
 ghost use Rattle.compose_image.specs.Imports.{import_items, write_lefts};
-ghost use Rattle.compose_image.specs.Settled.{settled};
+ghost use Rattle.compose_naming.specs.Bits.{Scope, behind_lefts};
+ghost use Rattle.compose_naming.specs.Bits.{outermost as bits_outermost};
+ghost use Rattle.compose_naming.specs.Settled.{settled};
+ghost use Rattle.compose_settled.specs.Stays.{AllStayToRead, Extends};
 ghost use Rattle.compose_known.specs.Whole.{IsWhole};
-ghost use Rattle.compose_settled.specs.ReadBack.{AreReadable, AreReadableAsWritten, ReadAsMeant, ReadsBack};
+ghost use Rattle.compose_settled.specs.ReadBack.{AllRemainToRead, AreReadable, AreReadableAsWritten, ReadAsMeant, ReadsBack};
 ghost use Rattle.compose_settled.specs.ReadBack.{first_import};
 ghost use Rattle.compose_settled.specs.Written.{HasImportsInOrder, HasImportsPlaced, HaveMeaningsAsWritten};
 ghost use Rattle.compose_settled.specs.Written.{IsWrittenInOrder};
@@ -136,3 +139,11 @@ pub fn imports_read_back()
     another_number_is_known();
     declarations_are_items();
 }
+
+/// Left imports that have their naming bits leave no bits to see to: where the places that are named first, and what is
+/// called, have in a meaning the bits that `compose_naming` finds, all remains that is asked of imports which read back,
+/// as soon as resources are called in their order, components number what they make, and names differ.
+pub fn naming_bits_are_seen_to()
+    ensures { (mean : Meaning) (ls : List LeftTree) (scopes : List Scope) → behind_lefts ls bits_outermost ≡ Some scopes
+        → Extends mean.bit scopes → AllStayToRead mean first_import ls → AllRemainToRead mean first_import ls }
+{}

@@ -15,8 +15,37 @@ pub const FUNCTION: &[u8] = b"\0asm\r\0\x01\0\x07\x05\x01\x40\0\x01\0\x0a\x06\x0
 
 const CAPITAL: &[u8] = b"\0asm\r\0\x01\0\x07\x05\x01\x40\0\x01\0\x0a\x06\x01\0\x01X\x01\0";
 
+/// A component that imports `types`, in which stands `r`, a record of an enum without a name.
+const NAMELESS: &[u8] =
+    b"\0asm\r\0\x01\0\x07\x15\x01B\x03\x01m\x01\x01e\x01r\x01\x01f\0\x04\0\x01r\x03\0\x01\n\n\x01\0\
+      \x05types\x05\0";
+
+/// One that imports `types`, in which stand the enum as `e`, `r` as a record of `e`, and a function of `r`.
+const NAMED: &[u8] =
+    b"\0asm\r\0\x01\0\x07+\x01B\x06\x01m\x01\x01e\x04\0\x01e\x03\0\0\x01r\x01\x01f\x01\x04\0\x01r\x03\
+      \0\x02\x01@\x01\x01p\x03\x01\0\x04\0\x02fn\x01\x04\n\n\x01\0\x05types\x05\0";
+
+/// One that imports `types`, in which stand `r`, as in the first, and the enum as `e`, and exports it as `t`.
+const GIVING: &[u8] =
+    b"\0asm\r\0\x01\0\x07!\x01B\x05\x01m\x01\x01e\x01r\x01\x01f\0\x04\0\x01r\x03\0\x01\x01m\x01\x01e\
+      \x04\0\x01e\x03\0\x03\n\n\x01\0\x05types\x05\0\x0b\x07\x01\0\x01t\x05\0\0";
+
+/// One that imports `t`, in which stand `e` and `r` as in the second, and `api`, in which stands a function of `r`.
+const TAKING: &[u8] =
+    b"\0asm\r\0\x01\0\x07\x1c\x01B\x04\x01m\x01\x01e\x04\0\x01e\x03\0\0\x01r\x01\x01f\x01\x04\0\x01r\
+      \x03\0\x02\n\x06\x01\0\x01t\x05\0\x06\x06\x01\x03\0\0\x01r\x07\x17\x01B\x03\x02\x03\x02\x01\x01\
+      \x01@\x01\x01p\0\x01\0\x04\0\x02fn\x01\x01\n\x08\x01\0\x03api\x05\x02";
+
 /// The components of a row by their letters.
-const COMPONENTS: &[(char, &[u8])] = &[('t', THROUGH), ('f', FUNCTION), ('c', CAPITAL)];
+const COMPONENTS: &[(char, &[u8])] = &[
+    ('t', THROUGH),
+    ('f', FUNCTION),
+    ('c', CAPITAL),
+    ('l', NAMELESS),
+    ('n', NAMED),
+    ('g', GIVING),
+    ('k', TAKING),
+];
 
 /// Graphs, and what their check answers: the letters of the components, of each of which an instance is made; the
 /// connections as pairs of digits, of the instance whose first export is given, and of that to whose first import it
@@ -50,6 +79,18 @@ const ROWS: &[(&str, &str, &str)] = &[
         "tttt",
         "12 21 10 03",
         "instance 2, of the component `2`, is given what needs it: take one connection on this way away",
+    ),
+    // a function over a record of which a part has no name where it is written
+    (
+        "ln",
+        "",
+        "the import `types` mentions a type that it can't have there: connect it, or take another release of it",
+    ),
+    ("nl", "", "can be written"),
+    (
+        "gk",
+        "01",
+        "the import `api` mentions a type that it can't have there: connect it, or take another release of it",
     ),
 ];
 

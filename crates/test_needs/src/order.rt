@@ -2,6 +2,7 @@
 
 use crate::graph::{graph_of, origins_of};
 use crate::imports::left_open;
+use compose_naming::first_without_bit;
 use compose_order::{LeftImport, OrderError, ordered};
 use std::alloc::Global;
 use std::test::Fail;
@@ -25,12 +26,12 @@ const ROWS: &[(&str, &str)] = &[
     // they need each other
     ("m=e1 n=e2,f1 ; n=e2 m=e1,g2", "circle m"),
     // a record of which the first instance knows no name of the enum in it, and a function over it
-    ("types=r2 ; types=e1,r2:1,h2:1", "unbrought types"),
+    ("types=r2 ; types=e1,r2:1,h2:1", "nameless types"),
     ("types=e1,r2:1,h2:1 ; types=r2", "types"),
     // the same along a wire
     (
         "types=r2,e1 >t=r2,e1 ; t<0=e1,r2:1 api=h2:1",
-        "unbrought api",
+        "nameless api",
     ),
     (
         "types=e1,r2:1 >t=e1,r2:1 ; t<0=e1,r2:1 api=h2:1",
@@ -71,10 +72,18 @@ fn refusal(alloc: Global, error: &OrderError) -> Result<String, Fail> {
     }
 }
 
+/// Left imports in order, in the words of a row: their names, or the first with a function without the naming bit.
+fn written(alloc: Global, lefts: &[LeftImport]) -> Result<String, Fail> {
+    match first_without_bit(alloc, lefts)? {
+        Some(number) => Ok(format!(in alloc; "nameless {}", lefts[number].name)?),
+        None => names(alloc, lefts),
+    }
+}
+
 /// An order in the words of a row.
 fn told(alloc: Global, answer: Result<Vec<LeftImport>, OrderError>) -> Result<String, Fail> {
     match answer {
-        Ok(lefts) => names(alloc, &lefts),
+        Ok(lefts) => written(alloc, &lefts),
         Err(error) => refusal(alloc, &error),
     }
 }

@@ -3,13 +3,17 @@
 #![tactic(auto)]
 
 mod check;
+mod encode;
 mod graph;
+mod naming;
 mod needs;
 mod order;
 mod types;
 
 pub use check::written_order;
-pub use graph::reconnect;
+pub use encode::bundled;
+pub use graph::{linked, reconnect};
+pub use naming::nameless;
 pub use needs::can_be_imported;
 pub use order::names_in_order;
 pub use types::import_empty;

@@ -1,36 +1,17 @@
-use Rattle.std.proofs.Common.{List, map, subst}
-use Rattle.compose_order.specs.Agreed.{HasNoPlace, IsUnbrought, NoClash}
-use Rattle.compose_order.specs.Known.{left_tree, merged_left}
-use Rattle.compose_order.specs.Needs.{LeftTree}
-use Rattle.compose_needs.specs.Lefts.{lefts_of}
+use Rattle.std.proofs.Common.{map}
+use Rattle.compose_order.specs.Known.{left_tree}
+use Rattle.compose_check.specs.Bits.{IsBitRefusal}
+use Rattle.compose_check.specs.Checked.{IsAgreement, IsCheckRefusal}
 use Rattle.compose_check.specs.Composition.{wiring}
-use Rattle.compose_check.proofs.RefusalLaws.{agreement}
+use Rattle.compose_check.proofs.RefusalLaws.{agreement, bits_refuse, err_then, ok_then}
 use Rattle.compose_check.proofs.checking.in_order.Goals as goal
 
-pub returns-in-Ok-clause-agree : goal.returns-in-Ok-clause-agree
-returns-in-Ok-clause-agree c = λ k origins is merges.
-    agreement (wiring k) (map merged_left c.args.list.items) (map left_tree c.in-Ok.lefts.items) is merges c.in-Ok.ensures.apart (c.in-Ok.ensures.ordered (wiring k) origins)
+pub returns-clause-agree : goal.returns-clause-agree
+returns-clause-agree c = λ k origins is merges.
+    ok_then c.with_bits.result _ (λ out. IsAgreement (wiring k) (map left_tree out.items))
+    (λ out bits. agreement (wiring k) _ _ bits.0 (c.in_ok-lefts.ensures.ordered k origins is merges) bits.1) c.with_bits.ensures.bits
 
-pub returns-in-Err-NeedsUnbrought-clause-refused : goal.returns-in-Err-NeedsUnbrought-clause-refused
-returns-in-Err-NeedsUnbrought-clause-refused c = λ k origins is merges no_circle fit.
-    let name = c.in-Err-NeedsUnbrought.name in
-    record {
-      no_circle = no_circle;
-      cause = record {
-        fit = fit;
-        merges = merges;
-        cause = subst (λ (ls : List LeftTree). NoClash ls × IsUnbrought (lefts_of (wiring k)) ls name) is (c.in-Err-NeedsUnbrought.ensures.unbrought (wiring k) origins name (cc));
-      };
-    }
-
-pub returns-in-Err-Circle-clause-refused : goal.returns-in-Err-Circle-clause-refused
-returns-in-Err-Circle-clause-refused c = λ k origins is merges no_circle fit.
-    let name = c.in-Err-Circle.name in
-    record {
-      no_circle = no_circle;
-      cause = record {
-        fit = fit;
-        merges = merges;
-        cause = subst (λ (ls : List LeftTree). NoClash ls × HasNoPlace (lefts_of (wiring k)) ls name) is (c.in-Err-Circle.ensures.circle (wiring k) origins name (cc));
-      };
-    }
+pub returns-clause-refused : goal.returns-clause-refused
+returns-clause-refused c = λ k origins is merges no_circle fit.
+    err_then c.with_bits.result (IsBitRefusal (map left_tree c.in_ok-lefts.lefts.items)) (IsCheckRefusal k)
+    (λ e lacks. bits_refuse k _ e (c.in_ok-lefts.ensures.ordered k origins is merges) no_circle fit lacks) c.with_bits.ensures.refused

@@ -14,17 +14,17 @@ returns-then-not-branch-clause-first c = λ w ls o k. record {
   import = known_left c.index-list-number.result;
   there = mapped_at known_left c.as_slice-list.result.now ls c.loop-number.number c.index-list-number.result (ap (λ ks. map known_left ks) c.as_slice-list.ensures.value ∙ k.lefts) c.loop-number-test.true c.index-list-number.is;
   brought = c.loop-number.invariant w ls o k;
-  unbrought = sym (c.in_ok-is_brought.ensures w ls o k) ∙ c.if-not-branch.true;
+  unbrought = sym (c.in_ok-is_brought.ensures w o) ∙ c.if-not-branch.true;
 }
 
 pub loop-number-preserved : goal.loop-number-preserved
 loop-number-preserved c = λ w ls o k.
-    subst (λ ms. AllByRecursion (λ (m : LeftTree). is_brought (lefts_of w) ls m ≡ true) ms)
+    subst (λ ms. AllByRecursion (λ (m : LeftTree). is_brought (lefts_of w) m ≡ true) ms)
     (sym (front_more ls c.loop-number.number (known_left c.index-list-number.result) (mapped_at known_left c.as_slice-list.result.now ls c.loop-number.number c.index-list-number.result (ap (λ ks. map known_left ks) c.as_slice-list.ensures.value ∙ k.lefts) c.loop-number-test.true c.index-list-number.is)))
-    (all_push (λ (m : LeftTree). is_brought (lefts_of w) ls m ≡ true) (take c.loop-number.number ls) (known_left c.index-list-number.result) (c.loop-number.invariant w ls o k) (sym (c.in_ok-is_brought.ensures w ls o k) ∙ c.if-not-branch.false))
+    (all_push (λ (m : LeftTree). is_brought (lefts_of w) m ≡ true) (take c.loop-number.number ls) (known_left c.index-list-number.result) (c.loop-number.invariant w ls o k) (sym (c.in_ok-is_brought.ensures w o) ∙ c.if-not-branch.false))
 
 pub returns-clause-first : goal.returns-clause-first
 returns-clause-first c = λ w ls o k.
-    subst (λ ms. AllByRecursion (λ (m : LeftTree). is_brought (lefts_of w) ls m ≡ true) ms)
+    subst (λ ms. AllByRecursion (λ (m : LeftTree). is_brought (lefts_of w) m ≡ true) ms)
     (all_taken ls c.loop-number.number (let e = c.loop-number-test.false in let same = sym (length-of-mapped known_left c.as_slice-list.result.now ls (ap (λ ks. map known_left ks) c.as_slice-list.ensures.value ∙ k.lefts)) in omega (arith, e, same)))
     (c.loop-number.invariant w ls o k)

@@ -9,4 +9,4 @@ use Rattle.compose_order.proofs.needs.first_unbrought.Given as goal
 
 abbrev pub invariant-loop-number : goal.invariant-loop-number
 invariant-loop-number l = (w : Wiring) (ls : Imports) → AreOrigins l.origins w → AreKnown l.all ls
-    → AllByRecursion (λ (m : LeftTree). is_brought (lefts_of w) ls m ≡ true) (take l.number ls)
+    → AllByRecursion (λ (m : LeftTree). is_brought (lefts_of w) m ≡ true) (take l.number ls)

@@ -1,6 +1,0 @@
-use Rattle.std.proofs.Common.{take}
-use Rattle.compose_imports.specs.Names.{FindsCalls}
-use Rattle.compose_imports.proofs.paths.calls_by_path.Given as goal
-
-abbrev pub invariant-loop-call : goal.invariant-loop-call
-invariant-loop-call l = FindsCalls l.paths (take l.call-index l.calls)

@@ -1,0 +1,9 @@
+mod NameLaws
+mod PathLaws
+mod BitLaws
+mod PlaceLaws
+mod PassLaws
+mod ScopeLaws
+mod ViewLaws
+mod LeftLaws
+mod Rows

@@ -1,0 +1,4 @@
+pub mod Settled
+pub mod Names
+pub mod Bits
+pub mod Scopes
