@@ -44,31 +44,31 @@ use Rattle.compose_types.proofs.NoteLaws.{instance_is, entity_instance}
 
 -- ---- trees
 
-entity_func : (f : FuncShape) → entity_tree (entity.Func f) ≡ IsFunc (func_tree f)
+pub entity_func : (f : FuncShape) → entity_tree (entity.Func f) ≡ IsFunc (func_tree f)
 entity_func f = ap entity_tree (sym (entity.rolls-Func f)) ∙ fold-roll-Entity EntityTree TypeShapeTree Sides Entries entity_step type_step component_step instance_step (layer.«Entity::Func» f)
 
-entity_component : (c : ComponentShape) → entity_tree (entity.Component c) ≡ IsComponent (component_sides c).imports (component_sides c).exports
+pub entity_component : (c : ComponentShape) → entity_tree (entity.Component c) ≡ IsComponent (component_sides c).imports (component_sides c).exports
 entity_component c = ap entity_tree (sym (entity.rolls-Component c)) ∙ fold-roll-Entity EntityTree TypeShapeTree Sides Entries entity_step type_step component_step instance_step (layer.«Entity::Component» c)
 
-entity_module : (m : ModuleShape) → entity_tree (entity.Module m) ≡ IsModule m
+pub entity_module : (m : ModuleShape) → entity_tree (entity.Module m) ≡ IsModule m
 entity_module m = ap entity_tree (sym (entity.rolls-Module m)) ∙ fold-roll-Entity EntityTree TypeShapeTree Sides Entries entity_step type_step component_step instance_step (layer.Module m)
 
-entity_type : (t : TypeShape) → entity_tree (entity.Ty t) ≡ IsType (shape_tree t)
+pub entity_type : (t : TypeShape) → entity_tree (entity.Ty t) ≡ IsType (shape_tree t)
 entity_type t = ap entity_tree (sym (entity.rolls-Ty t)) ∙ fold-roll-Entity EntityTree TypeShapeTree Sides Entries entity_step type_step component_step instance_step (layer.Ty t)
 
-shape_resource : (r : Name) → shape_tree (shape.Resource r) ≡ Resource r
+pub shape_resource : (r : Name) → shape_tree (shape.Resource r) ≡ Resource r
 shape_resource r = ap shape_tree (sym (shape.rolls-Resource r)) ∙ fold-roll-TypeShape EntityTree TypeShapeTree Sides Entries entity_step type_step component_step instance_step (layer.Resource r)
 
-shape_value : (v : ValueShape) → shape_tree (shape.Value v) ≡ Value (value_tree v)
+pub shape_value : (v : ValueShape) → shape_tree (shape.Value v) ≡ Value (value_tree v)
 shape_value v = ap shape_tree (sym (shape.rolls-Value v)) ∙ fold-roll-TypeShape EntityTree TypeShapeTree Sides Entries entity_step type_step component_step instance_step (layer.Value v)
 
-shape_func : (f : FuncShape) → shape_tree (shape.Func f) ≡ Func (func_tree f)
+pub shape_func : (f : FuncShape) → shape_tree (shape.Func f) ≡ Func (func_tree f)
 shape_func f = ap shape_tree (sym (shape.rolls-Func f)) ∙ fold-roll-TypeShape EntityTree TypeShapeTree Sides Entries entity_step type_step component_step instance_step (layer.«TypeShape::Func» f)
 
 pub shape_instance : (t : InstanceShape) → shape_tree (shape.Instance t) ≡ Instance (entries_of (named_entities t.exports.items))
 shape_instance t = ap shape_tree (sym (shape.rolls-Instance t)) ∙ fold-roll-TypeShape EntityTree TypeShapeTree Sides Entries entity_step type_step component_step instance_step (layer.«TypeShape::Instance» t) ∙ ap Instance (instance_is t)
 
-shape_component : (c : ComponentShape) → shape_tree (shape.Component c) ≡ Component (component_sides c).imports (component_sides c).exports
+pub shape_component : (c : ComponentShape) → shape_tree (shape.Component c) ≡ Component (component_sides c).imports (component_sides c).exports
 shape_component c = ap shape_tree (sym (shape.rolls-Component c)) ∙ fold-roll-TypeShape EntityTree TypeShapeTree Sides Entries entity_step type_step component_step instance_step (layer.«TypeShape::Component» c)
 
 pub component_is : (c : ComponentShape) → component_sides c ≡ record { imports = entries_of (named_entities c.imports.items); exports = entries_of (named_entities c.exports.items) }

@@ -1,5 +1,5 @@
 -- Scopes only grow where something is written into them.
-use Rattle.std.proofs.Common.{◌≡◌, ℕ, suc, ◌+◌, ◌≤◌, ◌^◌, length, inl, inr, Bool, true, false, max, List, [], ◌∷◌, ◌++◌, refl, sym, ap, subst, arith}
+use Rattle.std.proofs.Common.{◌≡◌, ℕ, suc, ◌+◌, ◌≤◌, ◌^◌, length, inl, inr, Bool, true, false, max, List, [], ◌∷◌, ◌++◌, refl, sym, ap, subst, ◌∙◌, arith}
 use Rattle.std.proofs.lemmas.List.Sums.{count_by-le-length}
 use Rattle.std.specs.Prelude.{◌⊎◌, if◌then◌else◌}
 use Rattle.comp_format.specs.declared.types.Alias.TheVariants as alias
@@ -49,6 +49,7 @@ pub record Counts (few more_ : ℕ) (before after : ℕ) : Type 0 where
   pub by : more_ + before ≤ few + after
 
 pub record Grows (m n : WrittenScope) : Type 0 where
+  pub width : m.width ≡ n.width
   pub decls : decl_count m.decls ≤ decl_count n.decls
   pub largest : decls_largest m.decls ≤ decls_largest n.decls
   pub types : Counts m.types n.types (decl_count m.decls) (decl_count n.decls)
@@ -66,6 +67,7 @@ counts_then a b c x y z p q = let pu = p.up in let qu = q.up in let pb = p.by in
 
 pub grows_same : (m : WrittenScope) → Grows m m
 grows_same m = record {
+  width = refl;
   decls = omega arith;
   largest = omega arith;
   types = counts_same m.types (decl_count m.decls) (decl_count m.decls) (omega arith);
@@ -75,6 +77,7 @@ grows_same m = record {
 
 pub grows_then : (m n o : WrittenScope) → Grows m n → Grows n o → Grows m o
 grows_then m n o p q = let pd = p.decls in let qd = q.decls in let pl = p.largest in let ql = q.largest in record {
+  width = p.width ∙ q.width;
   decls = omega (arith, pd, qd);
   largest = omega (arith, pl, ql);
   types = counts_then m.types n.types o.types (decl_count m.decls) (decl_count n.decls) (decl_count o.decls) p.types q.types;
@@ -88,6 +91,7 @@ module _ (m : WrittenScope) (d : DeclTree) where
 
   pub grows_declared : Grows m (declared d m)
   grows_declared = let e = one_more in record {
+    width = refl;
     decls = omega (arith, e);
     largest = largest_push m.decls d;
     types = counts_same m.types (decl_count m.decls) (decl_count (with_decl m.decls d)) (omega (arith, e));
@@ -96,13 +100,13 @@ module _ (m : WrittenScope) (d : DeclTree) where
   }
 
   pub grows_types : Grows m (record (declared d m) { types = suc m.types })
-  grows_types = let g = grows_declared in record { decls = g.decls; largest = g.largest; types = counts_one m.types (decl_count m.decls) (decl_count (with_decl m.decls d)) one_more; instances = g.instances; core_types = g.core_types }
+  grows_types = let g = grows_declared in record { width = refl; decls = g.decls; largest = g.largest; types = counts_one m.types (decl_count m.decls) (decl_count (with_decl m.decls d)) one_more; instances = g.instances; core_types = g.core_types }
 
   pub grows_instances : Grows m (record (declared d m) { instances = suc m.instances })
-  grows_instances = let g = grows_declared in record { decls = g.decls; largest = g.largest; types = g.types; instances = counts_one m.instances (decl_count m.decls) (decl_count (with_decl m.decls d)) one_more; core_types = g.core_types }
+  grows_instances = let g = grows_declared in record { width = refl; decls = g.decls; largest = g.largest; types = g.types; instances = counts_one m.instances (decl_count m.decls) (decl_count (with_decl m.decls d)) one_more; core_types = g.core_types }
 
   pub grows_core_types : Grows m (record (declared d m) { core_types = suc m.core_types })
-  grows_core_types = let g = grows_declared in record { decls = g.decls; largest = g.largest; types = g.types; instances = g.instances; core_types = counts_one m.core_types (decl_count m.decls) (decl_count (with_decl m.decls d)) one_more }
+  grows_core_types = let g = grows_declared in record { width = refl; decls = g.decls; largest = g.largest; types = g.types; instances = g.instances; core_types = counts_one m.core_types (decl_count m.decls) (decl_count (with_decl m.decls d)) one_more }
 
 pub grows_counted : (m : WrittenScope) (d : DeclTree) (ty : TypeRef) → Grows m (counted ty (declared d m))
 grows_counted m d (description.TyEqual i) = grows_types m d
@@ -116,7 +120,7 @@ grows_known : (key : Mention) (at : At) (m : WrittenScope) → Grows m (with_kno
 grows_known key at m = one _
   where
     same : Grows m (record m { known = m.known ++ (key, at) ∷ [] })
-    same = let g = grows_same m in record { decls = g.decls; largest = g.largest; types = g.types; instances = g.instances; core_types = g.core_types }
+    same = let g = grows_same m in record { width = refl; decls = g.decls; largest = g.largest; types = g.types; instances = g.instances; core_types = g.core_types }
 
     one : (b : Bool) → Grows m (if b then m else record m { known = m.known ++ (key, at) ∷ [] })
     one true = grows_same m
@@ -152,7 +156,7 @@ all_then (m ∷ ms) [] os p q = elim p [ ]
 all_then (m ∷ ms) (n ∷ ns) [] p q = elim q [ ]
 all_then (m ∷ ms) (n ∷ ns) (o ∷ os) p q = (grows_then m n o p.0 q.0, all_then ms ns os p.1 q.1)
 
-scope_grows : (m n : WrittenScope) → Grows m n → scope_size m ≤ scope_size n
+pub scope_grows : (m n : WrittenScope) → Grows m n → scope_size m ≤ scope_size n
 unfolding definition_largest
 scope_grows m n g = let a = g.decls in let b = g.largest in let c = g.types.up in let d = g.instances.up in let e = g.core_types.up in grind (arith, a, b, c, d, e)
 
@@ -169,7 +173,7 @@ unfolding change_top
 all_changed [] f h = tt
 all_changed (m ∷ ms) f h = (h m, all_same ms)
 
-all_new : (key : Mention) (at : At) (ms : List WrittenScope) → GrowAll ms (note_new key at ms)
+pub all_new : (key : Mention) (at : At) (ms : List WrittenScope) → GrowAll ms (note_new key at ms)
 all_new key at ms = one (knows ms key)
   where
     one : (b : Bool) → GrowAll ms (if b then ms else change_top (with_known key at) ms)
@@ -186,7 +190,7 @@ unfolding note_here
 all_here [] index ms = all_same ms
 all_here (key ∷ keys) index ms = all_then ms (change_top (with_known key (Index index)) ms) (note_here keys index (change_top (with_known key (Index index)) ms)) (all_changed ms (with_known key (Index index)) (grows_known key (Index index))) (all_here keys index (change_top (with_known key (Index index)) ms))
 
-noted_grows : (e : EntityTree) (m : WrittenScope) (ms : List WrittenScope) → GrowAll ms (noted e m ms)
+pub noted_grows : (e : EntityTree) (m : WrittenScope) (ms : List WrittenScope) → GrowAll ms (noted e m ms)
 noted_grows (IsInstance es) m ms = all_noted (leaves_known m.instances (leaves_in [] es)) ms
 noted_grows (IsType t) m ms = all_here (names_itself (IsType t)) m.types ms
 noted_grows (IsFunc f) m ms = all_here [] m.types ms
@@ -213,7 +217,7 @@ items_few (tree.more (tree.Aliased a) ds) = let rest = items_few ds in omega (ar
 items_few (tree.more (tree.Import name ty) ds) = let rest = items_few ds in omega (arith, rest)
 items_few (tree.more (tree.Export name ty) ds) = let rest = items_few ds in omega (arith, rest)
 
-next_few : (kind : Sort) (ds : Decls) → next_index kind (entries_for ds) ≤ decl_count ds
+pub next_few : (kind : Sort) (ds : Decls) → next_index kind (entries_for ds) ≤ decl_count ds
 next_few kind ds = let a = items_few ds in let b = count_by-le-length (λ item. numbers (space_of kind) (item_sort item)) (items_of (entries_for ds)) in omega (arith, a, b)
 
 item_largest : (n : ℕ) (name : List ℕ) (ty : TypeRef) (ds : Decls) → n ≡ length name → n ≤ decls_size (with_decl ds (tree.Import name ty))

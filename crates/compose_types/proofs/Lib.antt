@@ -8,3 +8,8 @@ mod EntityLaws
 mod SightLaws
 mod RefusalLaws
 mod GrowLaws
+mod WriteGrowLaws
+mod LargestLaws
+mod ValueLargestLaws
+mod EntityLargestLaws
+mod DeclaredLaws

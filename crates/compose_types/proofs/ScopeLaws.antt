@@ -1,6 +1,6 @@
 -- Scopes in a vector, the innermost last, and what is written into the innermost.
 use Rattle.std.proofs.Common.{◌≡◌, ◌<◌, ◌≤◌, ◌-◌, ◌+◌, Bool, true, false, ◌||◌, get_or, take, drop, arith, length, ℕ, zero, suc, List, [], ◌∷◌, ◌++◌, map, Option, Some, None, refl, sym, ap, ◌∙◌}
-use Rattle.std.specs.Prelude.{reverse, option_map, option_and_then, is_some, if◌then◌else◌}
+use Rattle.std.specs.Prelude.{All, reverse, option_map, option_and_then, is_some, if◌then◌else◌}
 use Rattle.std.proofs.lemmas.List.{map_push, reverse-append, take_all, take_more}
 use Rattle.comp_format.specs.declared.types.Alias.TheVariants as alias
 use Rattle.comp_format.specs.declared.types.Sort.TheVariants as sort
@@ -38,6 +38,10 @@ along_more from inst i name path rest m next later is e h k = rw is (further res
 pub rest_is : (path : Path) → take (length path - 1) (drop 1 path) ≡ drop 1 path
 rest_is [] = take_all 0 [] (omega arith)
 rest_is (x ∷ xs) = take_all (suc (length xs) - 1) xs (omega arith)
+
+pub rest_named : (path : Path) → All (λ name. 0 < length name) path → All (λ name. 0 < length name) (drop 1 path)
+rest_named [] named = named
+rest_named (x ∷ xs) named = λ k d lt. named (suc k) d (omega (arith, lt))
 
 pub scopes_push : (os : List Open) (o outermost : Open) → scopes_in (os ++ o ∷ []) outermost ≡ scope_of o ∷ scopes_in os outermost
 scopes_push os o outermost = ap (λ ms. ms ++ scope_of outermost ∷ []) (ap reverse (map_push scope_of os o) ∙ reverse-append (map scope_of os) (scope_of o ∷ []))

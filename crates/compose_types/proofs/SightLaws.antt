@@ -14,14 +14,13 @@ use Rattle.comp_entity.specs.declared.entity.ComponentShape.{ComponentShape}
 use Rattle.comp_entity.specs.declared.entity.FuncShape.{FuncShape}
 use Rattle.comp_entity.specs.declared.entity.TypeShape.{TypeShape}
 use Rattle.comp_entity.specs.declared.entity.TypeShape.TheVariants as shape
-use Rattle.comp_entity.specs.declared.entity.ValueShape.{ValueShape, fold-roll-ValueShape}
-use Rattle.comp_entity.specs.declared.entity.ValueShape.TheOpen as layer
+use Rattle.comp_entity.specs.declared.entity.ValueShape.{ValueShape}
 use Rattle.comp_entity.specs.declared.entity.ValueShape.TheVariants as made
 use Rattle.comp_entity.specs.Entity.{Name, ValueTree, Primitive, TupleOf, RecordOf, VariantOf, ListOf, FlagsOf, EnumOf, OptionOf, ResultOf, Own, Borrow, TypeShapeTree, Value, Resource, Func, Instance, Component, EntityTree, IsType, IsFunc, IsInstance, IsComponent, IsModule, IsOwnModule, Entries, no_entry, entry}
 use Rattle.comp_entity.specs.Fits.{place_of}
 use Rattle.comp_entity.specs.Names.{Mention, OfResource, OfPlace, in_value, in_values, in_cases, in_payload, in_func}
 use Rattle.comp_entity.specs.Places.{names_itself, named_value, same_mention}
-use Rattle.comp_entity.specs.Views.{Sides, component_sides, entity_tree, type_tree, entries_of, named_entities, value_tree, value_step, values_of, fields_of, cases_of, func_tree}
+use Rattle.comp_entity.specs.Views.{Sides, component_sides, entity_tree, type_tree, entries_of, named_entities, value_tree, values_of, fields_of, cases_of, func_tree}
 use Rattle.compose_writing.specs.Conditions.{with_these, all_known, unnamed, if_scope, known_behind, type_known_behind, entries_known_behind, is_known, are_known, sides_known}
 use Rattle.compose_writing.specs.Keys.{from_within}
 use Rattle.compose_meaning.specs.Readable.{brought_keys, keys_among}
@@ -32,7 +31,7 @@ use Rattle.compose_types.specs.declared.sights.Sight.TheVariants as seen
 use Rattle.compose_types.specs.Values.{field_tree, case_tree, held_tree, boxed_tree}
 use Rattle.compose_types.proofs.EntityLaws.{component_is, shape_instance}
 use Rattle.compose_types.proofs.NoteLaws.{entity_instance}
-use Rattle.compose_types.proofs.ValueLaws.{tree_record, tree_variant, tree_tuple}
+use Rattle.compose_types.proofs.ValueLaws.{tree_record, tree_result, tree_variant, tree_tuple}
 
 -- ---- what is known behind an entity
 
@@ -179,12 +178,6 @@ module _ (p : Mention → Bool) (xs : List (List ℕ × Entity)) where
       ap (λ ys. list_any p (keys_among (entries_of (named_entities ys)))) none
 
 -- ---- parts of value types
-
-tree_result : (ok err : Option (Box ValueShape Global)) → value_tree (made.ResultOf ok err) ≡ ResultOf (boxed_tree ok) (boxed_tree err)
-tree_result None None = ap value_tree (sym (made.rolls-ResultOf None None)) ∙ fold-roll-ValueShape ValueTree value_step (layer.ResultOf None None)
-tree_result None (Some e) = ap value_tree (sym (made.rolls-ResultOf None (Some e))) ∙ fold-roll-ValueShape ValueTree value_step (layer.ResultOf None (Some e))
-tree_result (Some t) None = ap value_tree (sym (made.rolls-ResultOf (Some t) None)) ∙ fold-roll-ValueShape ValueTree value_step (layer.ResultOf (Some t) None)
-tree_result (Some t) (Some e) = ap value_tree (sym (made.rolls-ResultOf (Some t) (Some e))) ∙ fold-roll-ValueShape ValueTree value_step (layer.ResultOf (Some t) (Some e))
 
 module _ (known : Mention → Bool) where
   parts_known : (ts : List ValueShape) → all_known known (in_values 0 (values_of (map value_tree ts))) ≡ list_all (part_known known) ts

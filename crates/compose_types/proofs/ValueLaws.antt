@@ -1,18 +1,19 @@
 -- Value types in code as trees, and their parts as they are written.
 use Rattle.std.proofs.Common.{◌≡◌, ℕ, zero, suc, ◌+◌, ◌<◌, ◌≤◌, length, drop, drop-cons, get_or, append-nil, append_assoc, arith, Vec, List, [], ◌∷◌, ◌++◌, map, Option, Some, None, refl, sym, ap, subst, ◌∙◌}
 use Rattle.std.specs.Global.{Global}
-use Rattle.std.specs.Prelude.{All, IfSome, option_map, option_and_then, unwrap_or}
+use Rattle.std.specs.Prelude.{All, Box, IfSome, option_map, option_and_then, unwrap_or}
 use Rattle.std.specs.List.{AllByRecursion}
 use Rattle.std.proofs.lemmas.List.{drop_all, length-map}
 use Rattle.std.proofs.lemmas.List.Elements.{All-from_recursion, recursion_from_All}
 use Rattle.comp_format.specs.Forms.{IsDefined, AreLabels}
 use Rattle.comp_format.specs.Types.{label_of}
 use Rattle.comp_format.specs.declared.types.ValType.{ValType}
+use Rattle.comp_format.specs.declared.types.DefinedType.{DefinedType}
 use Rattle.comp_format.specs.declared.types.DefinedType.TheVariants as defined
 use Rattle.comp_entity.specs.declared.entity.ValueShape.{ValueShape, fold-roll-ValueShape}
 use Rattle.comp_entity.specs.declared.entity.ValueShape.TheOpen as layer
 use Rattle.comp_entity.specs.declared.entity.ValueShape.TheVariants as made
-use Rattle.comp_entity.specs.Entity.{Name, ValueTree, TupleOf, RecordOf, VariantOf}
+use Rattle.comp_entity.specs.Entity.{Name, ValueTree, TupleOf, RecordOf, VariantOf, ListOf, OptionOf, ResultOf}
 use Rattle.comp_entity.specs.Views.{value_tree, value_step, values_of, fields_of, cases_of, func_tree}
 use Rattle.compose_writing.specs.Conditions.{labels_of, KeepsValue, KeepsValues, KeepsCases, KeepsPayload, KeepsFunc, HasPart}
 use Rattle.comp_format.specs.Definitions as tree
@@ -25,7 +26,7 @@ use Rattle.comp_format.specs.declared.types.Decl.TheOpen as def_layer
 use Rattle.comp_entity.specs.declared.entity.FuncShape.{FuncShape}
 use Rattle.compose_writing.specs.Scopes.{WrittenScope, Wrote, wrote_as, on_top, add_type, then_type}
 use Rattle.compose_writing.specs.WriteValues.{write_defined, write_value, write_parts, write_fields, write_cases, write_params, write_payload, write_result, write_func}
-use Rattle.compose_types.specs.Values.{write_each, write_part, write_field, write_case, field_tree, case_tree, held_tree}
+use Rattle.compose_types.specs.Values.{write_each, write_part, write_field, write_case, boxed_tree, field_tree, case_tree, held_tree}
 
 -- ---- trees
 
@@ -45,9 +46,21 @@ tree_variant p fs = cases_mapped _ (λ l. refl) (λ l v. refl) p fs.items (value
 pub tree_tuple : (ts : Vec ValueShape Global) → value_tree (made.TupleOf ts) ≡ TupleOf (values_of (map value_tree ts.items))
 tree_tuple ts = ap value_tree (sym (made.rolls-TupleOf ts)) ∙ fold-roll-ValueShape ValueTree value_step (layer.TupleOf ts)
 
+pub tree_result : (ok err : Option (Box ValueShape Global)) → value_tree (made.ResultOf ok err) ≡ ResultOf (boxed_tree ok) (boxed_tree err)
+tree_result None None = ap value_tree (sym (made.rolls-ResultOf None None)) ∙ fold-roll-ValueShape ValueTree value_step (layer.ResultOf None None)
+tree_result None (Some e) = ap value_tree (sym (made.rolls-ResultOf None (Some e))) ∙ fold-roll-ValueShape ValueTree value_step (layer.ResultOf None (Some e))
+tree_result (Some t) None = ap value_tree (sym (made.rolls-ResultOf (Some t) None)) ∙ fold-roll-ValueShape ValueTree value_step (layer.ResultOf (Some t) None)
+tree_result (Some t) (Some e) = ap value_tree (sym (made.rolls-ResultOf (Some t) (Some e))) ∙ fold-roll-ValueShape ValueTree value_step (layer.ResultOf (Some t) (Some e))
+
+pub tree_list : (t : Box ValueShape Global) → value_tree (made.ListOf t) ≡ ListOf (value_tree t.value)
+tree_list t = ap value_tree (sym (made.rolls-ListOf t)) ∙ fold-roll-ValueShape ValueTree value_step (layer.ListOf t)
+
+pub tree_option : (t : Box ValueShape Global) → value_tree (made.OptionOf t) ≡ OptionOf (value_tree t.value)
+tree_option t = ap value_tree (sym (made.rolls-OptionOf t)) ∙ fold-roll-ValueShape ValueTree value_step (layer.OptionOf t)
+
 -- ---- one after the other
 
-pub then_each : {Y : Type 0} → List Y → Wrote (List Y) → Wrote (List Y)
+unfoldable pub then_each : {Y : Type 0} → List Y → Wrote (List Y) → Wrote (List Y)
 then_each done w = option_map (λ x. (x.0, done ++ x.1)) w
 
 module _ {X Y : Type 0} (one : X → List WrittenScope → Wrote Y) where
@@ -104,7 +117,7 @@ record_keeps ty p fs is k = All-from_recursion (λ f. KeepsValue (value_tree f.1
 pub variant_keeps : (ty : ValueShape) (p : Option Name) (cs : Vec (List ℕ × Option ValueShape) Global) → ty ≡ made.VariantOf p cs → KeepsValue (value_tree ty) → All (λ c. KeepsPayload (held_tree c.1)) cs.items
 variant_keeps ty p cs is k = All-from_recursion (λ c. KeepsPayload (held_tree c.1)) cs.items (cases_keep cs.items (rw (is, tree_variant p cs) at k).1)
 
-parts_written : (ts : List ValueShape) (ms : List WrittenScope) → write_parts (values_of (map value_tree ts)) ms ≡ write_each write_part ts ms
+pub parts_written : (ts : List ValueShape) (ms : List WrittenScope) → write_parts (values_of (map value_tree ts)) ms ≡ write_each write_part ts ms
 unfolding write_each write_defined
 parts_written [] ms = refl
 parts_written (t ∷ ts) ms = one (λ next. parts_written ts next) (write_part t ms)
@@ -114,7 +127,7 @@ parts_written (t ∷ ts) ms = one (λ next. parts_written ts next) (write_part t
     one h None = refl
     one h (Some x) = ap (wrote_as (λ us. x.1 ∷ us)) (h x.0)
 
-fields_written : (fs : List (List ℕ × ValueShape)) (ms : List WrittenScope) → write_fields (fields_of (map field_tree fs)) ms ≡ write_each write_field fs ms
+pub fields_written : (fs : List (List ℕ × ValueShape)) (ms : List WrittenScope) → write_fields (fields_of (map field_tree fs)) ms ≡ write_each write_field fs ms
 unfolding write_each write_defined
 fields_written [] ms = refl
 fields_written (f ∷ fs) ms = one (λ next. fields_written fs next) (write_part f.1 ms)
@@ -125,7 +138,7 @@ fields_written (f ∷ fs) ms = one (λ next. fields_written fs next) (write_part
     one h None = refl
     one h (Some x) = ap (wrote_as (λ us. (f.0, x.1) ∷ us)) (h x.0)
 
-params_written : (fs : List (List ℕ × ValueShape)) (ms : List WrittenScope) → write_params (map field_tree fs) ms ≡ write_each write_field fs ms
+pub params_written : (fs : List (List ℕ × ValueShape)) (ms : List WrittenScope) → write_params (map field_tree fs) ms ≡ write_each write_field fs ms
 unfolding write_each write_params
 params_written [] ms = refl
 params_written (f ∷ fs) ms = one (λ next. params_written fs next) (write_part f.1 ms)
@@ -136,7 +149,7 @@ params_written (f ∷ fs) ms = one (λ next. params_written fs next) (write_part
     one h None = refl
     one h (Some x) = ap (wrote_as (λ us. (f.0, x.1) ∷ us)) (h x.0)
 
-cases_written : (cs : List (List ℕ × Option ValueShape)) (ms : List WrittenScope) → write_cases (cases_of (map case_tree cs)) ms ≡ write_each write_case cs ms
+pub cases_written : (cs : List (List ℕ × Option ValueShape)) (ms : List WrittenScope) → write_cases (cases_of (map case_tree cs)) ms ≡ write_each write_case cs ms
 unfolding write_each write_defined
 cases_written [] ms = refl
 cases_written (c ∷ cs) ms = one (λ next. cases_written cs next) (write_payload (held_tree c.1) ms)
@@ -243,7 +256,7 @@ pub result_keeps : (r : Option ValueShape) → IfSome (option_map value_tree r) 
 result_keeps None k = tt
 result_keeps (Some t) k = k
 
-result_written : (r : Option ValueShape) (ms : List WrittenScope) → write_result (option_map value_tree r) ms ≡ write_payload (held_tree r) ms
+pub result_written : (r : Option ValueShape) (ms : List WrittenScope) → write_result (option_map value_tree r) ms ≡ write_payload (held_tree r) ms
 unfolding write_result write_defined
 result_written None ms = refl
 result_written (Some t) ms = refl
@@ -264,3 +277,6 @@ func_written f ms next last end ps r i a b h =
 
 pub tree_func : (f : FuncType) → type_tree (def.Func f) ≡ tree.Func f
 tree_func f = ap type_tree (sym (def.rolls-Func f)) ∙ fold-roll-DefType DeclTree TypeTree Decls Decls decl_step type_step component_step instance_step (def_layer.Func f)
+
+pub tree_defined : (t : DefinedType) → type_tree (def.Defined t) ≡ tree.Defined t
+tree_defined t = ap type_tree (sym (def.rolls-Defined t)) ∙ fold-roll-DefType DeclTree TypeTree Decls Decls decl_step type_step component_step instance_step (def_layer.Defined t)

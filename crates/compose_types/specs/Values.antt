@@ -1,9 +1,10 @@
 -- The parts of value types, as they are written one after the other.
-use Rattle.std.specs.Prelude.{ℕ, Box, List, [], ◌∷◌, Option, Some, option_map, option_and_then}
+use Rattle.std.specs.Prelude.{ℕ, Box, List, [], ◌∷◌, Option, Some, None, option_map, option_and_then}
 use Rattle.std.specs.Global.{Global}
+use Rattle.comp_format.specs.declared.types.Primitive.{Primitive as PrimitiveType}
 use Rattle.comp_format.specs.declared.types.ValType.{ValType}
 use Rattle.comp_entity.specs.declared.entity.ValueShape.{ValueShape}
-use Rattle.comp_entity.specs.Entity.{ValueTree, Payload}
+use Rattle.comp_entity.specs.Entity.{ValueTree, Primitive, Payload}
 use Rattle.comp_entity.specs.Views.{value_tree, payload_of}
 use Rattle.compose_writing.specs.Scopes.{WrittenScope, Wrote, wrote_as}
 use Rattle.compose_writing.specs.WriteValues.{write_value, write_payload}
@@ -33,3 +34,8 @@ write_field f ms = wrote_as (λ t. (f.0, t)) (write_value (value_tree f.1) ms)
 
 abbrev pub write_case : List ℕ × Option ValueShape → List WrittenScope → Wrote (List ℕ × Option ValType)
 write_case c ms = wrote_as (λ t. (c.0, t)) (write_payload (held_tree c.1) ms)
+
+-- the primitive type that a value type is, where it is one
+abbrev pub primitive_of : ValueTree → Option PrimitiveType
+primitive_of (Primitive p) = Some p
+primitive_of t = None

@@ -1,6 +1,6 @@
 //! Scopes of which the declarations are written, of each kind.
 
-ghost use Rattle.std.specs.Prelude.{◌≡◌, ◌<◌, ◌≤◌, ◌^◌, ◌++◌, ◌∷◌, [], ℕ, false, true, length, OnOk, OnErr, IfOk, IfSome, Err};
+ghost use Rattle.std.specs.Prelude.{◌≡◌, ◌<◌, ◌≤◌, ◌+◌, ◌^◌, ◌++◌, ◌∷◌, ◌⊎◌, [], ℕ, false, true, length, OnOk, OnErr, IfOk, IfSome, Err};
 ghost use Rattle.comp_format.specs.CoreTypes as core;
 ghost use Rattle.comp_format.specs.Definitions as tree;
 ghost use Rattle.comp_format.specs.Definitions.{with_decl, is_exported_sort, is_resource};
@@ -10,6 +10,7 @@ ghost use Rattle.comp_format.specs.Views.{component_type_tree, instance_type_tre
 ghost use Rattle.comp_format.specs.declared.types.Alias.TheVariants as alias;
 ghost use Rattle.comp_format.specs.declared.types.Sort.TheVariants as sort;
 ghost use Rattle.comp_encoder.specs.Builder.{entries_of};
+ghost use Rattle.comp_encoder.specs.Largest.{definition_largest};
 ghost use Rattle.comp_encoder.specs.Writing.{Single, described_sort, next_index};
 ghost use Rattle.compose_types.specs.Bodies.{declared, entries_for, kind_in};
 ghost use Rattle.compose_types.specs.Largest.{IsTooLarge, decls_size};
@@ -84,6 +85,8 @@ fn add_type(alloc: Global, builder: &mut ComponentBuilder, ty: &DefType) -> Resu
         ≡ entries_of builder.old ++ Single (Ty (type_tree ty.now)) ∷ []) }
     ensures unchanged { OnErr result (builder.new ≡ builder.old) }
     ensures too_large { (n : ℕ) → result ≡ Err (EncodeError.TooLarge n) → 2 ^ 32 ≤ n }
+    ensures among { (n : ℕ) → result ≡ Err (EncodeError.TooLarge n)
+        → (n ≡ definition_largest (type_tree ty.now)) ⊎ (n ≡ next_index sort.Ty (entries_of builder.old) + 1) }
 {
     match ty {
         DefType::Defined(ty) => builder.type_defined(alloc, ty)?,
@@ -117,6 +120,8 @@ impl Body {
         ensures kind { kind_in self.new ≡ kind_in self.old }
         ensures added { OnOk result (declared self.new ≡ with_decl (declared self.old) (tree.Ty (type_tree ty))) }
         ensures too_large { (n : ℕ) → result ≡ Err (EncodeError.TooLarge n) → 2 ^ 32 ≤ n }
+        ensures among { (n : ℕ) → result ≡ Err (EncodeError.TooLarge n)
+            → n ≤ decls_size (with_decl (declared self.old) (tree.Ty (type_tree ty))) }
     {
         match &mut self.items {
             Items::OfBuilder(builder) => add_type(alloc, builder, &ty)?,
@@ -134,6 +139,8 @@ impl Body {
         ensures added { OnOk result
             (declared self.new ≡ with_decl (declared self.old) (tree.CoreTy (core.Module (module_tree ty)))) }
         ensures too_large { (n : ℕ) → result ≡ Err (EncodeError.TooLarge n) → 2 ^ 32 ≤ n }
+        ensures among { (n : ℕ) → result ≡ Err (EncodeError.TooLarge n)
+            → n ≤ decls_size (with_decl (declared self.old) (tree.CoreTy (core.Module (module_tree ty)))) }
     {
         match &mut self.items {
             Items::OfBuilder(builder) => {
@@ -160,6 +167,8 @@ impl Body {
         ensures added { OnOk result
             (declared self.new ≡ with_decl (declared self.old) (tree.Aliased (alias.Export sort instance name.now))) }
         ensures too_large { (n : ℕ) → result ≡ Err (EncodeError.TooLarge n) → 2 ^ 32 ≤ n }
+        ensures among { (n : ℕ) → result ≡ Err (EncodeError.TooLarge n)
+            → n ≤ decls_size (with_decl (declared self.old) (tree.Aliased (alias.Export sort instance name.now))) }
     {
         match &mut self.items {
             Items::OfBuilder(builder) => {
@@ -198,6 +207,8 @@ impl Body {
         ensures added { OnOk result
             (declared self.new ≡ with_decl (declared self.old) (tree.Aliased (alias.Outer sort.Ty count index))) }
         ensures too_large { (n : ℕ) → result ≡ Err (EncodeError.TooLarge n) → 2 ^ 32 ≤ n }
+        ensures among { (n : ℕ) → result ≡ Err (EncodeError.TooLarge n)
+            → n ≤ decls_size (with_decl (declared self.old) (tree.Aliased (alias.Outer sort.Ty count index))) }
     {
         let sort = Sort::Ty;
         match &mut self.items {
@@ -217,6 +228,8 @@ impl Body {
         ensures kind { kind_in self.new ≡ kind_in self.old }
         ensures added { OnOk result (declared self.new ≡ with_decl (declared self.old) (tree.Import name.now ty)) }
         ensures too_large { (n : ℕ) → result ≡ Err (EncodeError.TooLarge n) → 2 ^ 32 ≤ n }
+        ensures among { (n : ℕ) → result ≡ Err (EncodeError.TooLarge n)
+            → n ≤ decls_size (with_decl (declared self.old) (tree.Import name.now ty)) }
     {
         match &mut self.items {
             Items::OfBuilder(builder) => {
@@ -260,6 +273,8 @@ impl Body {
         ensures kind { kind_in self.new ≡ kind_in self.old }
         ensures added { OnOk result (declared self.new ≡ with_decl (declared self.old) (tree.Export name.now ty)) }
         ensures too_large { (n : ℕ) → result ≡ Err (EncodeError.TooLarge n) → 2 ^ 32 ≤ n }
+        ensures among { (n : ℕ) → result ≡ Err (EncodeError.TooLarge n)
+            → n ≤ decls_size (with_decl (declared self.old) (tree.Export name.now ty)) }
     {
         match &mut self.items {
             Items::OfBuilder(_) => return Err(EncodeError::Memory),

@@ -20,7 +20,7 @@ ghost use Rattle.compose_writing.specs.Conditions.{KeepsEntries, KeepsForm, Keep
 ghost use Rattle.compose_writing.specs.Scopes.{WrittenScope, knows};
 ghost use Rattle.compose_writing.specs.WriteEntities.{write_component, write_entity, write_instance};
 ghost use Rattle.compose_writing.specs.WriteModules.{write_module};
-ghost use Rattle.compose_types.specs.Largest.{IsTooLarge, module_size};
+ghost use Rattle.compose_types.specs.Largest.{IsTooLarge, IsWithin, closed_size, module_size, written_size};
 ghost use Rattle.compose_types.specs.Scopes.{scopes};
 
 use crate::body::{Scope, Side};
@@ -51,6 +51,9 @@ fn component_type(
         (entries_of (named_entities exports.now)) (scopes state.old) ≡ Some (scopes state.new, component_type_tree t)) }
     ensures form { IfOk result (λ t. AreDecls true (component_type_tree t)) }
     ensures too_large { (n : ℕ) → result ≡ Err (EncodeError.TooLarge n) → 2 ^ 32 ≤ n }
+    ensures among { (n : ℕ) → result ≡ Err (EncodeError.TooLarge n)
+        → IsWithin n closed_size (write_component (entries_of (named_entities imports.now))
+        (entries_of (named_entities exports.now)) (scopes state.old)) }
 {
     state.open(alloc, Scope::Component, 2)?;
     write_entries(alloc, state, Side::Imports, imports)?;
@@ -78,7 +81,8 @@ impl<'a> TypeEncoder<'a> {
     /// The type of components with these imports and exports (`Binary.md`, `componenttype`), imports first. Their names
     /// are those of a shape: what the imports bring is one scope further out than what the component makes.
     ///
-    /// `TooLarge` has a number of 2^32 or more that would have to be written.
+    /// `TooLarge` has a number of 2^32 or more, which is not above the largest length, count or index that would have
+    /// to be written.
     pub fn component(
         &self,
         alloc: Global,
@@ -103,6 +107,10 @@ impl<'a> TypeEncoder<'a> {
             description.Component
             (IsComponent (entries_of (named_entities imports.now)) (entries_of (named_entities exports.now)))) }
         ensures too_large { (n : ℕ) → result ≡ Err (EncodeError.TooLarge n) → 2 ^ 32 ≤ n }
+        ensures among { (n : ℕ) (x : List WrittenScope × Decls) → result ≡ Err (EncodeError.TooLarge n)
+            → write_component (entries_of (named_entities imports.now))
+            (entries_of (named_entities exports.now)) (scopes state.old) ≡ Some x
+            → n ≤ closed_size x }
     {
         what_is_known_is_written();
         a_component_type_reads_back();
@@ -113,7 +121,8 @@ impl<'a> TypeEncoder<'a> {
     /// The type of an instance with these exports, which are called as in the scope in which the instance stands
     /// (`Binary.md`, `instancetype`).
     ///
-    /// `TooLarge` has a number of 2^32 or more that would have to be written.
+    /// `TooLarge` has a number of 2^32 or more, which is not above the largest length, count or index that would have
+    /// to be written.
     pub fn instance(
         &self,
         alloc: Global,
@@ -132,6 +141,9 @@ impl<'a> TypeEncoder<'a> {
             → IfOk result (λ t. IsNextType mean m k (scopes state.new) (tree.Instance (instance_type_tree t))
             description.Instance (IsInstance (entries_of (named_entities exports.now)))) }
         ensures too_large { (n : ℕ) → result ≡ Err (EncodeError.TooLarge n) → 2 ^ 32 ≤ n }
+        ensures among { (n : ℕ) (x : List WrittenScope × Decls) → result ≡ Err (EncodeError.TooLarge n)
+            → write_instance (entries_of (named_entities exports.now)) (scopes state.old) ≡ Some x
+            → n ≤ closed_size x }
     {
         what_is_known_is_written();
         an_instance_type_reads_back();
@@ -160,7 +172,8 @@ impl<'a> TypeEncoder<'a> {
     /// Writes what an import of a component with these imports and exports needs into the state, and gives its description
     /// (`Binary.md`, `externdesc`). Their names are as for `component`.
     ///
-    /// `TooLarge` has a number of 2^32 or more that would have to be written.
+    /// `TooLarge` has a number of 2^32 or more, which is not above the largest length, count or index that would have
+    /// to be written.
     #[tactic(auto, using(crate::proofs::EntityLaws::component_described, crate::proofs::EntityLaws::tree_component))]
     pub fn component_ref(
         &self,
@@ -185,6 +198,11 @@ impl<'a> TypeEncoder<'a> {
             → IfOk result (λ ty. IsWritten mean m k (scopes state.new) ty
             (IsComponent (entries_of (named_entities imports.now)) (entries_of (named_entities exports.now)))) }
         ensures too_large { (n : ℕ) → result ≡ Err (EncodeError.TooLarge n) → 2 ^ 32 ≤ n }
+        ensures among { (n : ℕ) (x : List WrittenScope × TypeRef) → result ≡ Err (EncodeError.TooLarge n)
+            → write_entity
+            (IsComponent (entries_of (named_entities imports.now)) (entries_of (named_entities exports.now)))
+            (scopes state.old) ≡ Some x
+            → n ≤ written_size x }
     {
         what_is_known_is_written();
         what_is_written_reads_back();
@@ -196,7 +214,8 @@ impl<'a> TypeEncoder<'a> {
     /// Writes what an import of this entity needs into the state, and gives its description (`Binary.md`,
     /// `externdesc`).
     ///
-    /// `TooLarge` has a number of 2^32 or more that would have to be written.
+    /// `TooLarge` has a number of 2^32 or more, which is not above the largest length, count or index that would have
+    /// to be written.
     pub fn entity(
         &self,
         alloc: Global,
@@ -213,6 +232,9 @@ impl<'a> TypeEncoder<'a> {
             → Keeps mean m k → HasMeaning mean (spot_of m k) (entity_tree entity.now)
             → IfOk result (λ ty. IsWritten mean m k (scopes state.new) ty (entity_tree entity.now)) }
         ensures too_large { (n : ℕ) → result ≡ Err (EncodeError.TooLarge n) → 2 ^ 32 ≤ n }
+        ensures among { (n : ℕ) (x : List WrittenScope × TypeRef) → result ≡ Err (EncodeError.TooLarge n)
+            → write_entity (entity_tree entity.now) (scopes state.old) ≡ Some x
+            → n ≤ written_size x }
     {
         what_is_known_is_written();
         what_is_written_reads_back();

@@ -10,6 +10,7 @@ ghost use Rattle.comp_entity.specs.Views.{component_sides, entity_tree, entries_
 ghost use Rattle.compose_writing.specs.Conditions.{KeepsEntries, KeepsForm, KeepsType, KeepsValue};
 ghost use Rattle.compose_writing.specs.WriteEntities.{noted, with_named, write_component, write_entity, write_entries, write_named, write_resource, write_type};
 ghost use Rattle.compose_writing.specs.Scopes.{WrittenScope, closed, knows, opened};
+ghost use Rattle.compose_types.specs.Largest.{IsWithin, closed_size, scopes_size, written_size};
 ghost use Rattle.compose_types.specs.Scopes.{item_of, scopes};
 
 use crate::body::{Scope, Side};
@@ -30,6 +31,8 @@ fn named_index(alloc: Global, state: &mut TypeState, ty: &ValueShape) -> Result<
         write_named (place_of (value_tree ty.now)) (value_tree ty.now) (scopes state.old)
         ≡ Some (scopes state.new, i)) }
     ensures too_large { (n : ℕ) → result ≡ Err (EncodeError.TooLarge n) → 2 ^ 32 ≤ n }
+    ensures among { (n : ℕ) → result ≡ Err (EncodeError.TooLarge n)
+        → IsWithin n written_size (write_named (place_of (value_tree ty.now)) (value_tree ty.now) (scopes state.old)) }
 {
     match place_of(ty) {
         Some(place) => {
@@ -58,6 +61,9 @@ fn resource_ref(
         write_resource name (knows (scopes state.old) (OfResource name)) (scopes state.old)
         ≡ Some (scopes state.new, ty)) }
     ensures too_large { (n : ℕ) → result ≡ Err (EncodeError.TooLarge n) → 2 ^ 32 ≤ n }
+    ensures among { (n : ℕ) → result ≡ Err (EncodeError.TooLarge n)
+        → IsWithin n written_size
+        (write_resource name (knows (scopes state.old) (OfResource name)) (scopes state.old)) }
 {
     let key = Key::of_resource(name);
     if state.knows_key(key) {
@@ -112,6 +118,9 @@ pub fn name_entity(
     ensures named { OnOk result (scopes state.new
         ≡ with_named (item_of side) name.now (entity_tree entity.now) ty (scopes state.old)) }
     ensures too_large { (n : ℕ) → result ≡ Err (EncodeError.TooLarge n) → 2 ^ 32 ≤ n }
+    ensures among { (n : ℕ) → result ≡ Err (EncodeError.TooLarge n)
+        → n ≤ scopes_size
+        (with_named (item_of side) name.now (entity_tree entity.now) ty (scopes state.old)) }
 {
     let (types, instances) = state.name(alloc, side, name.as_str(), ty)?;
     note_entity(alloc, state, entity, types, instances)?;
@@ -130,6 +139,8 @@ pub fn entity_ref(
     ensures written { IfOk result (λ ty. write_entity (entity_tree entity.now) (scopes state.old)
         ≡ Some (scopes state.new, ty)) }
     ensures too_large { (n : ℕ) → result ≡ Err (EncodeError.TooLarge n) → 2 ^ 32 ≤ n }
+    ensures among { (n : ℕ) → result ≡ Err (EncodeError.TooLarge n)
+        → IsWithin n written_size (write_entity (entity_tree entity.now) (scopes state.old)) }
 {
     match entity {
         Entity::Func(func) => {
@@ -166,6 +177,8 @@ fn type_ref(alloc: Global, state: &mut TypeState, ty: &TypeShape) -> Result<Type
     ensures written { IfOk result (λ t. write_type (shape_tree ty.now) (scopes state.old)
         ≡ Some (scopes state.new, t)) }
     ensures too_large { (n : ℕ) → result ≡ Err (EncodeError.TooLarge n) → 2 ^ 32 ≤ n }
+    ensures among { (n : ℕ) → result ≡ Err (EncodeError.TooLarge n)
+        → IsWithin n written_size (write_type (shape_tree ty.now) (scopes state.old)) }
 {
     match ty {
         TypeShape::Resource(name) => {
@@ -208,6 +221,9 @@ pub fn instance_type(
         ≡ Some (scopes state.new, instance_type_tree t)) }
     ensures form { IfOk result (λ t. AreDecls false (instance_type_tree t)) }
     ensures too_large { (n : ℕ) → result ≡ Err (EncodeError.TooLarge n) → 2 ^ 32 ≤ n }
+    ensures among { (n : ℕ) → result ≡ Err (EncodeError.TooLarge n)
+        → IsWithin n closed_size (option_and_then closed
+        (write_entries tree.Export (entries_of (named_entities exports.now)) (opened width ∷ scopes state.old))) }
 {
     state.open(alloc, Scope::Instance, width)?;
     write_entries(alloc, state, Side::Exports, exports)?;
@@ -229,6 +245,9 @@ fn component_of(
         (component_sides component.now).exports (scopes state.old) ≡ Some (scopes state.new, component_type_tree t)) }
     ensures form { IfOk result (λ t. AreDecls true (component_type_tree t)) }
     ensures too_large { (n : ℕ) → result ≡ Err (EncodeError.TooLarge n) → 2 ^ 32 ≤ n }
+    ensures among { (n : ℕ) → result ≡ Err (EncodeError.TooLarge n)
+        → IsWithin n closed_size (write_component (component_sides component.now).imports
+        (component_sides component.now).exports (scopes state.old)) }
 {
     state.open(alloc, Scope::Component, 2)?;
     write_entries(alloc, state, Side::Imports, &component.imports)?;
@@ -250,6 +269,9 @@ pub fn write_entries(
         write_entries (item_of side) (entries_of (named_entities entries.now)) (scopes state.old)
         ≡ Some (scopes state.new)) }
     ensures too_large { (n : ℕ) → result ≡ Err (EncodeError.TooLarge n) → 2 ^ 32 ≤ n }
+    ensures among { (n : ℕ) → result ≡ Err (EncodeError.TooLarge n)
+        → IsWithin n scopes_size
+        (write_entries (item_of side) (entries_of (named_entities entries.now)) (scopes state.old)) }
 {
     for entry in entries {
         let ty = entity_ref(alloc, state, &entry.1)?;

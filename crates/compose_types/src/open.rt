@@ -1,6 +1,6 @@
 //! Scopes that are open, and what is declared in them.
 
-ghost use Rattle.std.specs.Prelude.{◌≡◌, ◌<◌, ◌≤◌, ◌^◌, ℕ, suc, false, true, All, length, OnOk, IfOk, Err, None, option_map};
+ghost use Rattle.std.specs.Prelude.{◌≡◌, ◌<◌, ◌≤◌, ◌^◌, ℕ, suc, false, true, All, length, OnOk, IfOk, IsSomeAnd, Err, None, option_map};
 ghost use Rattle.comp_format.specs.CoreTypes as core;
 ghost use Rattle.comp_format.specs.Definitions as tree;
 ghost use Rattle.comp_format.specs.Definitions.{is_resource};
@@ -69,6 +69,8 @@ impl Declared {
             → add_type (type_tree ty) (with_names width known self.old) ≡ (with_names width known self.new, i)) }
         ensures kind { kind_in self.new.body ≡ kind_in self.old.body }
         ensures too_large { (n : ℕ) → result ≡ Err (EncodeError.TooLarge n) → 2 ^ 32 ≤ n }
+        ensures among { (width : ℕ) (known : KnownThings) (n : ℕ) → result ≡ Err (EncodeError.TooLarge n)
+            → n ≤ scope_size (add_type (type_tree ty) (with_names width known self.old)).0 }
     {
         let index = self.types;
         let types = next(index)?;
@@ -85,6 +87,8 @@ impl Declared {
             ≡ (with_names width known self.new, i)) }
         ensures kind { kind_in self.new.body ≡ kind_in self.old.body }
         ensures too_large { (n : ℕ) → result ≡ Err (EncodeError.TooLarge n) → 2 ^ 32 ≤ n }
+        ensures among { (width : ℕ) (known : KnownThings) (n : ℕ) → result ≡ Err (EncodeError.TooLarge n)
+            → n ≤ scope_size (add_core_type (core.Module (module_tree ty)) (with_names width known self.old)).0 }
     {
         let index = self.core_types;
         let core_types = next(index)?;
@@ -106,6 +110,8 @@ impl Declared {
             ≡ (with_names width known self.new, i)) }
         ensures kind { kind_in self.new.body ≡ kind_in self.old.body }
         ensures too_large { (n : ℕ) → result ≡ Err (EncodeError.TooLarge n) → 2 ^ 32 ≤ n }
+        ensures among { (width : ℕ) (known : KnownThings) (n : ℕ) → result ≡ Err (EncodeError.TooLarge n)
+            → n ≤ scope_size (add_alias (alias.Export sort.Ty instance name.now) (with_names width known self.old)).0 }
     {
         let index = self.types;
         let types = next(index)?;
@@ -121,6 +127,8 @@ impl Declared {
             ≡ (with_names width known self.new, i)) }
         ensures kind { kind_in self.new.body ≡ kind_in self.old.body }
         ensures too_large { (n : ℕ) → result ≡ Err (EncodeError.TooLarge n) → 2 ^ 32 ≤ n }
+        ensures among { (width : ℕ) (known : KnownThings) (n : ℕ) → result ≡ Err (EncodeError.TooLarge n)
+            → n ≤ scope_size (add_alias (alias.Outer sort.Ty count index) (with_names width known self.old)).0 }
     {
         let place = self.types;
         let types = next(place)?;
@@ -142,6 +150,8 @@ impl Declared {
             ≡ (with_names width known self.new, i)) }
         ensures kind { kind_in self.new.body ≡ kind_in self.old.body }
         ensures too_large { (n : ℕ) → result ≡ Err (EncodeError.TooLarge n) → 2 ^ 32 ≤ n }
+        ensures among { (width : ℕ) (known : KnownThings) (n : ℕ) → result ≡ Err (EncodeError.TooLarge n)
+            → n ≤ scope_size (add_instance instance name.now (with_names width known self.old)).0 }
     {
         let index = self.instances;
         let instances = next(index)?;
@@ -159,6 +169,8 @@ impl Declared {
             → along from path.now (with_names width known self.old) ≡ (with_names width known self.new, i)) }
         ensures kind { kind_in self.new.body ≡ kind_in self.old.body }
         ensures too_large { (n : ℕ) → result ≡ Err (EncodeError.TooLarge n) → 2 ^ 32 ≤ n }
+        ensures among { (width : ℕ) (known : KnownThings) (n : ℕ) → result ≡ Err (EncodeError.TooLarge n)
+            → n ≤ scope_size (along from path.now (with_names width known self.old)).0 }
     {
         match path {
             [] => Ok(from),
@@ -189,6 +201,9 @@ impl Declared {
             ≡ with_names width known self.new) }
         ensures kind { kind_in self.new.body ≡ kind_in self.old.body }
         ensures too_large { (n : ℕ) → result ≡ Err (EncodeError.TooLarge n) → 2 ^ 32 ≤ n }
+        ensures among { (width : ℕ) (known : KnownThings) (n : ℕ) → result ≡ Err (EncodeError.TooLarge n)
+            → n ≤ scope_size
+            (counted ty (declare (item_of side name.now ty) (with_names width known self.old))) }
     {
         match side {
             Side::Imports => self.body.import(alloc, name, ty)?,
@@ -259,6 +274,9 @@ impl Open {
         ensures same { IfOk result (λ i. i ≡ None → scope_of self.new ≡ scope_of self.old) }
         ensures kind { kind_in self.new.declared.body ≡ kind_in self.old.declared.body }
         ensures too_large { (n : ℕ) → result ≡ Err (EncodeError.TooLarge n) → 2 ^ 32 ≤ n }
+        ensures among { (n : ℕ) → result ≡ Err (EncodeError.TooLarge n)
+            → IsSomeAnd (known_at self.old.known (mention_of key))
+            (λ at. n ≤ scope_size (index_in at (scope_of self.old)).0) }
     {
         match self.known.find(key) {
             None => Ok(None),

@@ -8,7 +8,8 @@ ghost use Rattle.comp_format.specs.Views.{component_type_tree, instance_type_tre
 ghost use Rattle.comp_format.specs.declared.types.Alias.TheVariants as alias;
 ghost use Rattle.comp_format.specs.declared.types.Sort.TheVariants as sort;
 ghost use Rattle.compose_writing.specs.Scopes.{WrittenScope, add_alias, add_core_type, add_type, change_top, closed, knows, on_top, opened, outermost, standing, type_index, with_known};
-ghost use Rattle.compose_writing.specs.WriteEntities.{at_end, note_new, write_also, write_import};
+ghost use Rattle.compose_writing.specs.Scopes.{declared as declare};
+ghost use Rattle.compose_writing.specs.WriteEntities.{at_end, counted, note_new, write_also, write_import};
 ghost use Rattle.compose_writing.specs.Conditions.{KeepsForm, is_known};
 ghost use Rattle.compose_meaning.specs.Described.{IsDescribed};
 ghost use Rattle.compose_meaning.specs.Keeps.{IsImported, Keeps, spot_of};
@@ -24,7 +25,7 @@ ghost use Rattle.comp_entity.specs.Views.{entity_tree};
 ghost use Rattle.comp_encoder.specs.Writing.{described_sort, next_index};
 ghost use Rattle.comp_encoder.specs.Builder.{entries_of};
 ghost use Rattle.compose_types.specs.Bodies.{entries_for};
-ghost use Rattle.compose_types.specs.Largest.{IsTooLarge, scopes_size};
+ghost use Rattle.compose_types.specs.Largest.{IsTooLarge, IsWithin, scopes_size, standing_size, written_size};
 ghost use Rattle.compose_types.specs.Scopes.{Declares, item_of, outermost_scope, scopes, scopes_in};
 ghost use Rattle.compose_types.specs.Views.{IsNamed, at_of, mention_of};
 
@@ -87,6 +88,8 @@ impl TypeState {
         ensures added { IfOk result (λ i. on_top (add_type (type_tree ty)) (scopes self.old)
             ≡ Some (scopes self.new, i)) }
         ensures too_large { (n : ℕ) → result ≡ Err (EncodeError.TooLarge n) → 2 ^ 32 ≤ n }
+        ensures among { (n : ℕ) → result ≡ Err (EncodeError.TooLarge n)
+            → IsWithin n written_size (on_top (add_type (type_tree ty)) (scopes self.old)) }
     {
         match self.inner.pop() {
             Some(mut scope) => {
@@ -111,6 +114,8 @@ impl TypeState {
         ensures added { IfOk result (λ i.
             on_top (add_core_type (core.Module (module_tree ty))) (scopes self.old) ≡ Some (scopes self.new, i)) }
         ensures too_large { (n : ℕ) → result ≡ Err (EncodeError.TooLarge n) → 2 ^ 32 ≤ n }
+        ensures among { (n : ℕ) → result ≡ Err (EncodeError.TooLarge n)
+            → IsWithin n written_size (on_top (add_core_type (core.Module (module_tree ty))) (scopes self.old)) }
     {
         match self.inner.pop() {
             Some(mut scope) => {
@@ -131,6 +136,8 @@ impl TypeState {
         ensures added { IfOk result (λ i.
             on_top (add_alias (alias.Outer sort.Ty count index)) (scopes self.old) ≡ Some (scopes self.new, i)) }
         ensures too_large { (n : ℕ) → result ≡ Err (EncodeError.TooLarge n) → 2 ^ 32 ≤ n }
+        ensures among { (n : ℕ) → result ≡ Err (EncodeError.TooLarge n)
+            → IsWithin n written_size (on_top (add_alias (alias.Outer sort.Ty count index)) (scopes self.old)) }
     {
         match self.inner.pop() {
             Some(mut scope) => {
@@ -149,6 +156,8 @@ impl TypeState {
     fn stand(&mut self, alloc: Global, key: Key) -> Result<(u32, u32), EncodeError>
         ensures stood { IfOk result (λ x. standing (scopes self.old) (mention_of key) ≡ Some (scopes self.new, x)) }
         ensures too_large { (n : ℕ) → result ≡ Err (EncodeError.TooLarge n) → 2 ^ 32 ≤ n }
+        ensures among { (n : ℕ) → result ≡ Err (EncodeError.TooLarge n)
+            → IsWithin n standing_size (standing (scopes self.old) (mention_of key)) }
     {
         let Some(mut scope) = self.inner.pop() else {
             let Some(index) = self.outermost.index_of(alloc, key)? else {
@@ -178,6 +187,8 @@ impl TypeState {
     pub(crate) fn index_of(&mut self, alloc: Global, key: Key) -> Result<u32, EncodeError>
         ensures found { IfOk result (λ i. type_index (mention_of key) (scopes self.old) ≡ Some (scopes self.new, i)) }
         ensures too_large { (n : ℕ) → result ≡ Err (EncodeError.TooLarge n) → 2 ^ 32 ≤ n }
+        ensures among { (n : ℕ) → result ≡ Err (EncodeError.TooLarge n)
+            → IsWithin n written_size (type_index (mention_of key) (scopes self.old)) }
     {
         let (up, index) = self.stand(alloc, key)?;
         if up == 0 {
@@ -202,7 +213,7 @@ impl TypeState {
         width: usize,
     ) -> Result<(), EncodeError>
         ensures opened { OnOk result (scopes self.new ≡ opened width ∷ scopes self.old) }
-        ensures too_large { (n : ℕ) → result ≡ Err (EncodeError.TooLarge n) → 2 ^ 32 ≤ n }
+        ensures err { IfErr result (λ e. e ≡ EncodeError.Memory) }
     {
         self.inner.push(Open::new(alloc, kind, width))?;
         Ok(())
@@ -212,7 +223,7 @@ impl TypeState {
     pub(crate) fn close_instance(&mut self) -> Result<InstanceType, EncodeError>
         ensures closed { IfOk result (λ t. closed (scopes self.old) ≡ Some (scopes self.new, instance_type_tree t)) }
         ensures form { IfOk result (λ t. AreDecls false (instance_type_tree t)) }
-        ensures too_large { (n : ℕ) → result ≡ Err (EncodeError.TooLarge n) → 2 ^ 32 ≤ n }
+        ensures err { IfErr result (λ e. e ≡ EncodeError.Memory) }
     {
         let Some(scope) = self.inner.pop() else {
             return Err(EncodeError::Memory);
@@ -227,7 +238,7 @@ impl TypeState {
     pub(crate) fn close_component(&mut self) -> Result<ComponentType, EncodeError>
         ensures closed { IfOk result (λ t. closed (scopes self.old) ≡ Some (scopes self.new, component_type_tree t)) }
         ensures form { IfOk result (λ t. AreDecls true (component_type_tree t)) }
-        ensures too_large { (n : ℕ) → result ≡ Err (EncodeError.TooLarge n) → 2 ^ 32 ≤ n }
+        ensures err { IfErr result (λ e. e ≡ EncodeError.Memory) }
     {
         let Some(scope) = self.inner.pop() else {
             return Err(EncodeError::Memory);
@@ -250,6 +261,8 @@ impl TypeState {
         ensures named { IfOk result (λ x.
             Declares (item_of side name.now ty) ty (scopes self.old) (scopes self.new) x.0 x.1) }
         ensures too_large { (n : ℕ) → result ≡ Err (EncodeError.TooLarge n) → 2 ^ 32 ≤ n }
+        ensures among { (n : ℕ) → result ≡ Err (EncodeError.TooLarge n)
+            → n ≤ scopes_size (change_top (λ m. counted ty (declare (item_of side name.now ty) m)) (scopes self.old)) }
     {
         match self.inner.pop() {
             Some(mut scope) => {

@@ -8,13 +8,14 @@ ghost use Rattle.comp_entity.specs.Views.{func_tree, value_tree};
 ghost use Rattle.compose_writing.specs.Conditions.{KeepsFunc, KeepsPayload, KeepsValue};
 ghost use Rattle.compose_writing.specs.Scopes.{type_index};
 ghost use Rattle.compose_writing.specs.WriteValues.{then_defined, write_defined, write_func, write_own, write_payload, write_result, write_value};
+ghost use Rattle.compose_types.specs.Largest.{IsWithin, written_size};
 ghost use Rattle.compose_types.specs.Scopes.{scopes};
-ghost use Rattle.compose_types.specs.Values.{boxed_tree, held_tree, write_case, write_each, write_field, write_part};
+ghost use Rattle.compose_types.specs.Values.{boxed_tree, held_tree, primitive_of, write_case, write_each, write_field, write_part};
 
 use crate::known::Key;
 use crate::state::TypeState;
 use comp_entity::{FuncShape, ResourceNo, TypeNo, ValueShape};
-use comp_format::{DefType, DefinedType, EncodeError, FuncType, ValType};
+use comp_format::{DefType, DefinedType, EncodeError, FuncType, Primitive, ValType};
 use std::alloc::Global;
 use warg_values::{Sequence, Text};
 
@@ -31,11 +32,23 @@ pub fn place_of(ty: &ValueShape) -> Option<TypeNo>
     }
 }
 
+/// The primitive type that a value type is, where it is one.
+fn primitive_of(ty: &ValueShape) -> Option<Primitive>
+    ensures { result ≡ primitive_of (value_tree ty.now) }
+{
+    match ty {
+        ValueShape::Primitive(primitive) => Some(*primitive),
+        _ => None,
+    }
+}
+
 /// Adds a type of values, and gives its index.
 fn add_defined(alloc: Global, state: &mut TypeState, ty: DefinedType) -> Result<u32, EncodeError>
     requires { IsDefined ty }
     ensures added { IfOk result (λ i. then_defined (Some (scopes state.old, ty)) ≡ Some (scopes state.new, i)) }
     ensures too_large { (n : ℕ) → result ≡ Err (EncodeError.TooLarge n) → 2 ^ 32 ≤ n }
+    ensures among { (n : ℕ) → result ≡ Err (EncodeError.TooLarge n)
+        → IsWithin n written_size (then_defined (Some (scopes state.old, ty))) }
 {
     let index = state.add_type(alloc, DefType::Defined(ty))?;
     Ok(index)
@@ -61,6 +74,8 @@ fn resource_index(
 ) -> Result<u32, EncodeError>
     ensures found { IfOk result (λ i. type_index (OfResource name) (scopes state.old) ≡ Some (scopes state.new, i)) }
     ensures too_large { (n : ℕ) → result ≡ Err (EncodeError.TooLarge n) → 2 ^ 32 ≤ n }
+    ensures among { (n : ℕ) → result ≡ Err (EncodeError.TooLarge n)
+        → IsWithin n written_size (type_index (OfResource name) (scopes state.old)) }
 {
     let index = state.index_of(alloc, Key::of_resource(name))?;
     Ok(index)
@@ -70,6 +85,8 @@ fn resource_index(
 pub fn place_index(alloc: Global, state: &mut TypeState, place: TypeNo) -> Result<u32, EncodeError>
     ensures found { IfOk result (λ i. type_index (OfPlace place) (scopes state.old) ≡ Some (scopes state.new, i)) }
     ensures too_large { (n : ℕ) → result ≡ Err (EncodeError.TooLarge n) → 2 ^ 32 ≤ n }
+    ensures among { (n : ℕ) → result ≡ Err (EncodeError.TooLarge n)
+        → IsWithin n written_size (type_index (OfPlace place) (scopes state.old)) }
 {
     let index = state.index_of(alloc, Key::of_place(place))?;
     Ok(index)
@@ -88,6 +105,8 @@ pub fn defined_of(
         ≡ Some (scopes state.new, d)) }
     ensures form { IfOk result (λ d. IsDefined d) }
     ensures too_large { (n : ℕ) → result ≡ Err (EncodeError.TooLarge n) → 2 ^ 32 ≤ n }
+    ensures among { (n : ℕ) → result ≡ Err (EncodeError.TooLarge n)
+        → IsWithin n written_size (write_defined (value_tree ty.now) (scopes state.old)) }
 {
     match ty {
         ValueShape::Primitive(primitive) => Ok(DefinedType::Primitive(*primitive)),
@@ -119,6 +138,7 @@ pub fn defined_of(
 
 /// A value type as a part of another type.
 #[cycle(values)]
+#[tactic(auto, using(crate::proofs::ValueLargestLaws::primitive_written, crate::proofs::ValueLargestLaws::place_written, crate::proofs::ValueLargestLaws::part_written))]
 pub fn value_of(
     alloc: Global,
     state: &mut TypeState,
@@ -128,9 +148,11 @@ pub fn value_of(
     ensures written { IfOk result (λ t. write_value (value_tree ty.now) (scopes state.old)
         ≡ Some (scopes state.new, t)) }
     ensures too_large { (n : ℕ) → result ≡ Err (EncodeError.TooLarge n) → 2 ^ 32 ≤ n }
+    ensures among { (n : ℕ) → result ≡ Err (EncodeError.TooLarge n)
+        → IsWithin n written_size (write_value (value_tree ty.now) (scopes state.old)) }
 {
-    if let ValueShape::Primitive(primitive) = ty {
-        return Ok(ValType::Primitive(*primitive));
+    if let Some(primitive) = primitive_of(ty) {
+        return Ok(ValType::Primitive(primitive));
     }
     let index = match place_of(ty) {
         Some(place) => place_index(alloc, state, place)?,
@@ -154,6 +176,8 @@ fn boxed_of(
     ensures written { IfOk result (λ t.
         write_payload (boxed_tree held.now) (scopes state.old) ≡ Some (scopes state.new, t)) }
     ensures too_large { (n : ℕ) → result ≡ Err (EncodeError.TooLarge n) → 2 ^ 32 ≤ n }
+    ensures among { (n : ℕ) → result ≡ Err (EncodeError.TooLarge n)
+        → IsWithin n written_size (write_payload (boxed_tree held.now) (scopes state.old)) }
 {
     match held {
         None => Ok(None),
@@ -175,6 +199,8 @@ fn parts_of(
     ensures written { IfOk result (λ ts. write_each write_part parts.now (scopes state.old)
         ≡ Some (scopes state.new, ts)) }
     ensures too_large { (n : ℕ) → result ≡ Err (EncodeError.TooLarge n) → 2 ^ 32 ≤ n }
+    ensures among { (n : ℕ) → result ≡ Err (EncodeError.TooLarge n)
+        → IsWithin n written_size (write_each write_part parts.now (scopes state.old)) }
 {
     let mut written = Sequence::new(alloc);
     for part in parts {
@@ -195,6 +221,8 @@ fn fields_of(
     ensures written { IfOk result (λ ts. write_each write_field fields.now (scopes state.old)
         ≡ Some (scopes state.new, ts)) }
     ensures too_large { (n : ℕ) → result ≡ Err (EncodeError.TooLarge n) → 2 ^ 32 ≤ n }
+    ensures among { (n : ℕ) → result ≡ Err (EncodeError.TooLarge n)
+        → IsWithin n written_size (write_each write_field fields.now (scopes state.old)) }
 {
     let mut written = Sequence::new(alloc);
     for field in fields {
@@ -217,6 +245,8 @@ fn cases_of(
     ensures written { IfOk result (λ ts. write_each write_case cases.now (scopes state.old)
         ≡ Some (scopes state.new, ts)) }
     ensures too_large { (n : ℕ) → result ≡ Err (EncodeError.TooLarge n) → 2 ^ 32 ≤ n }
+    ensures among { (n : ℕ) → result ≡ Err (EncodeError.TooLarge n)
+        → IsWithin n written_size (write_each write_case cases.now (scopes state.old)) }
 {
     let mut written = Sequence::new(alloc);
     for case in cases {
@@ -243,6 +273,8 @@ fn result_of(
     ensures written { IfOk result (λ t. write_payload (held_tree held.now) (scopes state.old)
         ≡ Some (scopes state.new, t)) }
     ensures too_large { (n : ℕ) → result ≡ Err (EncodeError.TooLarge n) → 2 ^ 32 ≤ n }
+    ensures among { (n : ℕ) → result ≡ Err (EncodeError.TooLarge n)
+        → IsWithin n written_size (write_payload (held_tree held.now) (scopes state.old)) }
 {
     match held {
         None => Ok(None),
@@ -263,6 +295,8 @@ pub fn func_index(
     ensures written { IfOk result (λ i. write_func (func_tree func.now) (scopes state.old)
         ≡ Some (scopes state.new, i)) }
     ensures too_large { (n : ℕ) → result ≡ Err (EncodeError.TooLarge n) → 2 ^ 32 ≤ n }
+    ensures among { (n : ℕ) → result ≡ Err (EncodeError.TooLarge n)
+        → IsWithin n written_size (write_func (func_tree func.now) (scopes state.old)) }
 {
     let params = fields_of(alloc, state, &func.params)?;
     let result = result_of(alloc, state, &func.result)?;
@@ -275,6 +309,8 @@ pub fn own_index(alloc: Global, state: &mut TypeState, ty: &ValueShape) -> Resul
     requires { KeepsValue (value_tree ty.now) }
     ensures written { IfOk result (λ i. write_own (value_tree ty.now) (scopes state.old) ≡ Some (scopes state.new, i)) }
     ensures too_large { (n : ℕ) → result ≡ Err (EncodeError.TooLarge n) → 2 ^ 32 ≤ n }
+    ensures among { (n : ℕ) → result ≡ Err (EncodeError.TooLarge n)
+        → IsWithin n written_size (write_own (value_tree ty.now) (scopes state.old)) }
 {
     let defined = defined_of(alloc, state, ty)?;
     let index = add_defined(alloc, state, defined)?;

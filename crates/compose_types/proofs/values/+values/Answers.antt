@@ -5,6 +5,9 @@ use Rattle.compose_writing.specs.Scopes.{wrote_as}
 use Rattle.compose_types.specs.Values.{write_each, write_part, write_field, write_case}
 use Rattle.compose_types.proofs.ValueLaws.{case_none, case_some, then_each, each_begin, each_end, each_step, tuple_keeps, record_keeps, variant_keeps, tuple_written, record_written, variant_written, tuple_form, record_form, variant_form}
 use Rattle.compose_types.proofs.values.+values.Goals.{cases_of-in-None+in_ok-push-in-None, cases_of-in-Some+in_ok-ty-in-Some+in_ok-push-in-Some}
+use Rattle.compose_types.proofs.ValueLargestLaws.{borrow_refused, boxed_refused, case_grows, case_refused, each_refused, err_refused, field_grows, field_refused, list_refused, ok_refused, option_refused, own_refused, own_added_refused, own_type_refused, part_grows, part_refused, place_refused, record_refused, tuple_refused, variant_refused}
+use Rattle.compose_types.proofs.RefusalLaws.{told}
+use Rattle.comp_entity.specs.Views.{value_tree}
 use Rattle.compose_types.proofs.values.+values.Goals as goal
 
 pub defined_of-parts_of-requires : goal.defined_of-parts_of-requires
@@ -88,3 +91,71 @@ cases_of-loop-case-preserved t c =
 
 pub cases_of-value_of-requires : goal.cases_of-value_of-requires
 cases_of-value_of-requires t c = (grind (arith, the_lemmas), rw (sym c.case-item.is, c.in-Some.is) at (c.requires c.loop-case.case-index c.case-item.result c.loop-case-test.true))
+
+pub boxed_of-returns-in_err-ty-in-Some-clause-among : goal.boxed_of-returns-in_err-ty-in-Some-clause-among
+boxed_of-returns-in_err-ty-in-Some-clause-among t c =
+    λ n e. boxed_refused n c.args.held.now c.in-Some.ty (scopes c.args.state.now) c.in-Some.is (rw c.deref.ensures at (c.in_err-ty-in-Some.ensures.among n (told c.from_residual.result _ n c.from_residual.ensures.1 e)))
+
+pub parts_of-returns-in_err-ty-clause-among : goal.parts_of-returns-in_err-ty-clause-among
+parts_of-returns-in_err-ty-clause-among t c = λ n e.
+    each_refused n write_part part_grows c.args.parts.now c.loop-part.part-index c.part-item.result c.loop-part.written (scopes c.loop-part.state) _ c.loop-part-test.true c.part-item.is c.loop-part.invariant
+    (c.in_err-ty.ensures.among n (told c.from_residual.result _ n c.from_residual.ensures.1 e))
+
+pub fields_of-returns-in_err-ty-clause-among : goal.fields_of-returns-in_err-ty-clause-among
+fields_of-returns-in_err-ty-clause-among t c = λ n e.
+    each_refused n write_field field_grows c.args.fields.now c.loop-field.field-index c.field-item.result c.loop-field.written (scopes c.loop-field.state) _ c.loop-field-test.true c.field-item.is c.loop-field.invariant
+    (field_refused n c.field-item.result (scopes c.loop-field.state) (c.in_err-ty.ensures.among n (told c.from_residual.result _ n c.from_residual.ensures.1 e)))
+
+pub cases_of-returns-in_err-ty-in-Some-clause-among : goal.cases_of-returns-in_err-ty-in-Some-clause-among
+cases_of-returns-in_err-ty-in-Some-clause-among t c = λ n e.
+    each_refused n write_case case_grows c.args.cases.now c.loop-case.case-index c.case-item.result c.loop-case.written (scopes c.loop-case.state) _ c.loop-case-test.true c.case-item.is c.loop-case.invariant
+    (case_refused n c.case-item.result c.in-Some.held (scopes c.loop-case.state) c.in-Some.is (c.in_err-ty-in-Some.ensures.among n (told c.from_residual-in_err-ty-in-Some.result _ n c.from_residual-in_err-ty-in-Some.ensures.1 e)))
+
+pub defined_of-returns-in_err-parts_of-in-TupleOf-clause-among : goal.defined_of-returns-in_err-parts_of-in-TupleOf-clause-among
+defined_of-returns-in_err-parts_of-in-TupleOf-clause-among t c = λ n e.
+    tuple_refused n c.args.ty.now (scopes c.args.state.now) c.in-TupleOf.parts c.in-TupleOf.is (rw c.deref.ensures.value at (c.in_err-parts_of-in-TupleOf.ensures.among n (told c.from_residual.result _ n c.from_residual.ensures.1 e)))
+
+pub defined_of-returns-in_err-fields_of-in-RecordOf-clause-among : goal.defined_of-returns-in_err-fields_of-in-RecordOf-clause-among
+defined_of-returns-in_err-fields_of-in-RecordOf-clause-among t c = λ n e.
+    record_refused n c.args.ty.now (scopes c.args.state.now) c.in-RecordOf.field-0 c.in-RecordOf.fields c.in-RecordOf.is (rw c.deref-in-RecordOf.ensures.value at (c.in_err-fields_of-in-RecordOf.ensures.among n (told c.from_residual-in_err-fields_of-in-RecordOf.result _ n c.from_residual-in_err-fields_of-in-RecordOf.ensures.1 e)))
+
+pub defined_of-returns-in_err-cases_of-in-VariantOf-clause-among : goal.defined_of-returns-in_err-cases_of-in-VariantOf-clause-among
+defined_of-returns-in_err-cases_of-in-VariantOf-clause-among t c = λ n e.
+    variant_refused n c.args.ty.now (scopes c.args.state.now) c.in-VariantOf.field-0 c.in-VariantOf.cases c.in-VariantOf.is (rw c.deref-in-VariantOf.ensures.value at (c.in_err-cases_of-in-VariantOf.ensures.among n (told c.from_residual-in_err-cases_of-in-VariantOf.result _ n c.from_residual-in_err-cases_of-in-VariantOf.ensures.1 e)))
+
+pub defined_of-returns-in_err-value_of-in-ListOf-clause-among : goal.defined_of-returns-in_err-value_of-in-ListOf-clause-among
+defined_of-returns-in_err-value_of-in-ListOf-clause-among t c = λ n e.
+    list_refused n c.args.ty.now (scopes c.args.state.now) c.in-ListOf.item c.in-ListOf.is (rw c.deref-in-ListOf.ensures at (c.in_err-value_of-in-ListOf.ensures.among n (told c.from_residual-in_err-value_of-in-ListOf.result _ n c.from_residual-in_err-value_of-in-ListOf.ensures.1 e)))
+
+pub defined_of-returns-in_err-value_of-in-OptionOf-clause-among : goal.defined_of-returns-in_err-value_of-in-OptionOf-clause-among
+defined_of-returns-in_err-value_of-in-OptionOf-clause-among t c = λ n e.
+    option_refused n c.args.ty.now (scopes c.args.state.now) c.in-OptionOf.item c.in-OptionOf.is (rw c.deref-in-OptionOf.ensures at (c.in_err-value_of-in-OptionOf.ensures.among n (told c.from_residual-in_err-value_of-in-OptionOf.result _ n c.from_residual-in_err-value_of-in-OptionOf.ensures.1 e)))
+
+pub defined_of-returns-in_err-ok-in-ResultOf-clause-among : goal.defined_of-returns-in_err-ok-in-ResultOf-clause-among
+defined_of-returns-in_err-ok-in-ResultOf-clause-among t c = λ n e.
+    ok_refused n c.args.ty.now (scopes c.args.state.now) c.in-ResultOf.ok c.in-ResultOf.err c.in-ResultOf.is (c.in_err-ok-in-ResultOf.ensures.among n (told c.from_residual-in_err-ok-in-ResultOf.result _ n c.from_residual-in_err-ok-in-ResultOf.ensures.1 e))
+
+pub defined_of-returns-in_err-err-in-ResultOf-clause-among : goal.defined_of-returns-in_err-err-in-ResultOf-clause-among
+defined_of-returns-in_err-err-in-ResultOf-clause-among t c = λ n e.
+    err_refused n c.args.ty.now (scopes c.args.state.now) c.in-ResultOf.ok c.in-ResultOf.err (scopes c.boxed_of.new.state) c.in_ok-ok-in-ResultOf.ok c.in-ResultOf.is c.in_ok-ok-in-ResultOf.ensures.written
+    (c.in_err-err-in-ResultOf.ensures.among n (told c.from_residual-in_err-err-in-ResultOf.result _ n c.from_residual-in_err-err-in-ResultOf.ensures.1 e))
+
+pub defined_of-returns-in_err-resource_index-in-Own-clause-among : goal.defined_of-returns-in_err-resource_index-in-Own-clause-among
+defined_of-returns-in_err-resource_index-in-Own-clause-among t c = λ n e.
+    own_refused n c.args.ty.now (scopes c.args.state.now) c.in-Own.resource c.in-Own.is (c.in_err-resource_index-in-Own.ensures.among n (told c.from_residual-in_err-resource_index-in-Own.result _ n c.from_residual-in_err-resource_index-in-Own.ensures.1 e))
+
+pub defined_of-returns-in_err-resource_index-in-Borrow-clause-among : goal.defined_of-returns-in_err-resource_index-in-Borrow-clause-among
+defined_of-returns-in_err-resource_index-in-Borrow-clause-among t c = λ n e.
+    borrow_refused n c.args.ty.now (scopes c.args.state.now) c.in-Borrow.resource c.in-Borrow.is (c.in_err-resource_index-in-Borrow.ensures.among n (told c.from_residual-in_err-resource_index-in-Borrow.result _ n c.from_residual-in_err-resource_index-in-Borrow.ensures.1 e))
+
+pub value_of-returns-in_err-index-in-Some-place_of-clause-among : goal.value_of-returns-in_err-index-in-Some-place_of-clause-among
+value_of-returns-in_err-index-in-Some-place_of-clause-among t c = λ n e.
+    place_refused (value_tree c.args.ty.now) (scopes c.args.state.now) (sym c.in_default.is ∙ c.primitive_of.ensures) n c.in-Some-place_of.place (sym c.in-Some-place_of.is ∙ c.place_of.ensures) (c.in_err-index-in-Some-place_of.ensures.among n (told c.from_residual.result _ n c.from_residual.ensures.1 e))
+
+pub value_of-returns-in_err-defined-in-None-clause-among : goal.value_of-returns-in_err-defined-in-None-clause-among
+value_of-returns-in_err-defined-in-None-clause-among t c = λ n e.
+    part_refused (value_tree c.args.ty.now) (scopes c.args.state.now) (sym c.in_default.is ∙ c.primitive_of.ensures) n (sym c.in-None.is ∙ c.place_of.ensures) (own_type_refused n (value_tree c.args.ty.now) (scopes c.args.state.now) (c.in_err-defined-in-None.ensures.among n (told c.from_residual-in_err-defined-in-None.result _ n c.from_residual-in_err-defined-in-None.ensures.1 e)))
+
+pub value_of-returns-in_err-index-in-None-clause-among : goal.value_of-returns-in_err-index-in-None-clause-among
+value_of-returns-in_err-index-in-None-clause-among t c = λ n e.
+    part_refused (value_tree c.args.ty.now) (scopes c.args.state.now) (sym c.in_default.is ∙ c.primitive_of.ensures) n (sym c.in-None.is ∙ c.place_of.ensures) (own_added_refused n (value_tree c.args.ty.now) (scopes c.args.state.now) (scopes c.defined_of.new.state) c.in_ok-defined-in-None.defined c.in_ok-defined-in-None.ensures.written (c.in_err-index-in-None.ensures.among n (told c.from_residual-in_err-index-in-None.result _ n c.from_residual-in_err-index-in-None.ensures.1 e)))

@@ -1,8 +1,11 @@
-use Rattle.std.proofs.Common.{rules, ◌≡◌, [], Some, sym, ap, ◌∙◌}
+use Rattle.std.proofs.Common.{rules, ◌≡◌, [], Some, sym, ap, ◌∙◌, subst}
 use Rattle.compose_writing.specs.Scopes.{standing}
-use Rattle.compose_types.specs.Scopes.{scopes}
+use Rattle.compose_types.specs.Scopes.{scopes, State}
 use Rattle.compose_types.specs.Views.{mention_of}
 use Rattle.compose_types.proofs.ScopeLaws.{stand_outermost, stand_in, stand_around}
+use Rattle.compose_types.specs.Largest.{IsWithin, standing_size}
+use Rattle.compose_types.proofs.LargestLaws.{stand_around_refused, stand_outermost_refused, stand_refused, stand_up_refused}
+use Rattle.compose_types.proofs.RefusalLaws.{told}
 use Rattle.compose_types.proofs.state.TypeState.+stand.Goals as goal
 
 pub returns-in_default-clause-stood : goal.returns-in_default-clause-stood
@@ -29,3 +32,32 @@ returns-in_ok-push-in-None-clause-stood t c =
     c.in-Some.ensures.items c.in_ok-push-in-None.ensures.items (c.in_ok-index-2.ensures.same c.in-None.is) (rw c.in-None.is at c.in_ok-index-2.ensures.found) c.in-Some-outside.ensures
     (c.in_ok-up-in-None.ensures.stood ∙ ap (λ s. Some (scopes s, (c.in_ok-up-in-None.up, c.in_ok-up-in-None.index))) (sym c.self-in-None.view_is))
     ∙ ap (λ n. Some (scopes (further.outermost, c.push-in-None.new.self.items), (n, c.in_ok-up-in-None.index))) (sym c.in_ok-up-in-None-2.ensures.value)
+
+pub returns-in_err-index-clause-among : goal.returns-in_err-index-clause-among
+returns-in_err-index-clause-among t c = λ n e.
+    let none : c.self.inside.inner.items ≡ [] = search rules in
+    let key = mention_of c.args.key in
+    subst (λ (s : State). IsWithin n standing_size (standing (scopes s) key)) c.self.view_is
+    (stand_outermost_refused n c.self.inside.inner.items c.self.inside.outermost key none
+    (c.in_err-index.ensures.among n (told c.from_residual.result _ n c.from_residual.ensures.1 e)))
+
+pub returns-in_err-index-2-clause-among : goal.returns-in_err-index-2-clause-among
+returns-in_err-index-2-clause-among t c = λ n e.
+    let key = mention_of c.args.key in
+    subst (λ (s : State). IsWithin n standing_size (standing (scopes s) key)) c.self.view_is
+    (stand_refused n c.self.inside.inner.items c.pop.new.self.items c.in-Some.scope c.self.inside.outermost key c.in-Some.ensures.items
+    (c.in_err-index-2.ensures.among n (told c.from_residual-in_err-index-2.result _ n c.from_residual-in_err-index-2.ensures.1 e)))
+
+pub returns-in_err-up-in-None-clause-among : goal.returns-in_err-up-in-None-clause-among
+returns-in_err-up-in-None-clause-among t c = λ n e.
+    let key = mention_of c.args.key in
+    subst (λ (s : State). IsWithin n standing_size (standing (scopes s) key)) c.self.view_is
+    (stand_around_refused n c.self.inside.inner.items c.pop.new.self.items c.in-Some.scope c.index_of-2.new.self c.self.inside.outermost key (mention_of c.in-Some-outside.further) c.in-Some.ensures.items (c.in_ok-index-2.ensures.same c.in-None.is) (rw c.in-None.is at c.in_ok-index-2.ensures.found) c.in-Some-outside.ensures
+    (c.in_err-up-in-None.ensures.among n (told c.from_residual-in_err-up-in-None.result _ n c.from_residual-in_err-up-in-None.ensures.1 e)))
+
+pub returns-in_err-up-in-None-2-clause-among : goal.returns-in_err-up-in-None-2-clause-among
+returns-in_err-up-in-None-2-clause-among t c = λ n e.
+    let key = mention_of c.args.key in
+    subst (λ (s : State). IsWithin n standing_size (standing (scopes s) key)) c.self.view_is
+    (stand_up_refused n c.in_ok-up-in-None.up c.in_ok-up-in-None.index c.self.inside.inner.items c.pop.new.self.items c.in-Some.scope c.index_of-2.new.self c.self.inside.outermost (scopes c.stand.new.self) key (mention_of c.in-Some-outside.further) c.in-Some.ensures.items (c.in_ok-index-2.ensures.same c.in-None.is) (rw c.in-None.is at c.in_ok-index-2.ensures.found) c.in-Some-outside.ensures
+    c.in_ok-up-in-None.ensures.stood (c.in_err-up-in-None-2.ensures.number n (told c.from_residual-in_err-up-in-None-2.result _ n c.from_residual-in_err-up-in-None-2.ensures.1 e)))

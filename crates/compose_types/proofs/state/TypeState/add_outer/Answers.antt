@@ -1,10 +1,13 @@
-use Rattle.std.proofs.Common.{rules, ◌≡◌, [], sym, ap, ◌∙◌}
+use Rattle.std.proofs.Common.{rules, ◌≡◌, [], sym, ap, ◌∙◌, subst}
 use Rattle.comp_format.specs.declared.types.Alias.TheVariants as alias
 use Rattle.comp_format.specs.declared.types.Sort.TheVariants as sort
 use Rattle.compose_writing.specs.Scopes.{add_alias}
 use Rattle.compose_writing.specs.Scopes.{on_top}
-use Rattle.compose_types.specs.Scopes.{scopes}
+use Rattle.compose_types.specs.Scopes.{scopes, State}
 use Rattle.compose_types.proofs.ScopeLaws.{top_changed, outermost_changed}
+use Rattle.compose_types.specs.Largest.{IsWithin, written_size}
+use Rattle.compose_types.proofs.LargestLaws.{outermost_refused, top_refused}
+use Rattle.compose_types.proofs.RefusalLaws.{told}
 use Rattle.compose_types.proofs.state.TypeState.add_outer.Goals as goal
 
 pub returns-in_ok-push-in-Some-clause-added : goal.returns-in_ok-push-in-Some-clause-added
@@ -20,3 +23,17 @@ returns-in_ok-place-in-None-clause-added c =
     let o = c.self.inside.outermost in
     ap (λ s. on_top (add_alias (alias.Outer sort.Ty c.args.count c.args.index)) (scopes s)) (sym c.self.view_is)
     ∙ outermost_changed (add_alias (alias.Outer sort.Ty c.args.count c.args.index)) c.self.inside.inner.items c.pop.new.self.items o (record o { declared = c.add_outer-in-None.new.self }) c.in_ok-place-in-None.place none rest (c.in_ok-place-in-None.ensures.added o.width o.known)
+
+pub returns-in_err-place-in-Some-clause-among : goal.returns-in_err-place-in-Some-clause-among
+returns-in_err-place-in-Some-clause-among c = λ n e.
+    subst (λ (s : State). IsWithin n written_size (on_top (add_alias (alias.Outer sort.Ty c.args.count c.args.index)) (scopes s))) c.self.view_is
+    (top_refused n (add_alias (alias.Outer sort.Ty c.args.count c.args.index)) c.self.inside.inner.items c.pop.new.self.items c.in-Some.scope c.self.inside.outermost c.in-Some.ensures.items
+    (c.in_err-place-in-Some.ensures.among c.in-Some.scope.width c.in-Some.scope.known n (told c.from_residual.result _ n c.from_residual.ensures.1 e)))
+
+pub returns-in_err-place-in-None-clause-among : goal.returns-in_err-place-in-None-clause-among
+returns-in_err-place-in-None-clause-among c = λ n e.
+    let none : c.self.inside.inner.items ≡ [] = search rules in
+    let o = c.self.inside.outermost in
+    subst (λ (s : State). IsWithin n written_size (on_top (add_alias (alias.Outer sort.Ty c.args.count c.args.index)) (scopes s))) c.self.view_is
+    (outermost_refused n (add_alias (alias.Outer sort.Ty c.args.count c.args.index)) c.self.inside.inner.items o none
+    (c.in_err-place-in-None.ensures.among o.width o.known n (told c.from_residual-in_err-place-in-None.result _ n c.from_residual-in_err-place-in-None.ensures.1 e)))

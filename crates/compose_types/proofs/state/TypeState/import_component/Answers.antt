@@ -1,4 +1,4 @@
-use Rattle.std.proofs.Common.{rules, ◌≡◌, [], refl, sym, ap, subst, ◌∙◌}
+use Rattle.std.proofs.Common.{rules, ◌≡◌, [], sym, ap, subst, ◌∙◌}
 use Rattle.comp_entity.specs.Entity.{IsComponent}
 use Rattle.compose_meaning.specs.Keeps.{IsImported}
 use Rattle.compose_writing.specs.WriteEntities.{write_import}
