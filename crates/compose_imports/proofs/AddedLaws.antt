@@ -3,10 +3,12 @@ use Rattle.std.proofs.Common.{◌≡◌, ◌∙◌, ◌+◌, ◌<◌, ◌≤◌,
 use Rattle.std.specs.Prelude.{option_map, option_to_list, slice_get}
 use Rattle.std.specs.Borrow.{Bor}
 use Rattle.std.specs.List.{AllByRecursion, flat_map}
-use Rattle.std.proofs.lemmas.List.{append-nil, append_assoc, take_all}
+use Rattle.std.proofs.lemmas.Grind.{flat_map-append}
+use Rattle.std.proofs.lemmas.List.{append-nil, append_assoc, take-append-drop, take_all}
 use Rattle.compose_component.specs.declared.component.Component.{Component}
 use Rattle.compose_order.specs.Needs.{LeftTree}
 use Rattle.compose_writing.specs.Scopes.{WrittenScope}
+use Rattle.compose_types.specs.Largest.{scopes_size}
 use Rattle.compose_types.specs.Scopes.{State, outermost_scope, scopes}
 use Rattle.compose_check.specs.Composition.{ComponentTree, component_tree, composition_tree}
 use Rattle.compose_check.specs.declared.composition.Composition.{Composition}
@@ -14,6 +16,7 @@ use Rattle.compose_image.specs.Imports.{component_import, write_lefts}
 use Rattle.compose_image.specs.Writable.{AreWritable}
 use Rattle.compose_imports.specs.Begun.{HasWritten, component_left, imports_at}
 use Rattle.compose_imports.specs.declared.begun.Begun.{Begun}
+use Rattle.compose_imports.proofs.GrownLaws.{first_refused}
 use Rattle.compose_imports.proofs.LeftLaws.{flat_more, flat_next, lefts_join, nothing_written, writable_behind, writable_front}
 
 pub record AreAdded {X : Type 0} (f : X → List LeftTree) (xs : List X) (i : ℕ) (old new : Begun) : Type 0 where
@@ -62,6 +65,26 @@ module _ {X : Type 0} (f : X → List LeftTree) (xs : List X) where
       → write_lefts (flat_map f xs) (scopes old.state) ≡ Some (scopes new.state)
   all_next i old new le a =
       ap (λ ys. write_lefts (flat_map f ys) (scopes old.state)) (sym (take_all i xs le)) ∙ a.next
+
+  -- all of them, from what is written of the first i
+  from_next : (i : ℕ) (d : X) (old mid : Begun) → i < length xs → AreAdded f xs i old mid
+      → write_lefts (flat_map f xs) (scopes old.state)
+      ≡ write_lefts (f (get_or xs i d) ++ flat_map f (drop (i + 1) xs)) (scopes mid.state)
+  from_next i d old mid lt a =
+      ap (λ ys. write_lefts (flat_map f ys) (scopes old.state)) (sym (take-append-drop i xs))
+      ∙ ap (λ ls. write_lefts ls (scopes old.state)) (flat_map-append f (take i xs) (drop i xs))
+      ∙ lefts_join (flat_map f (take i xs)) (flat_map f (drop i xs)) (scopes old.state) (scopes mid.state) a.next
+      ∙ ap (λ ls. write_lefts ls (scopes mid.state)) (flat_next f xs i d lt)
+
+  -- a number that is refused at the next
+  pub next_refused : ((ls : List LeftTree) (ms next : List WrittenScope) → write_lefts ls ms ≡ Some next
+      → scopes_size ms ≤ scopes_size next)
+      → (n i : ℕ) (d : X) (old mid : Begun) (next : List WrittenScope) → i < length xs → AreAdded f xs i old mid
+      → ((ms : List WrittenScope) → write_lefts (f (get_or xs i d)) (scopes mid.state) ≡ Some ms → n ≤ scopes_size ms)
+      → write_lefts (flat_map f xs) (scopes old.state) ≡ Some next → n ≤ scopes_size next
+  next_refused grow n i d old mid next lt a h e =
+      first_refused grow n (f (get_or xs i d)) (flat_map f (drop (i + 1) xs)) (scopes mid.state) next h
+      (sym (from_next i d old mid lt a) ∙ e)
 
 pub all_mapped : {X : Type 0} (P : LeftTree → Type 0) (f : X → LeftTree) (xs : List X) (i : ℕ) (d : X)
     → AllByRecursion P (map f xs) → i < length xs → P (f (get_or xs i d))

@@ -212,6 +212,15 @@ pub left_alone : (l : LeftTree) (ms next : List WrittenScope) → write_left l m
 unfolding write_lefts
 left_alone l ms next e = ap (option_and_then (write_lefts [])) e
 
+pub left_only : (l : LeftTree) (ms next : List WrittenScope) → write_lefts (l ∷ []) ms ≡ Some next
+    → write_left l ms ≡ Some next
+unfolding write_lefts
+left_only l ms next e = one (write_left l ms) e
+  where
+    one : (w : Option (List WrittenScope)) → option_and_then (write_lefts []) w ≡ Some next → w ≡ Some next
+    one None f = absurd cc
+    one (Some ns) f = f
+
 -- a list of lists, by its next
 pub flat_next : {X : Type 0} (f : X → List LeftTree) (xs : List X) (i : ℕ) (d : X) → i < length xs
     → flat_map f (drop i xs) ≡ f (get_or xs i d) ++ flat_map f (drop (i + 1) xs)

@@ -1,4 +1,5 @@
 mod FoundLaws
+mod GrownLaws
 mod LeftLaws
 mod AddedLaws
 mod RefusalLaws

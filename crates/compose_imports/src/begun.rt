@@ -17,9 +17,11 @@ ghost use Rattle.compose_imports.specs.Calls.{HasNamedCalls};
 ghost use Rattle.compose_imports.specs.Imported.{FindsImports};
 ghost use Rattle.compose_meaning.specs.Items.{items_for};
 ghost use Rattle.compose_order.specs.Known.{left_tree};
+ghost use Rattle.compose_types.specs.Largest.{scopes_size};
 ghost use Rattle.compose_types.specs.Scopes.{scopes};
 ghost use Rattle.compose_writing.specs.Scopes.{WrittenScope};
 
+use crate::laws::what_is_written_for_imports_only_grows;
 use crate::left::{write_component, write_left};
 use comp_encoder::EncodeError;
 use compose_check::Composition;
@@ -72,6 +74,9 @@ fn add_component(
     ensures written { (ls : Lefts) → HasWritten begun.old ls
         → OnOk result (HasWritten begun.new (ls ++ component_left component.now ∷ [])) }
     ensures too_large { (n : ℕ) → result ≡ Err (EncodeError.TooLarge n) → 2 ^ 32 ≤ n }
+    ensures among { (n : ℕ) (next : List WrittenScope) → result ≡ Err (EncodeError.TooLarge n)
+        → write_left (component_left component.now) (scopes begun.old.state) ≡ Some next
+        → n ≤ scopes_size next }
 {
     let index = write_component(alloc, &mut begun.state, component)?;
     note_import(alloc, &mut begun.names, component.name(), index)?;
@@ -87,6 +92,9 @@ fn add_left(alloc: Global, begun: &mut Begun, left: &LeftImport) -> Result<(), E
     ensures written { (ls : Lefts) → HasWritten begun.old ls
         → OnOk result (HasWritten begun.new (ls ++ left_tree left.now ∷ [])) }
     ensures too_large { (n : ℕ) → result ≡ Err (EncodeError.TooLarge n) → 2 ^ 32 ≤ n }
+    ensures among { (n : ℕ) (next : List WrittenScope) → result ≡ Err (EncodeError.TooLarge n)
+        → write_left (left_tree left.now) (scopes begun.old.state) ≡ Some next
+        → n ≤ scopes_size next }
 {
     let index = write_left(alloc, &mut begun.state, left)?;
     note_import(alloc, &mut begun.names, left.name.as_str(), index)?;
@@ -106,6 +114,9 @@ fn add_numbered(
     ensures written { (ls : Lefts) → HasWritten begun.old ls
         → OnOk result (HasWritten begun.new (ls ++ imports_at (composition_tree composition.now) number)) }
     ensures too_large { (n : ℕ) → result ≡ Err (EncodeError.TooLarge n) → 2 ^ 32 ≤ n }
+    ensures among { (n : ℕ) (next : List WrittenScope) → result ≡ Err (EncodeError.TooLarge n)
+        → write_lefts (imports_at (composition_tree composition.now) number) (scopes begun.old.state) ≡ Some next
+        → n ≤ scopes_size next }
 {
     if number >= composition.components.len() {
         return Ok(());
@@ -128,7 +139,12 @@ pub fn add_components(
     ensures next { OnOk result (write_lefts (imports_numbered (composition_tree composition.now) numbers.now)
         (scopes begun.old.state) ≡ Some (scopes begun.new.state)) }
     ensures too_large { (n : ℕ) → result ≡ Err (EncodeError.TooLarge n) → 2 ^ 32 ≤ n }
+    ensures among { (n : ℕ) (next : List WrittenScope) → result ≡ Err (EncodeError.TooLarge n)
+        → write_lefts (imports_numbered (composition_tree composition.now) numbers.now) (scopes begun.old.state)
+        ≡ Some next
+        → n ≤ scopes_size next }
 {
+    what_is_written_for_imports_only_grows();
     for number in numbers {
         add_numbered(alloc, begun, composition, *number)?;
     }
@@ -142,7 +158,11 @@ pub fn add_lefts(alloc: Global, begun: &mut Begun, lefts: &[LeftImport]) -> Resu
     ensures written { (ls : Lefts) → HasWritten begun.old ls
         → OnOk result (HasWritten begun.new (ls ++ map left_tree lefts.now)) }
     ensures too_large { (n : ℕ) → result ≡ Err (EncodeError.TooLarge n) → 2 ^ 32 ≤ n }
+    ensures among { (n : ℕ) (next : List WrittenScope) → result ≡ Err (EncodeError.TooLarge n)
+        → write_lefts (map left_tree lefts.now) (scopes begun.old.state) ≡ Some next
+        → n ≤ scopes_size next }
 {
+    what_is_written_for_imports_only_grows();
     for left in lefts {
         add_left(alloc, begun, left)?;
     }

@@ -1,4 +1,4 @@
-use Rattle.std.proofs.Common.{◌≡◌, ◌++◌, Some, arith, subst, sym}
+use Rattle.std.proofs.Common.{◌≡◌, ◌++◌, Some, ap, arith, subst, sym, ◌∙◌}
 use Rattle.compose_order.specs.Known.{left_tree}
 use Rattle.compose_order.specs.declared.left.LeftImport.{LeftImport}
 use Rattle.compose_types.specs.Scopes.{scopes}
@@ -6,8 +6,9 @@ use Rattle.compose_image.specs.Imports.{write_lefts}
 use Rattle.compose_image.specs.Writable.{AreWritable, IsWritable}
 use Rattle.compose_imports.specs.Begun.{HasWritten}
 use Rattle.compose_imports.specs.Calls.{HasNamedCalls}
-use Rattle.compose_imports.proofs.AddedLaws.{added_next, added_none, all_mapped, all_written, next_writable}
-use Rattle.compose_imports.proofs.LeftLaws.{alone_of, left_alone, map_flat}
+use Rattle.compose_imports.proofs.AddedLaws.{added_next, added_none, all_mapped, all_written, next_refused, next_writable}
+use Rattle.compose_imports.proofs.LeftLaws.{alone_of, left_alone, left_only, map_flat}
+use Rattle.compose_imports.proofs.RefusalLaws.{told}
 use Rattle.compose_imports.proofs.begun.add_lefts.Goals as goal
 
 pub loop-left-init : goal.loop-left-init
@@ -39,6 +40,17 @@ loop-left-preserved c =
     c.left-item.is (left_alone (left_tree x) (scopes mid.state) (scopes new.state) c.in_ok-add_left.ensures.next))
     (λ ls h. subst (λ (y : LeftImport). HasWritten new (ls ++ alone_of left_tree y)) c.left-item.is
     (c.in_ok-add_left.ensures.written ls h))
+
+pub returns-in_err-add_left-clause-among : goal.returns-in_err-add_left-clause-among
+returns-in_err-add_left-clause-among c = λ n next e is.
+    let x = c.left-item.result in
+    let mid = c.loop-left.begun in
+    next_refused (alone_of left_tree) c.args.lefts.now c.what_is_written_for_imports_only_grows.ensures.lefts n
+    c.loop-left.left-index x c.args.begun.now mid next c.loop-left-test.true c.loop-left.invariant
+    (λ ms h. c.in_err-add_left.ensures.among n ms (told c.from_residual.result _ n c.from_residual.ensures.1 e)
+    (left_only (left_tree x) (scopes mid.state) ms
+    (subst (λ (y : LeftImport). write_lefts (alone_of left_tree y) (scopes mid.state) ≡ Some ms) (sym c.left-item.is) h)))
+    (ap (λ ls. write_lefts ls (scopes c.args.begun.now.state)) (map_flat left_tree c.args.lefts.now) ∙ is)
 
 pub returns-clause-written : goal.returns-clause-written
 returns-clause-written c = λ ls h.
