@@ -15,7 +15,7 @@ use Rattle.compose_image.specs.CompositionImage.{composition_image, is_component
 use Rattle.compose_image.specs.Imports.{component_import, import_items, imports_of, used, used_components}
 use Rattle.compose_image.specs.Instances.{written}
 use Rattle.compose_image.specs.Writable.{HaveOwnNames}
-use Rattle.compose_encode.specs.Encoded.{IsEncoded}
+use Rattle.compose_encode.specs.Encoded.{IsEncoded, IsOfWritten}
 use Rattle.compose_encode.specs.Refusing.{clash_at, first_of, hidden_at}
 use Rattle.compose_encode.specs.declared.refused.CompositionError.{CompositionError}
 use Rattle.compose_encode.specs.declared.refused.CompositionError.TheVariants as refusal
@@ -74,12 +74,13 @@ pub record IsNameClash (c : CompositionTree) (define : Bool) (export : Option �
   pub had : hides c define export ≡ None
   pub first : shared_name c define lefts ≡ Some name
 
--- a number that would have to be written
+-- a number that would have to be written, and can't be
 pub record IsTooLargeIn (c : CompositionTree) (define : Bool) (export : Option ℕ) (n : ℕ) : Type 0 where
   pub order : List ℕ
   pub lefts : List LeftTree
   pub possible : CanBeEncoded c define export order lefts
   pub large : 2 ^ 32 ≤ n
+  pub among : IsOfWritten n c define export order lefts
 
 abbrev pub IsRefusedBy : CompositionTree → Bool → Option ℕ → CheckError → Type 0
 IsRefusedBy c define export (check.Incompatible (why.ExportNeeds name)) = IsHidden c define export name

@@ -1,24 +1,26 @@
 //! Compositions with their imports, as bytes.
 
-ghost use Rattle.std.specs.Prelude.{◌≡◌, ◌≤◌, ◌^◌, ◌∷◌, [], ℕ, map, if◌then◌else◌, Err, IfOk, Some};
+ghost use Rattle.std.specs.Prelude.{◌≡◌, ◌≤◌, ◌^◌, ◌∷◌, [], ℕ, List, map, if◌then◌else◌, Err, IfOk, Some};
 ghost use Rattle.std.specs.List.{AllByRecursion};
 ghost use Rattle.comp_format.specs.declared.error.EncodeError.TheVariants as encode_error;
 ghost use Rattle.compose_check.specs.Composition.{composition_tree};
 ghost use Rattle.compose_encode.specs.Encodable.{CanBeWritten};
-ghost use Rattle.compose_encode.specs.Encoded.{EncodingFits, IsEncoded};
+ghost use Rattle.compose_encode.specs.Encoded.{EncodingFits, IsEncoded, IsOfWritten};
 ghost use Rattle.compose_encode.specs.Held.{Items};
-ghost use Rattle.compose_image.specs.Imports.{component_import, import_items, imports_of, used_components};
+ghost use Rattle.compose_image.specs.Imports.{component_import, import_items, imports_of, used_components, write_lefts};
 ghost use Rattle.compose_image.specs.Writable.{AreWritable};
 ghost use Rattle.compose_imports.specs.Begun.{imports_numbered};
 ghost use Rattle.compose_imports.specs.Calls.{HasNamedCalls};
 ghost use Rattle.compose_imports.specs.Imported.{AreImported};
 ghost use Rattle.compose_order.specs.Known.{left_tree};
-ghost use Rattle.compose_writing.specs.Scopes.{outermost};
+ghost use Rattle.compose_types.specs.Largest.{scopes_size};
+ghost use Rattle.compose_writing.specs.Scopes.{WrittenScope, outermost};
 
 use crate::encode::encode_behind;
 use crate::used::used_components;
 use comp_format::EncodeError;
 use compose_check::Composition;
+use compose_imports::laws::what_can_be_imported_is_written;
 use compose_imports::{Imported, write_imports};
 use compose_naming::settle;
 use compose_order::LeftImport;
@@ -55,6 +57,10 @@ fn imports_of(
         × (import_items (imports_of (composition_tree composition.now) define (map left_tree lefts.items)) ≡ Some items)
         × AreImported imported items) }
     ensures too_large { (n : ℕ) → result ≡ Err (encode_error.TooLarge n) → 2 ^ 32 ≤ n }
+    ensures among { (n : ℕ) (next : List WrittenScope) → result ≡ Err (encode_error.TooLarge n)
+        → write_lefts (imports_of (composition_tree composition.now) define (map left_tree lefts.items)) (outermost ∷ [])
+        ≡ Some next
+        → n ≤ scopes_size next }
 {
     let numbers = imported_numbers(alloc, composition, define)?;
     let settled = settle(alloc, lefts)?;
@@ -65,7 +71,8 @@ fn imports_of(
 /// The bytes of a composition: its imports, and what `encode_behind` writes behind them. The left imports are those that
 /// its instances leave open, merged and in order, as `compose_check::check` gives them.
 ///
-/// `TooLarge` has a number of 2^32 or more that would have to be written.
+/// `TooLarge` has a number of 2^32 or more: a length, a count or an index that would have to be written behind the
+/// imports, or one that is not above the largest that would have to be written for them.
 pub fn encode_agreed(
     alloc: Global,
     composition: &Composition<'_>,
@@ -85,7 +92,10 @@ pub fn encode_agreed(
         × (import_items (imports_of (composition_tree composition.now) define (map left_tree lefts.items)) ≡ Some items)
         × EncodingFits (composition_tree composition.now) define export order.now items) }
     ensures too_large { (n : ℕ) → result ≡ Err (encode_error.TooLarge n) → 2 ^ 32 ≤ n }
+    ensures among { (n : ℕ) → result ≡ Err (encode_error.TooLarge n)
+        → IsOfWritten n (composition_tree composition.now) define export order.now (map left_tree lefts.items) }
 {
+    what_can_be_imported_is_written();
     let imported = imports_of(alloc, composition, lefts, define)?;
     let bytes = encode_behind(alloc, composition, order, define, export, imported)?;
     Ok(bytes)

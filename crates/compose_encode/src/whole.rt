@@ -4,6 +4,7 @@ ghost use Rattle.std.specs.Prelude.{◌≡◌, ◌<◌, ◌≤◌, ◌^◌, ℕ,
 ghost use Rattle.std.specs.Option.{option_or};
 ghost use Rattle.comp_format.specs.declared.error.EncodeError.TheVariants as encode_error;
 ghost use Rattle.compose_check.specs.Composition.{IsComposition, composition_tree, wiring};
+ghost use Rattle.compose_encode.specs.Encoded.{IsOfWritten};
 ghost use Rattle.compose_encode.specs.Refusing.{first_of, hidden_at};
 ghost use Rattle.compose_encode.specs.Whole.{CanBeEncoded, HaveComponentNames, IsEncodeRefusal, IsWhole, imported};
 ghost use Rattle.compose_left.specs.Numbers.{AreOrigins};
@@ -98,6 +99,9 @@ fn written(
     requires export { IfSome export (λ i. i < length (composition_tree composition.now).instances) }
     ensures whole { IfOk result (λ bytes. IsWhole (composition_tree composition.now) define export bytes.items) }
     ensures too_large { (n : ℕ) → result ≡ Err (encode_error.TooLarge n) → 2 ^ 32 ≤ n }
+    ensures among { (n : ℕ) → result ≡ Err (encode_error.TooLarge n)
+        → IsOfWritten n (composition_tree composition.now) define export agreed.order.items
+        (map left_tree agreed.lefts.items) }
 {
     compositions_are_of_shapes_that_are_read();
     sound_compositions_of_components_can_be_written();
@@ -119,7 +123,8 @@ fn written(
 /// Of what refuses it the first is the error: what `compose_check::check` refuses; `Incompatible(ExportNeeds)` for the
 /// first export of the exported instance, or else the first import or export of an imported component, that mentions what
 /// can't be had outside; `ImportNameClash` for the first imported component whose name an import that is left open has;
-/// `TooLarge` with a number of 2^32 or more that would have to be written.
+/// `TooLarge` with a number of 2^32 or more, a length, a count or an index that would have to be written behind the
+/// imports, or one that is not above the largest that would have to be written for them.
 pub fn encode_composition(
     alloc: Global,
     composition: &Composition<'_>,

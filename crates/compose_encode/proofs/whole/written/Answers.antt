@@ -3,7 +3,7 @@ use Rattle.std.specs.Global.{Global}
 use Rattle.std.specs.List.{AllByRecursion}
 use Rattle.compose_check.specs.Composition.{composition_tree}
 use Rattle.compose_order.specs.Known.{left_tree}
-use Rattle.compose_encode.specs.Encoded.{IsEncoded}
+use Rattle.compose_encode.specs.Encoded.{IsEncoded, IsOfWritten}
 use Rattle.compose_encode.specs.Whole.{IsWhole}
 use Rattle.compose_encode.proofs.OrderLaws.{all_named, instances_there}
 use Rattle.compose_encode.proofs.WholeLaws.{if_ok, imported_hide_nothing, own_imports}
@@ -33,6 +33,11 @@ encode_agreed-requires-clause-called c =
     c.what_is_called_has_a_path.ensures k c.args.agreed.order.items (map left_tree c.args.agreed.lefts.items)
     c.requires.possible.sound
     (c.compositions_are_of_shapes_that_are_read.ensures.imports k c.args.composition.now.components.items refl)
+
+pub returns-clause-among : goal.returns-clause-among
+returns-clause-among c = λ n e.
+    subst (λ (o : List ℕ). IsOfWritten n (composition_tree c.args.composition.now) c.args.define c.args.export o
+    (map left_tree c.args.agreed.lefts.items)) c.deref.ensures.value (c.encode_agreed.ensures.among n e)
 
 pub returns-clause-whole : goal.returns-clause-whole
 returns-clause-whole c =
