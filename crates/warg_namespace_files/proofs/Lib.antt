@@ -1,0 +1,3 @@
+pub mod NameLaws
+pub mod FileLaws
+mod Rows

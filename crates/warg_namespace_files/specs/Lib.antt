@@ -1,0 +1,2 @@
+pub mod NamespaceFile
+pub mod Shown

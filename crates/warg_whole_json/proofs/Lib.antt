@@ -1,0 +1,4 @@
+pub mod Braces
+pub mod LexLaws
+pub mod PrettyLaws
+pub mod FrontLaws
