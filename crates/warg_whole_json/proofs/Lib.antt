@@ -2,3 +2,4 @@ pub mod Braces
 pub mod LexLaws
 pub mod PrettyLaws
 pub mod FrontLaws
+pub mod ReadLaws

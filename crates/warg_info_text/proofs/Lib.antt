@@ -1,0 +1,5 @@
+pub mod ReplayLaws
+pub mod MemberLaws
+pub mod RecordLaws
+pub mod InfoLaws
+pub mod CheckpointLaws

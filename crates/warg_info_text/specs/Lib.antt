@@ -1,0 +1,4 @@
+pub mod StoredLogs
+pub mod StoredTexts
+pub mod Shown
+pub mod Writable
