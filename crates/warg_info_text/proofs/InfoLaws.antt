@@ -1,6 +1,6 @@
 -- What is kept of a log, written, is read as it was.
-use Rattle.std.proofs.Common.{◌≡◌, ◌≤◌, ◌<◌, ℕ, nat_eq, Bool, true, false, ◌&&◌, cond, List, [], ◌∷◌, ◌++◌, length, take, map, bytes_eq, Option, Some, None, is_some, option_map, option_and_then, codes, refl, sym, ap, subst, ◌∙◌, arith}
-use Rattle.std.specs.Prelude.{Result, Ok, Err, IfSome}
+use Rattle.std.proofs.Common.{◌≡◌, ◌≤◌, ◌<◌, ℕ, nat_eq, Bool, true, false, ◌&&◌, cond, List, length, take, map, bytes_eq, Option, Some, None, is_some, option_map, option_and_then, codes, refl, sym, ap, subst, ◌∙◌, arith}
+use Rattle.std.specs.Prelude.{Ok, IfSome}
 use Rattle.std.specs.Option.{option_eq}
 use Rattle.std.specs.Result.{result_ok}
 use Rattle.std.specs.Str.{is_utf8}
@@ -10,7 +10,7 @@ use Rattle.std.specs.Cmp.Lexicographic.{nat_list_eq_equiv}
 use Rattle.json.specs.Layout.{pretty}
 use Rattle.json.specs.Lex.{tokens}
 use Rattle.serde_json.specs.Data.{Data, null, boolean, number, string, array, object, Members, no_members, member, depth}
-use Rattle.serde_json.specs.Find.{get, get_member}
+use Rattle.serde_json.specs.Find.{get_member}
 use Rattle.serde_json.specs.Read.{read, max_depth}
 use Rattle.serde_json.specs.View.{items_of}
 use Rattle.serde_json.specs.Written.{IsInOrder, has_float}
@@ -19,13 +19,13 @@ use Rattle.warg_values.specs.Reading.{◌>>=◌}
 use Rattle.warg_hash.specs.Name.{is_package_name}
 use Rattle.warg_record.specs.Record.{Kind, Operator, Package}
 use Rattle.warg_exchange.specs.declared.checkpoint.Checkpoint.{Checkpoint}
-use Rattle.warg_exchange.specs.Body.{Meaning, required, optional_as, given_as, nullable_in, number_in, text_in, formed_in, list_in}
-use Rattle.warg_exchange.specs.Replies.{json_of, contents_in, checkpoint_in, published_in}
+use Rattle.warg_exchange.specs.Body.{Meaning, required, given_as, number_in, text_in, formed_in}
+use Rattle.warg_exchange.specs.Replies.{json_of, contents_in, checkpoint_in}
 use Rattle.warg_exchange.specs.Requests.{whole_number, contents_data}
-use Rattle.warg_info.specs.Kept.{Kept, last_index, last_token}
+use Rattle.warg_info.specs.Kept.{last_index, last_token}
 use Rattle.warg_store.specs.Held.{Info}
 use Rattle.warg_info_text.specs.StoredLogs.{log_in}
-use Rattle.warg_info_text.specs.StoredTexts.{meaning_of, Stored, stored_in, has_head, log_of, info_of, operator_of, package_of, lines_of, kept_data, optional_member, info_data}
+use Rattle.warg_info_text.specs.StoredTexts.{meaning_of, Stored, stored_in, has_head, info_of, operator_of, package_of, lines_of, kept_data, optional_member, info_data}
 use Rattle.warg_info_text.specs.Writable.{IsWritable, IsWritableName, put_optional}
 use Rattle.warg_info_text.proofs.MemberLaws.{IsBefore, before_optional, put_in_order, passed, found, no_floats, nests}
 use Rattle.warg_info_text.proofs.RecordLaws.{published_of, list_read, records_no_float, records_nest}

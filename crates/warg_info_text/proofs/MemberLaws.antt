@@ -1,6 +1,6 @@
 -- Members of objects that may be missing.
-use Rattle.std.proofs.Common.{◌≡◌, ◌≤◌, ℕ, suc, Bool, true, false, ◌||◌, List, [], ◌∷◌, Option, Some, None, option_map, codes, refl, sym, ap, ◌∙◌, arith}
-use Rattle.std.specs.Prelude.{max, IfSome}
+use Rattle.std.proofs.Common.{◌≡◌, ◌≤◌, ℕ, Bool, false, ◌||◌, List, Option, Some, None, refl, ap, ◌∙◌}
+use Rattle.std.specs.Prelude.{IfSome}
 use Rattle.std.proofs.Math.Nat.{max-le}
 use Rattle.std.specs.Ordering.{nat_cmp, match_ordering}
 use Rattle.std.specs.Cmp.Lexicographic.{slice_cmp}

@@ -1,19 +1,19 @@
 -- Records that are written are read as they were.
-use Rattle.std.proofs.Common.{◌≡◌, ◌≤◌, ℕ, Bool, true, false, ◌||◌, List, [], ◌∷◌, ◌++◌, map, Option, Some, None, option_map, option_and_then, refl, sym, ap, ◌∙◌, arith}
-use Rattle.std.specs.Prelude.{Ok, max}
+use Rattle.std.proofs.Common.{◌≡◌, ◌≤◌, false, List, [], ◌∷◌, ◌++◌, map, Some, refl, sym, arith}
+use Rattle.std.specs.Prelude.{Ok}
 use Rattle.std.specs.List.{AllByRecursion}
 use Rattle.std.proofs.Math.Nat.{max-le}
-use Rattle.serde_json.specs.Data.{Data, array, depth, items_depth}
+use Rattle.serde_json.specs.Data.{array, items_depth}
 use Rattle.serde_json.specs.View.{items_of}
-use Rattle.serde_json.specs.Written.{has_float, items_have_float}
+use Rattle.serde_json.specs.Written.{items_have_float}
 use Rattle.warg_hash.specs.Hash.{hash_text}
 use Rattle.warg_record.specs.Record.{Kind}
-use Rattle.warg_log.specs.Lawful.{IsRead, AreRead, IsLawful}
+use Rattle.warg_log.specs.Lawful.{AreRead, IsLawful}
 use Rattle.warg_log.specs.Rules.{any_signature}
 use Rattle.warg_exchange.specs.declared.logs.PublishedRecord.{PublishedRecord}
 use Rattle.warg_exchange.specs.Body.{each_item, list_in}
 use Rattle.warg_exchange.specs.Replies.{published_in}
-use Rattle.warg_info.specs.Kept.{Kept, AreKeptAs, IsKeptAs, Ascends, signed_log}
+use Rattle.warg_info.specs.Kept.{Kept, AreKeptAs, Ascends, signed_log}
 use Rattle.warg_info_text.specs.StoredLogs.{log_in}
 use Rattle.warg_info_text.specs.StoredTexts.{kept_data}
 use Rattle.warg_info_text.specs.Writable.{IsWritable}

@@ -1,15 +1,15 @@
 -- The log that stored records are is the one that their replay makes.
-use Rattle.std.proofs.Common.{◌≡◌, ◌<◌, ◌^◌, ◌&&◌, ℕ, not, Bool, true, false, cond, List, [], ◌∷◌, ◌++◌, length, map, Option, Some, None, is_some, option_map, option_and_then, refl, sym, ap, subst, ◌∙◌, append_assoc, append-nil}
+use Rattle.std.proofs.Common.{◌≡◌, ◌<◌, ◌^◌, ◌&&◌, ℕ, not, Bool, true, false, cond, List, [], ◌∷◌, ◌++◌, length, Option, Some, None, is_some, option_map, option_and_then, refl, sym, ap, subst, ◌∙◌, append_assoc, append-nil}
 use Rattle.std.specs.Prelude.{◌↔◌, IsUtf8}
 use Rattle.std.specs.Str.{is_utf8}
 use Rattle.std.proofs.lemmas.Bool.{and_parts}
 use Rattle.std.proofs.lemmas.Str.{is_utf8-from_IsUtf8, IsUtf8-from_is_utf8}
-use Rattle.warg_hash.specs.Hash.{IsHashText, digest_of}
+use Rattle.warg_hash.specs.Hash.{digest_of}
 use Rattle.warg_hash.specs.HashLaws.{digest_of-again, digest_of-sound}
 use Rattle.warg_record.specs.Envelope.{Signed, IsEnvelopeOf, IsMessageOf}
 use Rattle.warg_record.specs.Key.{IsKeyText, is_key_text}
 use Rattle.warg_record.specs.Reading.{record_of}
-use Rattle.warg_record.specs.Record.{Kind, PlainRecord, record_text}
+use Rattle.warg_record.specs.Record.{Kind, PlainRecord}
 use Rattle.warg_record.proofs.RecordLaws.{record_of-again, record_of-sound}
 use Rattle.warg_log.specs.Breaches.{IsBreach, wants_memory}
 use Rattle.warg_log.specs.Lawful.{IsLawful}
@@ -17,8 +17,8 @@ use Rattle.warg_log.specs.Rules.{Breach, any_signature, breach_of}
 use Rattle.warg_log.specs.declared.error.ValidationError.{ValidationError}
 use Rattle.warg_log.specs.declared.error.ValidationError.TheVariants as error
 use Rattle.warg_exchange.specs.declared.logs.PublishedRecord.{PublishedRecord}
-use Rattle.warg_info.specs.Faults.{BreaksRule, FirstFault, are_above, ascends}
-use Rattle.warg_info.specs.Kept.{Kept, AreAbove, AreKeptAs, Ascends, Grows, IsEnvelope, IsKeptAs, is_above, new_after, signed_log}
+use Rattle.warg_info.specs.Faults.{FirstFault, are_above, ascends}
+use Rattle.warg_info.specs.Kept.{Kept, AreAbove, AreKeptAs, Ascends, IsEnvelope, IsKeptAs, is_above, new_after, signed_log}
 use Rattle.warg_info.specs.declared.error.TakeError.TheVariants as take
 use Rattle.warg_info_text.specs.StoredLogs.{envelope_in, kept_in, all_kept, is_lawful_behind, if_lawful, log_in}
 
@@ -56,13 +56,16 @@ module _ (keys : TestsKeys) (kind : Kind) (p : PublishedRecord) (never : ¬ IsEn
   no_test rec key true r d test =
       let read = record_of-sound kind p.content_bytes rec r in
       let tests = and_parts (is_utf8 p.signature) (is_key_text p.signature) test in
-      absurd (never (record { rec = rec; contents = p.content_bytes; key_id = key; signature = p.signature }, record {
-        message = record { form = read.1; text = read.0 };
-        same_contents = refl;
-        key = digest_of-sound p.key_id key d;
-        same_signature = refl;
-        key_text = (keys p.signature (IsUtf8-from_is_utf8 p.signature tests.0)).0 tests.1;
-      }))
+      absurd (never (
+        record { rec = rec; contents = p.content_bytes; key_id = key; signature = p.signature },
+        record {
+          message = record { form = read.1; text = read.0 };
+          same_contents = refl;
+          key = digest_of-sound p.key_id key d;
+          same_signature = refl;
+          key_text = (keys p.signature (IsUtf8-from_is_utf8 p.signature tests.0)).0 tests.1;
+        },
+      ))
 
   no_key : (rec : PlainRecord) (o : Option (List ℕ)) → record_of kind p.content_bytes ≡ Some rec → digest_of p.key_id ≡ o
       → option_and_then {U = Signed} (λ key. cond (is_utf8 p.signature && is_key_text p.signature) (Some (record { rec = rec; contents = p.content_bytes; key_id = key; signature = p.signature })) None) o ≡ None

@@ -1,5 +1,5 @@
 -- Checkpoints and logs as JSON (RFC 8259) that is kept, in lines and with the members of each object ascending.
-use Rattle.std.specs.Prelude.{ℕ, nat_eq, ◌&&◌, Bool, if◌then◌else◌, List, [], ◌∷◌, bytes_eq, codes, map, Option, Some, None, is_some, option_map, option_and_then, Result, Ok}
+use Rattle.std.specs.Prelude.{ℕ, nat_eq, ◌&&◌, Bool, if◌then◌else◌, List, bytes_eq, codes, map, Option, Some, None, is_some, option_map, option_and_then, Ok}
 use Rattle.std.specs.Option.{option_eq}
 use Rattle.std.specs.Result.{result_ok}
 use Rattle.base64.specs.Engines.{standard}

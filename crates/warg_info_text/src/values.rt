@@ -128,10 +128,7 @@ fn record_value<E: JudgedEntry>(alloc: Global, kept: &KeptRecord<E>) -> Result<V
 }
 
 /// The JSON of records, in order.
-fn records_value<E: JudgedEntry>(
-    alloc: Global,
-    records: &[KeptRecord<E>],
-) -> Result<Value, Memory>
+fn records_value<E: JudgedEntry>(alloc: Global, records: &[KeptRecord<E>]) -> Result<Value, Memory>
     ensures data { IfOk result (λ v. view v
         ≡ array (items_of (map kept_data (map (kept_view E.plain) records.now)))) }
     ensures writable { OnOk result (AllByRecursion IsWritable (map (kept_view E.plain) records.now)) }
@@ -171,10 +168,7 @@ fn text_value(alloc: Global, text: Option<&str>) -> Result<Option<Value>, Memory
 }
 
 /// The JSON of a registry's name that may be missing.
-fn registry_value(
-    alloc: Global,
-    registry: Option<&RegistryDomain>,
-) -> Result<Option<Value>, Memory>
+fn registry_value(alloc: Global, registry: Option<&RegistryDomain>) -> Result<Option<Value>, Memory>
     ensures { IfOk result (λ o. option_map view o ≡ option_map string (option_copied registry.entry)) }
 {
     match registry {
@@ -244,12 +238,32 @@ pub fn info_value<E: JudgedEntry>(
     ensures writable { OnOk result (AllByRecursion IsWritable (kept_of E.plain log.now)) }
 {
     let mut members = Map::new(alloc);
-    put_member(alloc, &mut members, "registry", registry_value(alloc, registry)?)?;
+    put_member(
+        alloc,
+        &mut members,
+        "registry",
+        registry_value(alloc, registry)?,
+    )?;
     let records = records_value(alloc, log.records())?;
     put_member(alloc, &mut members, "records", Some(records))?;
     put_member(alloc, &mut members, "name", name_value(alloc, name)?)?;
-    put_member(alloc, &mut members, "headRegistryIndex", number_value(log.head_registry_index()))?;
-    put_member(alloc, &mut members, "headFetchToken", token_value(alloc, log.head_fetch_token())?)?;
-    put_member(alloc, &mut members, "checkpoint", proved_value(alloc, checkpoint)?)?;
+    put_member(
+        alloc,
+        &mut members,
+        "headRegistryIndex",
+        number_value(log.head_registry_index()),
+    )?;
+    put_member(
+        alloc,
+        &mut members,
+        "headFetchToken",
+        token_value(alloc, log.head_fetch_token())?,
+    )?;
+    put_member(
+        alloc,
+        &mut members,
+        "checkpoint",
+        proved_value(alloc, checkpoint)?,
+    )?;
     Ok(Value::Object(members))
 }

@@ -1,5 +1,5 @@
 -- The log of the package of a name.
-use Rattle.std.proofs.Common.{◌≡◌, Bool, true, cond, List, ℕ, bytes_eq, Option, Some, None, option_and_then, ap, ◌∙◌}
+use Rattle.std.proofs.Common.{◌≡◌, Bool, cond, List, ℕ, bytes_eq, Option, Some, None, option_and_then, ap, ◌∙◌}
 use Rattle.std.specs.Cmp.Lexicographic.{nat_list_eq_equiv}
 use Rattle.warg_info_text.specs.StoredTexts.{package_of}
 use Rattle.warg_store.specs.Held.{Info}

@@ -2,10 +2,9 @@
 use Rattle.std.specs.Prelude.{◌≡◌, ◌⊎◌, List, ℕ, if◌then◌else◌, bytes_eq, Option, Some, None, option_and_then}
 use Rattle.std.specs.Option.{option_map_or}
 use Rattle.warg_base.specs.Files.{FileMap, file_at}
-use Rattle.warg_exchange.specs.declared.checkpoint.SignedCheckpoint.{SignedCheckpoint}
 use Rattle.warg_info_text.specs.StoredTexts.{checkpoint_of, operator_of, package_of}
 use Rattle.warg_store.specs.Entry.{Entry, Absent, Whole, Unreadable}
-use Rattle.warg_store.specs.Held.{Held, Info, Registry, Package}
+use Rattle.warg_store.specs.Held.{Held, Info}
 use Rattle.warg_registry_files.specs.Paths.{Place, checkpoint_path, operator_path, package_path}
 
 -- the entry of a file, which may be missing, whose bytes are read so

@@ -28,12 +28,7 @@ fn stands(first: bool, byte: u8) -> bool
 }
 
 /// Adds a byte of a registry's name to the name of its folder.
-fn push_escaped(
-    alloc: Global,
-    name: &mut String,
-    first: bool,
-    byte: u8,
-) -> Result<(), Memory>
+fn push_escaped(alloc: Global, name: &mut String, first: bool, byte: u8) -> Result<(), Memory>
     ensures { OnOk result (string_bytes name.new ≡ string_bytes name.old ++ escaped_byte first byte) }
 {
     if stands(first, byte) {

@@ -1,5 +1,5 @@
 -- The same of texts that are read as data.
-use Rattle.std.proofs.Common.{◌≡◌, ◌<◌, ℕ, List, [], ◌∷◌, ◌++◌, length, take, Option, Some, None, option_map, option_and_then, refl, sym, ap, subst, ◌∙◌, append-nil, arith}
+use Rattle.std.proofs.Common.{◌≡◌, ◌<◌, ℕ, List, [], ◌∷◌, length, take, Option, Some, None, option_map, option_and_then, refl, sym, ap, subst, ◌∙◌, append-nil, arith}
 use Rattle.json.specs.Json as json
 use Rattle.json.specs.Token.{Token}
 use Rattle.json.specs.Lex.{tokens}
@@ -8,9 +8,9 @@ use Rattle.json.specs.Tree.{json_tokens, depth, HasNumbers}
 use Rattle.json.proofs.Numbered.{ArePrintableOrBad-tokens, value-HasNumbers}
 use Rattle.json.proofs.Printed.Trees.{value-json_tokens}
 use Rattle.json.proofs.Unique.Spelling.{value-json_tokens_back}
-use Rattle.serde_json.specs.Data.{Num, Data, number, array, object, Items, Members}
-use Rattle.serde_json.specs.Read.{read, of_json, of_items, of_members, max_depth, number_of}
-use Rattle.serde_json.specs.Written.{IsInOrder, blank, outline, members_outline}
+use Rattle.serde_json.specs.Data.{Num, number, array, object, Items, Members}
+use Rattle.serde_json.specs.Read.{read, of_json, of_items, max_depth, number_of}
+use Rattle.serde_json.specs.Written.{IsInOrder, blank, members_outline}
 use Rattle.warg_whole_json.proofs.FrontLaws.{front_in_lines}
 
 -- ---- what is an object

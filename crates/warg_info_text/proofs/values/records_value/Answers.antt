@@ -22,8 +22,8 @@ loop-kept-preserved g c =
     let more : take (i + 1) records ≡ take i records ++ c.kept-item.result ∷ [] = search (rules, take_more) in
     let seen : map (kept_view plain) (take (i + 1) records) ≡ so_far ++ k ∷ [] = ap (map (kept_view plain)) more ∙ map_push (kept_view plain) (take i records) c.kept-item.result in (
       ap (map view) c.in_ok-push.ensures.items ∙ map_push view c.loop-kept.values.items c.in_ok-value.value
-      ∙ ap₂ (λ (ds : List Data) (d : Data). ds ++ d ∷ []) c.loop-kept.invariant.0 c.in_ok-value.ensures.data
-      ∙ sym (ap (map kept_data) seen ∙ map_push kept_data so_far k),
+          ∙ ap₂ (λ (ds : List Data) (d : Data). ds ++ d ∷ []) c.loop-kept.invariant.0 c.in_ok-value.ensures.data
+          ∙ sym (ap (map kept_data) seen ∙ map_push kept_data so_far k),
       subst (λ (ks : List Kept). AllByRecursion IsWritable ks) (sym seen) (all_push IsWritable so_far k c.loop-kept.invariant.1 c.in_ok-value.ensures.writable),
     )
 

@@ -1,11 +1,10 @@
 -- The lines of an operator's log.
-use Rattle.std.proofs.Common.{◌≡◌, ◌≤◌, List, ℕ, None, arith, refl, sym, subst, rules}
+use Rattle.std.proofs.Common.{◌≡◌, ◌≤◌, None, sym, subst, rules}
 use Rattle.serde_json.specs.Data.{Data, depth}
 use Rattle.serde_json.specs.Read.{max_depth}
 use Rattle.serde_json.specs.View.{view}
 use Rattle.warg_record.specs.Record.{Operator}
 use Rattle.warg_store.specs.Held.{operator_info}
-use Rattle.warg_info.specs.Info.{operator_log}
 use Rattle.warg_info_text.specs.StoredTexts.{info_data}
 use Rattle.warg_info_text.proofs.InfoLaws.{IsLines, lines_text, operator_whole, operator_front, info_no_float, info_nests}
 use Rattle.warg_info_text.proofs.RecordLaws.{log_reads_back}
