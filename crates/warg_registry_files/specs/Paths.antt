@@ -2,7 +2,7 @@
 use Rattle.std.specs.Prelude.{◌≡◌, ℕ, nat_eq, ◌&&◌, ◌||◌, not, Bool, true, false, if◌then◌else◌, List, [], ◌∷◌, ◌++◌, length, bytes_eq, codes, Some, None}
 use Rattle.std.specs.Char.{is_ascii_alphanumeric}
 use Rattle.std.specs.List.{list_any}
-use Rattle.hex.specs.Hex.{encode_lower, encode_upper}
+use Rattle.hex.specs.Hex.{IsBytes, encode_lower, encode_upper}
 use Rattle.warg_hash.specs.Hash.{package_log_id}
 use Rattle.warg_store.specs.Held.{Registry}
 
@@ -55,6 +55,11 @@ pub record Place : Type 0 where
 pub record IsPlaceOf (base : List ℕ) (place : Place) : Type 0 where
   pub joined : place.beside ++ place.own ≡ (if nat_eq (length base) 0 then dot ∷ [] else base)
   pub last : has_slash place.own ≡ false
+
+-- a registry's name is bytes, where it has one
+abbrev pub IsNamed : Registry → Type 0
+IsNamed None = Unit {0}
+IsNamed (Some name) = IsBytes name
 
 -- the name of a registry's folder, which has `%%` before it where it were the home registry's own
 abbrev pub folder_name : List ℕ → Registry → List ℕ

@@ -1,6 +1,7 @@
 //! What a client keeps of registries, in files.
 #![tactic(auto)]
 
+pub mod laws;
 mod paths;
 mod storage;
 
