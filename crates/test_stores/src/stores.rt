@@ -1,6 +1,7 @@
 //! Loads of files that are written by hand.
 
 use std::alloc::Global;
+use std::rt::HostRuntime;
 use std::test::Fail;
 use test_check::is_row;
 use warg_base::{Files, MemoryFiles};
@@ -77,7 +78,8 @@ fn check_operators(alloc: Global, rows: &[(&str, &str, &str, &str)]) -> Result<(
 }
 
 #[test]
-fn names_of_files(alloc: Global) -> Result<(), Fail> {
+fn names_of_files(rt: HostRuntime) -> Result<(), Fail> {
+    let alloc = rt.alloc();
     check_names(
         alloc,
         &[
@@ -96,23 +98,69 @@ fn names_of_files(alloc: Global) -> Result<(), Fail> {
 }
 
 #[test]
-fn operators_of_files(alloc: Global) -> Result<(), Fail> {
+fn operators_of_files(rt: HostRuntime) -> Result<(), Fail> {
+    let alloc = rt.alloc();
     check_operators(
         alloc,
         &[
-            ("home", "/r/home.test/operator.log", r#"{"records":[]}"#, "whole"),
-            ("home", "/r/home.test/operator.log", r#"{"records":[],"name":null}"#, "whole"),
-            ("home", "/r/home.test/checkpoint", r#"{"records":[]}"#, "absent"),
-            ("home", "/r/home.test/operator.log", r#"{"records":[],"name":"a:b"}"#, "damaged operator"),
-            ("home", "/r/home.test/operator.log", r#"{"records":[],"headRegistryIndex":0}"#, "damaged operator"),
-            ("home", "/r/home.test/operator.log", r#"{"records":["#, "damaged operator"),
-            ("home", "/r/home.test/operator.log", r#"{"records":[{}]}"#, "damaged operator"),
+            (
+                "home",
+                "/r/home.test/operator.log",
+                r#"{"records":[]}"#,
+                "whole",
+            ),
+            (
+                "home",
+                "/r/home.test/operator.log",
+                r#"{"records":[],"name":null}"#,
+                "whole",
+            ),
+            (
+                "home",
+                "/r/home.test/checkpoint",
+                r#"{"records":[]}"#,
+                "absent",
+            ),
+            (
+                "home",
+                "/r/home.test/operator.log",
+                r#"{"records":[],"name":"a:b"}"#,
+                "damaged operator",
+            ),
+            (
+                "home",
+                "/r/home.test/operator.log",
+                r#"{"records":[],"headRegistryIndex":0}"#,
+                "damaged operator",
+            ),
+            (
+                "home",
+                "/r/home.test/operator.log",
+                r#"{"records":["#,
+                "damaged operator",
+            ),
+            (
+                "home",
+                "/r/home.test/operator.log",
+                r#"{"records":[{}]}"#,
+                "damaged operator",
+            ),
             ("", "/r/%/operator.log", r#"{"records":[]}"#, "whole"),
             ("..", "/r/%2E./operator.log", r#"{"records":[]}"#, "whole"),
             ("a/b", "/r/a%2Fb/operator.log", r#"{"records":[]}"#, "whole"),
             ("a/b", "/r/a/b/operator.log", r#"{"records":[]}"#, "absent"),
-            ("home.test", "/r/%%home.test/operator.log", r#"{"records":[]}"#, "whole"),
-            ("home.test", "/r/home.test/operator.log", r#"{"records":[]}"#, "absent"),
+            (
+                "home.test",
+                "/r/%%home.test/operator.log",
+                r#"{"records":[]}"#,
+                "whole",
+            ),
+            (
+                "home.test",
+                "/r/home.test/operator.log",
+                r#"{"records":[]}"#,
+                "absent",
+            ),
         ],
     )
 }
