@@ -1,4 +1,5 @@
--- The log that stored records are: each is read, their places ascend, and each obeys all rules but that of the signature.
+-- The log that stored records are: each is read, their places ascend, and each obeys all rules but that of the
+-- signature.
 use Rattle.std.specs.Prelude.{◌&&◌, not, Bool, true, if◌then◌else◌, List, [], ◌∷◌, ◌++◌, Option, Some, None, is_some, option_map, option_and_then}
 use Rattle.std.specs.Str.{is_utf8}
 use Rattle.warg_hash.specs.Hash.{digest_of}

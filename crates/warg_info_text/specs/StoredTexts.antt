@@ -33,8 +33,8 @@ meaning_of f bytes = result_ok (required (json_of bytes) >>= f)
 abbrev pub checkpoint_of : List ℕ → Option SignedCheckpoint
 checkpoint_of bytes = meaning_of checkpoint_in bytes
 
--- what is stored of a log: the name of its package, that of its registry, the checkpoint under which it was proved last,
--- its records, and the place and the token of the last one
+-- what is stored of a log: the name of its package, that of its registry, the checkpoint under which it was proved
+-- last, its records, and the place and the token of the last one
 pub record Stored : Type 0 where
   pub name : Option (List ℕ)
   pub registry : Option (List ℕ)

@@ -81,7 +81,8 @@ impl<F: Files + Drop> FileSystemNamespaceMapStorage<F> {
             names_held F.told self.new ≡ Some (Whole names.now.entries))) }
         ensures refused { OnErr result (IfSome (names_held F.told self.old) (λ held.
             LeavesNames (names_held F.told self.new) held names.now.entries)) }
-        ensures fault { IfErr result (λ e. IsStoreFault e (F.faults (files_of self.old)) (F.faults (files_of self.new))) }
+        ensures fault { IfErr result (λ e.
+            IsStoreFault e (F.faults (files_of self.old)) (F.faults (files_of self.new))) }
         ensures path { path_of self.new ≡ path_of self.old }
         ensures written { OnOk result (IfSome (F.told (files_of self.old)) (λ files.
             F.told (files_of self.new) ≡ Some (with_file files (path_of self.old) (names_text names.now.entries)))) }
@@ -132,7 +133,8 @@ impl<F: Files + Drop> NamespaceMapStorage for FileSystemNamespaceMapStorage<F> {
             names_held F.told self.new ≡ Some Absent)) }
         ensures refused { OnErr result (IfSome (names_held F.told self.old)
             (LeavesNamesReset (names_held F.told self.new))) }
-        ensures fault { IfErr result (λ e. IsStoreFault e (F.faults (files_of self.old)) (F.faults (files_of self.new))) }
+        ensures fault { IfErr result (λ e.
+            IsStoreFault e (F.faults (files_of self.old)) (F.faults (files_of self.new))) }
         ensures path { path_of self.new ≡ path_of self.old }
         ensures removed { OnOk result (IfSome (F.told (files_of self.old)) (λ files.
             F.told (files_of self.new) ≡ Some (without_path files (path_of self.old)))) }

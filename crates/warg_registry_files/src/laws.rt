@@ -4,8 +4,8 @@ ghost use Rattle.std.specs.Prelude.{◌≡◌, List, ℕ, false};
 ghost use Rattle.warg_store.specs.Held.{Registry};
 ghost use Rattle.warg_registry_files.specs.Paths.{IsNamed, Place, folder_name, folder_path, has_slash};
 
-/// Where the name of the home registry's folder has no slash, no folder's name has one: each is right beside it, whatever
-/// the registry's name is.
+/// Where the name of the home registry's folder has no slash, no folder's name has one: each is right beside it,
+/// whatever the registry's name is.
 pub fn a_folder_is_beside_the_home()
     ensures { (own : List ℕ) (r : Registry) → has_slash own ≡ false → has_slash (folder_name own r) ≡ false }
 {}

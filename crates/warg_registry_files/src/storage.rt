@@ -66,7 +66,8 @@ impl<F: Files + Drop> RegistryFiles<F> {
         ensures never_falls { F.faults (files_of self.old) ≤ F.faults (files_of self.new) }
         ensures found { IfOk result (λ o. IfSome (F.told (files_of self.old)) (λ files.
             file_at files path.now ≡ option_map (λ bytes. bytes.items) o)) }
-        ensures fault { IfErr result (λ e. IsStoreFault e (F.faults (files_of self.old)) (F.faults (files_of self.new))) }
+        ensures fault { IfErr result (λ e.
+            IsStoreFault e (F.faults (files_of self.old)) (F.faults (files_of self.new))) }
         ensures place { place_of self.new ≡ place_of self.old }
         ensures untouched { F.told (files_of self.new) ≡ F.told (files_of self.old) }
     {
@@ -80,7 +81,8 @@ impl<F: Files + Drop> RegistryFiles<F> {
     /// Makes these the bytes of a file.
     fn write(&mut self, alloc: Global, path: &Text, bytes: &[u8]) -> Result<(), StoreError>
         ensures never_falls { F.faults (files_of self.old) ≤ F.faults (files_of self.new) }
-        ensures fault { IfErr result (λ e. IsStoreFault e (F.faults (files_of self.old)) (F.faults (files_of self.new))) }
+        ensures fault { IfErr result (λ e.
+            IsStoreFault e (F.faults (files_of self.old)) (F.faults (files_of self.new))) }
         ensures place { place_of self.new ≡ place_of self.old }
         ensures written { OnOk result (IfSome (F.told (files_of self.old)) (λ files.
             F.told (files_of self.new) ≡ Some (with_file files path.now bytes.now))) }
@@ -103,7 +105,8 @@ impl<F: Files + Drop> RegistryFiles<F> {
         ensures found { IfOk result (λ o. IfSome (held_of F.told self.old) (λ held.
             held.checkpoints (option_copied registry.entry) ≡ entry_of o)) }
         ensures fault { IfErr result (λ e. IsLoadFault e EntryKind.Checkpoint (F.faults (files_of self.old))
-            (F.faults (files_of self.new)) (option_map (λ held. held.checkpoints (option_copied registry.entry)) (held_of F.told self.old))) }
+            (F.faults (files_of self.new))
+            (option_map (λ held. held.checkpoints (option_copied registry.entry)) (held_of F.told self.old))) }
         ensures place { place_of self.new ≡ place_of self.old }
         ensures untouched { F.told (files_of self.new) ≡ F.told (files_of self.old) }
     {
@@ -127,14 +130,19 @@ impl<F: Files + Drop> RegistryFiles<F> {
         ensures never_falls { F.faults (files_of self.old) ≤ F.faults (files_of self.new) }
         ensures stored { OnOk result (IfSome (held_of F.told self.old) (λ _. IfSome (held_of F.told self.new) (λ now.
             now.checkpoints (option_copied registry.entry) ≡ Whole checkpoint.now))) }
-        ensures refused { OnErr result (IfSome (held_of F.told self.old) (λ old. IfSome (held_of F.told self.new) (λ now.
-            IsLeft (old.checkpoints (option_copied registry.entry)) checkpoint.now (now.checkpoints (option_copied registry.entry))))) }
-        ensures fault { IfErr result (λ e. IsStoreFault e (F.faults (files_of self.old)) (F.faults (files_of self.new))) }
+        ensures refused { OnErr result (IfSome (held_of F.told self.old) (λ old.
+            IfSome (held_of F.told self.new) (λ now.
+            IsLeft (old.checkpoints (option_copied registry.entry)) checkpoint.now
+            (now.checkpoints (option_copied registry.entry))))) }
+        ensures fault { IfErr result (λ e.
+            IsStoreFault e (F.faults (files_of self.old)) (F.faults (files_of self.new))) }
         ensures place { place_of self.new ≡ place_of self.old }
         ensures written { OnOk result (IfSome (F.told (files_of self.old)) (λ files. F.told (files_of self.new)
-            ≡ Some (with_file files (checkpoint_path (place_of self.old) (option_copied registry.entry)) (checkpoint_text checkpoint.now)))) }
+            ≡ Some (with_file files (checkpoint_path (place_of self.old) (option_copied registry.entry))
+            (checkpoint_text checkpoint.now)))) }
         ensures partly_written { OnErr result (LeavesPartlyWritten (F.told (files_of self.old))
-            (F.told (files_of self.new)) (checkpoint_path (place_of self.old) (option_copied registry.entry)) (checkpoint_text checkpoint.now)) }
+            (F.told (files_of self.new))
+            (checkpoint_path (place_of self.old) (option_copied registry.entry)) (checkpoint_text checkpoint.now)) }
     {
         let path = self.place.checkpoint_path(alloc, registry)?;
         let text = write_checkpoint(alloc, checkpoint)?;
@@ -153,7 +161,8 @@ impl<F: Files + Drop> RegistryFiles<F> {
             held.operators (option_copied registry.entry) ≡ entry_of (option_map operator_info o))) }
         ensures sound { IfOk result (λ o. IfSome o IsSoundOperator) }
         ensures fault { IfErr result (λ e. IsLoadFault e EntryKind.Operator (F.faults (files_of self.old))
-            (F.faults (files_of self.new)) (option_map (λ held. held.operators (option_copied registry.entry)) (held_of F.told self.old))) }
+            (F.faults (files_of self.new))
+            (option_map (λ held. held.operators (option_copied registry.entry)) (held_of F.told self.old))) }
         ensures place { place_of self.new ≡ place_of self.old }
         ensures untouched { F.told (files_of self.new) ≡ F.told (files_of self.old) }
     {
@@ -178,14 +187,20 @@ impl<F: Files + Drop> RegistryFiles<F> {
         ensures never_falls { F.faults (files_of self.old) ≤ F.faults (files_of self.new) }
         ensures stored { OnOk result (IfSome (held_of F.told self.old) (λ _. IfSome (held_of F.told self.new) (λ now.
             now.operators (option_copied registry.entry) ≡ Whole (operator_info info.now)))) }
-        ensures refused { OnErr result (IfSome (held_of F.told self.old) (λ old. IfSome (held_of F.told self.new) (λ now.
-            IsLeft (old.operators (option_copied registry.entry)) (operator_info info.now) (now.operators (option_copied registry.entry))))) }
-        ensures fault { IfErr result (λ e. IsStoreFault e (F.faults (files_of self.old)) (F.faults (files_of self.new))) }
+        ensures refused { OnErr result (IfSome (held_of F.told self.old) (λ old.
+            IfSome (held_of F.told self.new) (λ now.
+            IsLeft (old.operators (option_copied registry.entry)) (operator_info info.now)
+            (now.operators (option_copied registry.entry))))) }
+        ensures fault { IfErr result (λ e.
+            IsStoreFault e (F.faults (files_of self.old)) (F.faults (files_of self.new))) }
         ensures place { place_of self.new ≡ place_of self.old }
         ensures written { OnOk result (IfSome (F.told (files_of self.old)) (λ files. F.told (files_of self.new)
-            ≡ Some (with_file files (operator_path (place_of self.old) (option_copied registry.entry)) (operator_text (operator_info info.now))))) }
+            ≡ Some (with_file files (operator_path (place_of self.old) (option_copied registry.entry))
+            (operator_text (operator_info info.now))))) }
         ensures partly_written { OnErr result (LeavesPartlyWritten (F.told (files_of self.old))
-            (F.told (files_of self.new)) (operator_path (place_of self.old) (option_copied registry.entry)) (operator_text (operator_info info.now))) }
+            (F.told (files_of self.new))
+            (operator_path (place_of self.old) (option_copied registry.entry))
+            (operator_text (operator_info info.now))) }
     {
         let path = self.place.operator_path(alloc, registry)?;
         let text = write_operator(alloc, info)?;
@@ -206,7 +221,8 @@ impl<F: Files + Drop> RegistryFiles<F> {
         ensures sound { IfOk result (λ o. IfSome o IsSoundPackage) }
         ensures name { IfOk result (λ o. IfSome o (λ info. info.name ≡ name.now)) }
         ensures fault { IfErr result (λ e. IsLoadFault e EntryKind.Package (F.faults (files_of self.old))
-            (F.faults (files_of self.new)) (option_map (λ held. held.packages (option_copied registry.entry, name.now)) (held_of F.told self.old))) }
+            (F.faults (files_of self.new))
+            (option_map (λ held. held.packages (option_copied registry.entry, name.now)) (held_of F.told self.old))) }
         ensures place { place_of self.new ≡ place_of self.old }
         ensures untouched { F.told (files_of self.new) ≡ F.told (files_of self.old) }
     {
@@ -231,14 +247,20 @@ impl<F: Files + Drop> RegistryFiles<F> {
         ensures never_falls { F.faults (files_of self.old) ≤ F.faults (files_of self.new) }
         ensures stored { OnOk result (IfSome (held_of F.told self.old) (λ _. IfSome (held_of F.told self.new) (λ now.
             now.packages (option_copied registry.entry, info.now.name) ≡ Whole (package_info info.now)))) }
-        ensures refused { OnErr result (IfSome (held_of F.told self.old) (λ old. IfSome (held_of F.told self.new) (λ now.
-            IsLeft (old.packages (option_copied registry.entry, info.now.name)) (package_info info.now) (now.packages (option_copied registry.entry, info.now.name))))) }
-        ensures fault { IfErr result (λ e. IsStoreFault e (F.faults (files_of self.old)) (F.faults (files_of self.new))) }
+        ensures refused { OnErr result (IfSome (held_of F.told self.old) (λ old.
+            IfSome (held_of F.told self.new) (λ now.
+            IsLeft (old.packages (option_copied registry.entry, info.now.name)) (package_info info.now)
+            (now.packages (option_copied registry.entry, info.now.name))))) }
+        ensures fault { IfErr result (λ e.
+            IsStoreFault e (F.faults (files_of self.old)) (F.faults (files_of self.new))) }
         ensures place { place_of self.new ≡ place_of self.old }
         ensures written { OnOk result (IfSome (F.told (files_of self.old)) (λ files. F.told (files_of self.new)
-            ≡ Some (with_file files (package_path (place_of self.old) (option_copied registry.entry) info.now.name) (package_text info.now.name (package_info info.now))))) }
+            ≡ Some (with_file files (package_path (place_of self.old) (option_copied registry.entry) info.now.name)
+            (package_text info.now.name (package_info info.now))))) }
         ensures partly_written { OnErr result (LeavesPartlyWritten (F.told (files_of self.old))
-            (F.told (files_of self.new)) (package_path (place_of self.old) (option_copied registry.entry) info.now.name) (package_text info.now.name (package_info info.now))) }
+            (F.told (files_of self.new))
+            (package_path (place_of self.old) (option_copied registry.entry) info.now.name)
+            (package_text info.now.name (package_info info.now))) }
     {
         let path = self.place.package_path(alloc, registry, &info.name)?;
         let text = write_package(alloc, info)?;
