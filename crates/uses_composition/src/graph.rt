@@ -1,6 +1,6 @@
 //! A caller of `compose_graph`.
 
-ghost use Rattle.std.specs.Prelude.{◌≡◌, None, IfOk, OnOk};
+ghost use Rattle.std.specs.Prelude.{◌≡◌, None, IfOk, OnOk, true};
 ghost use Rattle.comp_entity.specs.Entity.{ShapeTree};
 ghost use Rattle.comp_shape.specs.Shape.{HasShape};
 ghost use Rattle.compose_graph.specs.Encoding.{IsEncoding};
