@@ -2,8 +2,7 @@
 
 use crate::module::ModuleShape;
 use crate::names::{ResourceNo, TypeNo};
-use comp_format::Primitive;
-use warg_values::{Sequence, Text};
+use comp_format::{Primitive, Sequence, Text};
 
 /// A value type, with all indices followed (`Binary.md`, `defvaltype`).
 ///

@@ -11,7 +11,7 @@ use crate::entity::{ComponentShape, Entity, TypeShape};
 use crate::modules::{module_equal, module_fits};
 use crate::naming::{Naming, resource_equal, under};
 use crate::values::{func_equal, value_equal};
-use warg_values::Text;
+use comp_format::Text;
 
 /// Whether two entities are equal (`Explainer.md`, "Type Checking"). Which places named types is set aside.
 ///

@@ -1,7 +1,6 @@
 //! Core modules: what they import and what they export.
 
-use comp_format::{CoreVal, Limits};
-use warg_values::{Sequence, Text};
+use comp_format::{CoreVal, Limits, Sequence, Text};
 
 /// What a core module imports or exports, with all indices followed (`Binary.md`, `core:externdesc`).
 #[derive(Debug, Drop)]

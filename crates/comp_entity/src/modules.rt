@@ -7,7 +7,7 @@ ghost use Rattle.comp_entity.specs.Fits.{core_equal, core_imports_equal, core_ex
 ghost use Rattle.comp_entity.specs.Fits.{modules_equal, module_fits};
 
 use crate::module::{CoreShape, ModuleShape};
-use warg_values::Text;
+use comp_format::Text;
 
 /// Whether two of what core modules import or export are equal.
 fn core_equal(a: &CoreShape, b: &CoreShape) -> bool

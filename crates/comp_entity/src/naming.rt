@@ -7,7 +7,7 @@ ghost use Rattle.comp_entity.specs.Views.{entity_tree, type_tree, entries_of, na
 
 use crate::entity::{Entity, TypeShape};
 use crate::names::ResourceNo;
-use warg_values::Text;
+use comp_format::Text;
 
 /// How the resources of an asked entity are called in the given one.
 #[derive(Drop)]

@@ -7,7 +7,7 @@ ghost use Rattle.comp_entity.specs.Comparing.{value_alike, boxed_alike, field_al
 
 use crate::entity::{FuncShape, ValueShape};
 use crate::naming::{Naming, resource_equal};
-use warg_values::Text;
+use comp_format::Text;
 
 /// Whether a value type is equal to the one that is asked for.
 #[cycle(values)]

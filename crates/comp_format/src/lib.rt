@@ -17,3 +17,4 @@ pub use types::{
     Alias, Arg, Canon, CanonOption, ComponentType, CoreInstance, CoreSort, Decl, DefType,
     DefinedType, FuncType, InstanceItem, InstanceType, Item, Primitive, Sort, TypeRef, ValType,
 };
+pub use warg_values::{Sequence, Text};

@@ -10,7 +10,9 @@ pub mod laws;
 mod naming;
 
 pub use comp_format::{Sort, TypeRef};
-pub use comp_shape::{Shape, ShapeError};
+pub use comp_shape::{
+    ComponentShape, Entity, FuncShape, Shape, ShapeError, TypeShape, ValueShape, read_shape,
+};
 pub use component::Component;
 pub use error::ComponentError;
 pub use export::{ComponentExport, ExportIndex, Exports};

@@ -7,3 +7,5 @@ pub mod Looked
 pub mod Refusing
 pub mod Errors
 pub mod Whole
+pub use Rattle.compose_image.specs.Imports
+pub use Rattle.compose_image.specs.Writable

@@ -4,8 +4,8 @@ use Rattle.std.specs.Prelude.{bytes_eq, find, flat_map, option_to_list, slice_ge
 use Rattle.std.specs.List.{range_with_len}
 use Rattle.std.proofs.lemmas.Option.{same_Some}
 use Rattle.compose_check.specs.Composition.{ComponentTree, CompositionTree}
-use Rattle.compose_image.specs.Imports.{component_import, component_of, is_used, used}
-use Rattle.compose_image.specs.Writable.{HaveOwnNames as ImportsHaveOwnNames, is_of}
+use Rattle.compose_encode.specs.Imports.{component_import, component_of, is_used, used}
+use Rattle.compose_encode.specs.Writable.{HaveOwnNames as ImportsHaveOwnNames, is_of}
 use Rattle.compose_encode.specs.Whole.{HaveComponentNames}
 use Rattle.compose_graph.specs.Composed.{composed, composed_component}
 use Rattle.compose_graph.specs.Graph.{ComponentEntry, GraphTree, component_named}

@@ -24,7 +24,7 @@ use Rattle.compose_meaning.specs.Keeps.{GoesOn, IsImported, IsWritten, Keeps, sp
 use Rattle.compose_meaning.specs.Meaning.{Meaning, Means, meant, named_type}
 use Rattle.compose_meaning.specs.Readable.{HasMeaning, Importing, IsOlder, Spot, behind, brought_keys}
 use Rattle.compose_meaning.specs.Stands.{at_place}
-use Rattle.compose_image.specs.Imports.{all_called, import_items, items_in, next_place, place_in, write_left, write_lefts}
+use Rattle.compose_known.specs.Imports.{all_called, import_items, items_in, next_place, place_in, write_left, write_lefts}
 use Rattle.compose_naming.specs.Settled.{name_in}
 use Rattle.comp_format.specs.Items.{ItemTree}
 use Rattle.comp_scope.specs.Shape.{after_parts, in_front_of, nothing}

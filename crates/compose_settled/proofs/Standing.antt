@@ -22,7 +22,7 @@ use Rattle.compose_meaning.specs.Meaning.{Meaning, Means, OneTree, meant, placed
 use Rattle.compose_meaning.specs.Readable.{HasMeaning, HaveMeaning, Spot, brought_keys, keys_among, within}
 use Rattle.compose_meaning.specs.Shows.{AllShow, HasBit, Shows}
 use Rattle.compose_meaning.specs.Stands.{at_path, at_place, exports_of}
-use Rattle.compose_image.specs.Imports.{next_place}
+use Rattle.compose_known.specs.Imports.{next_place}
 use Rattle.compose_origins.specs.Placed.{value_at}
 use Rattle.compose_settled.specs.ReadBack.{}
 

@@ -14,7 +14,7 @@ ghost use Rattle.compose_check.specs.Composition.{ComponentTree, CompositionTree
 ghost use Rattle.compose_check.specs.Open.{lefts};
 ghost use Rattle.compose_origins.specs.Named.{IsWellNamed};
 ghost use Rattle.compose_origins.specs.Placed.{OneTypeEach};
-ghost use Rattle.compose_image.specs.Imports.{import_items, write_lefts};
+ghost use Rattle.compose_known.specs.Imports.{import_items, write_lefts};
 ghost use Rattle.compose_naming.specs.Bits.{Scope, behind_lefts};
 ghost use Rattle.compose_naming.specs.Bits.{outermost as bits_outermost};
 ghost use Rattle.compose_naming.specs.Settled.{settled};

@@ -9,7 +9,7 @@ use Rattle.compose_component.specs.declared.component.Component.{Component}
 use Rattle.compose_component.specs.Component.{shape_of}
 use Rattle.compose_left.specs.Wiring.{no_shape}
 use Rattle.compose_check.specs.Composition.{ComponentTree, component_tree, shape_numbered}
-use Rattle.compose_origins.specs.Named.{HasOwnNames, IsWellNamed}
+use Rattle.compose_settled.specs.Named.{HasOwnNames, IsWellNamed}
 use Rattle.compose_known.specs.Importable.{NamesImports}
 use Rattle.compose_known.specs.Placed.{HasPlaces}
 

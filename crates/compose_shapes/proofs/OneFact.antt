@@ -4,7 +4,7 @@ use Rattle.std.proofs.Props.{props}
 use Rattle.std.specs.List.{AllByRecursion, AllByRecursion-prop}
 use Rattle.comp_entity.specs.Entity.{ValueTree, Primitive, TupleOf, RecordOf, VariantOf, ListOf, FlagsOf, EnumOf, OptionOf, ResultOf, Own, Borrow, TypeShapeTree, Value, Resource, Func, Instance, Component, EntityTree, IsType, IsFunc, IsInstance, IsComponent, IsModule, IsOwnModule, Entries, no_entry, entry, ShapeTree}
 use Rattle.comp_entity.specs.Views.{entries_of}
-use Rattle.compose_origins.specs.Named.{HasOwnNames, HaveOwnNames}
+use Rattle.compose_settled.specs.Named.{HasOwnNames, HaveOwnNames}
 use Rattle.compose_known.specs.Placed.{HasPlace, HasPlaces, HavePlaces}
 use Rattle.compose_known.specs.InOrder.{AreInOrder, IsApart, IsInOrder, TypeInOrder}
 use Rattle.compose_known.specs.Whole.{IsWhole}

@@ -19,7 +19,7 @@ use Rattle.compose_left.specs.declared.spots.Thing.{Thing}
 use Rattle.compose_left.specs.Origins.{names, same_thing}
 use Rattle.compose_left.specs.Spots.{named_by, named_type, spots, spots_from, spots_in, spots_of}
 use Rattle.compose_needs.specs.Mentioned.{has, mentioned, outward, outwards}
-use Rattle.compose_origins.specs.Named.{BringsAll, BringsMention, HasOwnNames, HaveOwnNames, ImportsBring}
+use Rattle.compose_settled.specs.Named.{BringsAll, BringsMention, HasOwnNames, HaveOwnNames, ImportsBring}
 use Rattle.compose_known.specs.Placed.{HasPlaces, HavePlaces}
 use Rattle.compose_shapes.proofs.Formed.{parts_formed}
 use Rattle.compose_shapes.proofs.Known.{AllGood, IsKnown, Scope, at_once, entries_changed, plain_by, scope}

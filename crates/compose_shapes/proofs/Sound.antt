@@ -7,7 +7,7 @@ use Rattle.comp_entity.specs.Views.{entries_of}
 use Rattle.compose_check.specs.Composition.{ComponentTree, CompositionTree, component_tree, shape_numbered}
 use Rattle.compose_component.specs.declared.component.Component.{Component}
 use Rattle.compose_component.specs.Component.{name_of}
-use Rattle.compose_image.specs.Imports.{component_of, used, used_components}
+use Rattle.compose_settled.specs.Imports.{component_of, used, used_components}
 use Rattle.compose_naming.specs.Settled.{settled}
 use Rattle.compose_known.specs.Importable.{IsImportable, KeepsImports}
 use Rattle.compose_known.specs.InOrder.{IsInOrder}

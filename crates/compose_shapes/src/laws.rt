@@ -5,7 +5,7 @@ ghost use Rattle.std.specs.Prelude.{◌≡◌, Bool, false, List, [], ◌∷◌,
 ghost use Rattle.std.specs.List.{AllByRecursion};
 ghost use Rattle.comp_entity.specs.Entity.{EntityTree, ShapeTree};
 ghost use Rattle.comp_entity.specs.Views.{entries_of};
-ghost use Rattle.comp_shape.specs.Shape.{HasShape};
+ghost use Rattle.compose_component.specs.Shape.{HasShape};
 ghost use Rattle.compose_component.specs.declared.component.Component.{Component};
 ghost use Rattle.compose_component.specs.Component.{shape_of};
 ghost use Rattle.compose_needs.specs.Exports.{component_hides};
@@ -13,12 +13,12 @@ ghost use Rattle.compose_order.specs.Known.{Imports};
 ghost use Rattle.compose_writing.specs.Scopes.{outermost};
 ghost use Rattle.compose_check.specs.Checked.{IsSound};
 ghost use Rattle.compose_check.specs.Composition.{ComponentTree, component_tree, CompositionTree, IsComposition, wiring};
-ghost use Rattle.compose_image.specs.Imports.{imports_of, used_components};
-ghost use Rattle.compose_image.specs.Writable.{AreWritable};
+ghost use Rattle.compose_settled.specs.Imports.{imports_of, used_components};
+ghost use Rattle.compose_settled.specs.Writable.{AreWritable};
 ghost use Rattle.compose_known.specs.Importable.{KeepsImports, NamesImports};
 ghost use Rattle.compose_known.specs.Placed.{HasPlaces};
 ghost use Rattle.compose_known.specs.Whole.{IsWhole};
-ghost use Rattle.compose_origins.specs.Named.{HasOwnNames, IsWellNamed};
+ghost use Rattle.compose_settled.specs.Named.{HasOwnNames, IsWellNamed};
 ghost use Rattle.compose_writing.specs.Conditions.{KeepsEntries};
 
 use comp_coherence::laws::each_name_stands_for_one_type;

@@ -9,8 +9,8 @@ use Rattle.warg_exchange.specs.declared.exchange.Exchange.{Exchange}
 use Rattle.warg_exchange.specs.declared.checkpoint.SignedCheckpoint.{SignedCheckpoint}
 use Rattle.warg_exchange.specs.Requests.{Asker}
 use Rattle.warg_info.specs.Kept.{Kept, signed_log}
-use Rattle.warg_page.specs.Logs.{Logs}
-use Rattle.warg_api.specs.Download.{Downloads}
+use Rattle.warg_update.specs.Logs.{Logs}
+use Rattle.warg_update.specs.Download.{Downloads}
 use Rattle.warg_update.specs.Proved.{Start, Proves}
 use Rattle.warg_store.specs.Held.{Registry, is_registry}
 use Rattle.warg_store.specs.Contents.{with_content as with_stored}

@@ -7,20 +7,20 @@ use Rattle.warg_exchange.specs.declared.exchange.Exchange.{Exchange}
 use Rattle.warg_exchange.specs.Requests.{Asker}
 use Rattle.warg_log.specs.Rules.{Accepts}
 use Rattle.warg_api.specs.Link.{Asked}
-use Rattle.warg_session.specs.Recording.{Transcript, AreKept}
-use Rattle.warg_session.specs.RecordingLaws.{none_kept}
+use Rattle.warg_learn.specs.Recording.{Transcript, AreKept}
+use Rattle.warg_learn.specs.RecordingLaws.{none_kept}
 use Rattle.warg_plan.specs.Walk.{Content, Entry, Facts, Stop, nothing_known}
 use Rattle.warg_plan.specs.Plan.{EachAfter, IsEntry}
 use Rattle.warg_store.specs.Held.{Registry}
 use Rattle.warg_assemble.specs.Known.{Known}
 use Rattle.warg_assemble.specs.Parts.{Part, exchanges_in, known_after, known_by, learnt, IsPart}
 use Rattle.warg_assemble.specs.Session.{Wanted, AreFacts}
-use Rattle.warg_search.specs.Search.{AreLearnt, Finds, IsSearchRefusal}
-use Rattle.warg_search.specs.SearchLaws.{search_finds}
-use Rattle.warg_search.specs.SearchLaws as laws
-use Rattle.warg_search.specs.declared.error.SearchError.{SearchError}
-use Rattle.warg_search.specs.declared.error.SearchError.TheVariants as search
-use Rattle.warg_fetch.specs.Stored.{IsOwnStore}
+use Rattle.warg_learn.specs.Search.{AreLearnt, Finds, IsSearchRefusal}
+use Rattle.warg_learn.specs.SearchLaws.{search_finds}
+use Rattle.warg_learn.specs.SearchLaws as laws
+use Rattle.warg_learn.specs.SearchError.{SearchError}
+use Rattle.warg_learn.specs.SearchError.TheVariants as search
+use Rattle.warg_learn.specs.Stored.{IsOwnStore}
 use Rattle.warg_learn.specs.declared.error.LearnError.{LearnError}
 use Rattle.warg_learn.specs.Seen.{Seen, IsKnown}
 use Rattle.warg_learn.specs.Learnt.{IsLearnt}
@@ -33,12 +33,12 @@ use Rattle.warg_compose.specs.declared.error.ComposeError.{ComposeError}
 use Rattle.warg_complete.specs.ExchangeLaws.{exchanges_both}
 use Rattle.warg_complete.specs.Sessions.{ProvesSession}
 use Rattle.warg_complete.specs.Undisturbed.{IsUndisturbed, IsUnreplied}
-use Rattle.warg_error.specs.Plans.{compose_refusal, search_refusal}
-use Rattle.warg_error.specs.declared.error.ClientError.TheVariants as told
+use Rattle.warg_complete.specs.Plans.{compose_refusal, search_refusal}
+use Rattle.warg_complete.specs.ClientError.TheVariants as told
 use Rattle.warg_client.specs.Complete.{IsValidCall}
 use Rattle.warg_client.specs.Assembled.{wanted, IsPlanned, IsPlanOfText, IsSearchRefused}
-use Rattle.warg_error.specs.Text.{IsPlanText}
-use Rattle.warg_error.specs.declared.error.ClientError.{ClientError}
+use Rattle.warg_complete.specs.Text.{IsPlanText}
+use Rattle.warg_complete.specs.ClientError.{ClientError}
 
 -- ---- exchanges, and then others
 

@@ -6,14 +6,14 @@ use Rattle.comp_shape.specs.declared.error.ShapeError.{ShapeError}
 use Rattle.comp_shape.specs.Refusal.{IsRefused}
 use Rattle.compose_config.specs.Plan.{Settings as PlanSettings}
 use Rattle.warg_api.specs.Link.{Asked}
-use Rattle.warg_session.specs.Recording.{AreKept}
+use Rattle.warg_learn.specs.Recording.{AreKept}
 use Rattle.warg_plan.specs.Keys.{Named}
 use Rattle.warg_plan.specs.Walk.{Entry, most_open, nothing_known}
 use Rattle.warg_assemble.specs.Known.{Known}
 use Rattle.warg_assemble.specs.Parts.{Part, exchanges_in, known_by}
 use Rattle.warg_assemble.specs.Session.{Wanted, AreOnce, IsSession, IsPlanOf}
-use Rattle.warg_search.specs.Search.{Finds, IsSearchRefusal}
-use Rattle.warg_search.specs.declared.error.SearchError.{SearchError}
+use Rattle.warg_learn.specs.Search.{Finds, IsSearchRefusal}
+use Rattle.warg_learn.specs.SearchError.{SearchError}
 use Rattle.warg_learn.specs.Learnt.{IsLearnt}
 use Rattle.warg_learn.specs.Seen.{Seen, IsKnown}
 use Rattle.warg_learn.specs.Unlearnt.{IsUnlearnt}
@@ -21,9 +21,9 @@ use Rattle.warg_learn.specs.declared.error.LearnError.{LearnError}
 use Rattle.warg_compose.specs.Linked.{IsComposeFault}
 use Rattle.warg_compose.specs.Read.{IsComponent}
 use Rattle.warg_compose.specs.declared.error.ComposeError.{ComposeError}
-use Rattle.warg_error.specs.Plans.{compose_refusal, search_refusal}
-use Rattle.warg_error.specs.Text.{IsPlanText, IsTextFault}
-use Rattle.warg_error.specs.declared.error.ClientError.{ClientError}
+use Rattle.warg_complete.specs.Plans.{compose_refusal, search_refusal}
+use Rattle.warg_complete.specs.Text.{IsPlanText, IsTextFault}
+use Rattle.warg_complete.specs.ClientError.{ClientError}
 use Rattle.warg_client.specs.declared.settings.Settings.{Settings}
 
 -- the plan of a text's settings begins at the instance `root`

@@ -9,7 +9,7 @@ use Rattle.warg_learn.specs.Seen.{Seen}
 use Rattle.warg_compose.specs.Linked.{IsLinkable}
 use Rattle.warg_complete.specs.Sessions.{ProvesSession}
 use Rattle.warg_complete.specs.Undisturbed.{IsUndisturbed}
-use Rattle.warg_error.specs.Text.{IsPlanText}
+use Rattle.warg_complete.specs.Text.{IsPlanText}
 use Rattle.warg_client.specs.Assembled.{wanted}
 
 module _ {T D : Type 0} (Steps : T → Asked → T → Type 0) (old new : Seen T D) where

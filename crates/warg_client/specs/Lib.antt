@@ -2,3 +2,9 @@ pub mod Errors
 pub mod Shown
 pub mod Assembled
 pub mod Complete
+pub use Rattle.warg_complete.specs.ClientError
+pub use Rattle.warg_complete.specs.Other
+pub use Rattle.warg_complete.specs.Text
+pub use Rattle.warg_complete.specs.Undisturbed
+pub use Rattle.warg_learn.specs.Seen
+pub use Rattle.warg_learn.specs.Stored

@@ -7,7 +7,7 @@ use Rattle.warg_store.specs.Held.{Held}
 use Rattle.warg_store.specs.Namespaces.{Names}
 use Rattle.warg_api.specs.declared.client.Client.{Client as Asking}
 use Rattle.warg_plan.specs.declared.plan.Plan.{Plan}
-use Rattle.warg_session.specs.Recording.{Transcript, transcript}
+use Rattle.warg_learn.specs.Recording.{Transcript, transcript}
 use Rattle.warg_learn.specs.Seen.{Seen, Telling, seen}
 use Rattle.warg_client.specs.declared.client.Client.{Client}
 use Rattle.warg_client.specs.declared.settings.Settings.{Settings}

@@ -7,4 +7,4 @@ mod settings;
 
 pub use client::Client;
 pub use settings::Settings;
-pub use warg_error::{ClientError, Other, PlanFault};
+pub use warg_complete::{ClientError, Other, PlanFault};

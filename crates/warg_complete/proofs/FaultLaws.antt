@@ -17,10 +17,10 @@ use Rattle.warg_api.specs.Link.{Asked}
 use Rattle.warg_api.specs.declared.error.ClientError.{ClientError}
 use Rattle.warg_page.specs.Logs.{Logs}
 use Rattle.warg_update.specs.Proved.{Start, Proves}
-use Rattle.warg_session.specs.Recording.{Transcript, IsRecorded}
-use Rattle.warg_session.specs.Updating.{IsUpdateRefusal}
-use Rattle.warg_session.specs.declared.error.UpdateRefusal.{UpdateRefusal}
-use Rattle.warg_session.specs.declared.error.UpdateRefusal.TheVariants as update
+use Rattle.warg_learn.specs.Recording.{Transcript, IsRecorded}
+use Rattle.warg_learn.specs.Updating.{IsUpdateRefusal}
+use Rattle.warg_learn.specs.UpdateRefusal.{UpdateRefusal}
+use Rattle.warg_learn.specs.UpdateRefusal.TheVariants as update
 use Rattle.warg_store.specs.Contents.{Contents}
 use Rattle.warg_store.specs.Held.{Registry}
 use Rattle.warg_store.specs.declared.error.StoreError.TheVariants as store
@@ -28,12 +28,12 @@ use Rattle.warg_plan.specs.Walk.{Stop, NeedsLog, NeedsContent}
 use Rattle.warg_assemble.specs.Known.{Known, registry_of}
 use Rattle.warg_assemble.specs.Parts.{Update, Load, Part, Updated, Loaded, exchanges_in, start_of, logs_of, Comes, IsUpdate, IsLoad, IsPart}
 use Rattle.warg_assemble.specs.Session.{Serves}
-use Rattle.warg_fetch.specs.declared.error.FetchError.{FetchError}
-use Rattle.warg_fetch.specs.declared.error.FetchError.TheVariants as fetch
-use Rattle.warg_fetch.specs.declared.error.LoadError.{LoadError}
-use Rattle.warg_fetch.specs.declared.error.LoadError.TheVariants as load
-use Rattle.warg_fetch.specs.Loaded.{IsLoadRefusal, IsUnstored}
-use Rattle.warg_fetch.specs.Stored.{KnowsContents}
+use Rattle.warg_learn.specs.FetchError.{FetchError}
+use Rattle.warg_learn.specs.FetchError.TheVariants as fetch
+use Rattle.warg_learn.specs.LoadError.{LoadError}
+use Rattle.warg_learn.specs.LoadError.TheVariants as load
+use Rattle.warg_learn.specs.Loaded.{IsLoadRefusal, IsUnstored}
+use Rattle.warg_learn.specs.Stored.{KnowsContents}
 use Rattle.warg_learn.specs.Seen.{Seen, IsKnown, content_loads}
 use Rattle.warg_learn.specs.Unlearnt.{IsUnfetched, IsUnread, IsLearnFault}
 use Rattle.warg_learn.specs.declared.error.LearnError.{LearnError}

@@ -5,13 +5,13 @@ use Rattle.warg_log.specs.Rules.{Accepts}
 use Rattle.warg_exchange.specs.declared.exchange.Exchange.{Exchange}
 use Rattle.warg_exchange.specs.Requests.{Asker}
 use Rattle.warg_api.specs.Link.{Asked, Exchanges}
-use Rattle.warg_session.specs.Recording.{Transcript, AreKept}
+use Rattle.warg_learn.specs.Recording.{Transcript, AreKept}
 use Rattle.warg_store.specs.Held.{Registry}
 use Rattle.warg_plan.specs.Walk.{Facts, Stop, Entry}
 use Rattle.warg_assemble.specs.Known.{Known}
 use Rattle.warg_assemble.specs.Parts.{Part, exchanges_in, known_after, learnt, IsPart}
 use Rattle.warg_assemble.specs.Session.{Wanted, walked, Serves, IsSession}
-use Rattle.warg_search.specs.Search.{AreLearnt}
+use Rattle.warg_learn.specs.Search.{AreLearnt}
 use Rattle.warg_learn.specs.Learnt.{IsLearnt}
 use Rattle.warg_learn.specs.Seen.{Seen}
 use Rattle.warg_compose.specs.Read.{IsComponent}

@@ -5,8 +5,8 @@ use Rattle.comp_shape.specs.Shape.{HasShape}
 use Rattle.comp_shape.specs.Refusal.{IsRefused}
 use Rattle.comp_shape.specs.declared.error.ShapeError.{ShapeError}
 use Rattle.comp_shape.specs.declared.error.ShapeError.TheVariants as shape
-use Rattle.wasm_compose.specs.Link.{LinkFits, link_exports}
-use Rattle.wasm_compose.specs.Open.{IsOpen}
+use Rattle.warg_compose.specs.Link.{LinkFits, link_exports}
+use Rattle.warg_compose.specs.Open.{IsOpen}
 use Rattle.warg_plan.specs.Walk.{Entry}
 use Rattle.warg_compose.specs.Linked.{IsComposeFault, IsLinkable, IsNotBuilt}
 use Rattle.warg_compose.specs.declared.error.ComposeError.{ComposeError}

@@ -12,8 +12,8 @@ use Rattle.warg_api.specs.Download.{Downloads}
 use Rattle.warg_api.specs.Link.{Asked, Exchanges}
 use Rattle.warg_page.specs.Logs.{Logs}
 use Rattle.warg_update.specs.Proved.{Start, AreAsked, Proves}
-use Rattle.warg_session.specs.Recording.{Transcript, AreKept}
-use Rattle.warg_session.specs.Updating.{IsUpdated}
+use Rattle.warg_learn.specs.Recording.{Transcript, AreKept}
+use Rattle.warg_learn.specs.Updating.{IsUpdated}
 use Rattle.warg_store.specs.Held.{Registry}
 use Rattle.warg_plan.specs.Walk.{Content, Stop, NeedsLog, NeedsContent}
 use Rattle.warg_assemble.specs.Known.{Known}

@@ -12,9 +12,9 @@ use Rattle.warg_plan.specs.Walk.{Stop, NeedsLog, NeedsContent, Entry, nothing_kn
 use Rattle.warg_assemble.specs.Known.{Known}
 use Rattle.warg_assemble.specs.Parts.{Part, exchanges_in, known_by, learnt_by}
 use Rattle.warg_assemble.specs.Session.{Wanted, Serves}
-use Rattle.warg_search.specs.Search.{AsksFor, Finds, IsSearchRefusal}
-use Rattle.warg_search.specs.declared.error.SearchError.{SearchError}
-use Rattle.warg_search.specs.declared.error.SearchError.TheVariants as search
+use Rattle.warg_learn.specs.Search.{AsksFor, Finds, IsSearchRefusal}
+use Rattle.warg_learn.specs.SearchError.{SearchError}
+use Rattle.warg_learn.specs.SearchError.TheVariants as search
 use Rattle.warg_learn.specs.Learnt.{IsLearnt, pages_of_part}
 use Rattle.warg_learn.specs.Seen.{Seen}
 use Rattle.warg_learn.specs.Unlearnt.{IsUnlearnt}

@@ -11,8 +11,8 @@ use Rattle.warg_api.specs.Link.{Asked, Exchanges}
 use Rattle.warg_api.specs.declared.error.ClientError.{ClientError as CallError}
 use Rattle.warg_api.specs.declared.error.ClientError.TheVariants as call
 use Rattle.warg_api.specs.declared.error.Other.TheVariants as other
-use Rattle.warg_session.specs.declared.error.UpdateRefusal.{UpdateRefusal}
-use Rattle.warg_session.specs.declared.error.UpdateRefusal.TheVariants as update
+use Rattle.warg_learn.specs.UpdateRefusal.{UpdateRefusal}
+use Rattle.warg_learn.specs.UpdateRefusal.TheVariants as update
 use Rattle.warg_store.specs.Entry.{Entry, Unreadable, IsLoadFault}
 use Rattle.warg_store.specs.Held.{Held, Registry}
 use Rattle.warg_store.specs.declared.error.EntryKind.{EntryKind}
@@ -22,13 +22,13 @@ use Rattle.warg_plan.specs.Walk.{Facts}
 use Rattle.warg_assemble.specs.Known.{Known}
 use Rattle.warg_assemble.specs.Parts.{Load, Loaded, Part, Update, Updated, exchanges_in, known_after, learnt}
 use Rattle.warg_assemble.specs.Session.{Wanted}
-use Rattle.warg_fetch.specs.Kept.{IsStoresFault}
-use Rattle.warg_fetch.specs.Stored.{CanBeRead}
-use Rattle.warg_fetch.specs.declared.error.FetchError.{FetchError}
-use Rattle.warg_fetch.specs.declared.error.FetchError.TheVariants as fetch
-use Rattle.warg_fetch.specs.declared.error.LoadError.{LoadError}
-use Rattle.warg_fetch.specs.declared.error.LoadError.TheVariants as load
-use Rattle.warg_search.specs.Search.{AreLearnt}
+use Rattle.warg_learn.specs.Kept.{IsStoresFault}
+use Rattle.warg_learn.specs.Stored.{CanBeRead}
+use Rattle.warg_learn.specs.FetchError.{FetchError}
+use Rattle.warg_learn.specs.FetchError.TheVariants as fetch
+use Rattle.warg_learn.specs.LoadError.{LoadError}
+use Rattle.warg_learn.specs.LoadError.TheVariants as load
+use Rattle.warg_learn.specs.Search.{AreLearnt}
 use Rattle.warg_learn.specs.Learnt.{IsLearnt, pages_of_part}
 use Rattle.warg_learn.specs.Seen.{Seen, IsKnown, ReadsStores, registry_loads, name_loads}
 use Rattle.warg_learn.specs.Unlearnt.{is_link_fault}

@@ -2,3 +2,8 @@ pub mod Sessions
 pub mod Refusals
 pub mod Undisturbed
 pub mod ExchangeLaws
+pub use Rattle.warg_error.specs.Calls
+pub use Rattle.warg_error.specs.Plans
+pub use Rattle.warg_error.specs.Text
+pub use Rattle.warg_error.specs.declared.error.ClientError
+pub use Rattle.warg_error.specs.declared.error.Other

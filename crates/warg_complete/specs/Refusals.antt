@@ -6,23 +6,23 @@ use Rattle.warg_values.specs.Faults.{Rose}
 use Rattle.warg_request.specs.Asking.{CanAsk}
 use Rattle.warg_api.specs.Link.{Asked}
 use Rattle.warg_update.specs.declared.error.UpdateError.TheVariants as reply
-use Rattle.warg_session.specs.Pages.{pages_asked}
-use Rattle.warg_session.specs.declared.error.UpdateRefusal.{UpdateRefusal}
-use Rattle.warg_session.specs.declared.error.UpdateRefusal.TheVariants as update
+use Rattle.warg_learn.specs.Pages.{pages_asked}
+use Rattle.warg_learn.specs.UpdateRefusal.{UpdateRefusal}
+use Rattle.warg_learn.specs.UpdateRefusal.TheVariants as update
 use Rattle.warg_course.specs.Refusals.{IsUnanswered, IsOwnFault}
 use Rattle.warg_store.specs.declared.error.StoreError.TheVariants as store
 use Rattle.warg_plan.specs.Walk.{nothing_known}
 use Rattle.warg_assemble.specs.Known.{Known}
 use Rattle.warg_assemble.specs.Parts.{Load, Loaded, Part, Update, Updated, known_by}
 use Rattle.warg_assemble.specs.Session.{Wanted}
-use Rattle.warg_fetch.specs.Fetched.{IsFetchFault}
-use Rattle.warg_fetch.specs.Kept.{IsStoresFault}
-use Rattle.warg_fetch.specs.declared.error.FetchError.{FetchError}
-use Rattle.warg_fetch.specs.declared.error.LoadError.{LoadError}
-use Rattle.warg_fetch.specs.declared.error.LoadError.TheVariants as load
-use Rattle.warg_search.specs.Search.{AreLearnt}
-use Rattle.warg_search.specs.declared.error.SearchError.{SearchError}
-use Rattle.warg_search.specs.declared.error.SearchError.TheVariants as search
+use Rattle.warg_learn.specs.Fetched.{IsFetchFault}
+use Rattle.warg_learn.specs.Kept.{IsStoresFault}
+use Rattle.warg_learn.specs.FetchError.{FetchError}
+use Rattle.warg_learn.specs.LoadError.{LoadError}
+use Rattle.warg_learn.specs.LoadError.TheVariants as load
+use Rattle.warg_learn.specs.Search.{AreLearnt}
+use Rattle.warg_learn.specs.SearchError.{SearchError}
+use Rattle.warg_learn.specs.SearchError.TheVariants as search
 use Rattle.warg_learn.specs.Learnt.{IsLearnt}
 use Rattle.warg_learn.specs.Seen.{Seen, registry_loads, name_loads}
 use Rattle.warg_learn.specs.Unlearnt.{is_link_fault}

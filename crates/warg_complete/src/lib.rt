@@ -3,3 +3,5 @@
 #![tactic(auto)]
 
 pub mod laws;
+
+pub use warg_error::{ClientError, Other, PlanFault, plan_text};

@@ -2,7 +2,7 @@
 use Rattle.std.proofs.Common.{◌≡◌, ◌≤◌, ◌^◌, ℕ, List, [], ◌∷◌, Result, Err, refl, subst}
 use Rattle.std.specs.Prelude.{◌↔◌}
 use Rattle.comp_entity.specs.Entity.{ShapeTree}
-use Rattle.comp_shape.specs.Shape.{HasShape}
+use Rattle.wasm_compose.specs.Shape.{HasShape}
 use Rattle.wasm_compose.specs.Link.{IsOfLink, LinkFits, link_exports}
 use Rattle.wasm_compose.specs.Open.{IsOpen}
 use Rattle.wasm_compose.specs.declared.error.ComposeError.{ComposeError as LinkerError}

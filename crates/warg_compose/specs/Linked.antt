@@ -2,8 +2,8 @@
 use Rattle.std.specs.Prelude.{◌≡◌, ◌≤◌, ◌⊎◌, ◌^◌, ℕ, List, [], ◌∷◌}
 use Rattle.comp_encoder.specs.Writing.{component_text}
 use Rattle.comp_entity.specs.Entity.{ShapeTree}
-use Rattle.comp_shape.specs.Shape.{HasShape}
-use Rattle.comp_shape.specs.Refusal.{IsRefused}
+use Rattle.wasm_compose.specs.Shape.{HasShape}
+use Rattle.wasm_compose.specs.ShapeRefusal.{IsRefused}
 use Rattle.wasm_compose.specs.Link.{IsLinked, IsOfLink, LinkFits, link_exports, link_items, singles}
 use Rattle.wasm_compose.specs.Open.{IsOpen}
 use Rattle.warg_plan.specs.Walk.{Entry}

@@ -3,9 +3,8 @@
 ghost use Rattle.std.specs.Prelude.{◌≡◌};
 ghost use Rattle.warg_compose.specs.Refusals.{linker_refusal};
 
-use comp_shape::ShapeError;
 use thiserror::Error;
-use wasm_compose::ComposeError as LinkerError;
+use wasm_compose::{ComposeError as LinkerError, ShapeError};
 
 /// Why a plan is not linked.
 #[derive(Clone, Copy, Debug, PartialEq, Eq, Error)]

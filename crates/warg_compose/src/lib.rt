@@ -5,7 +5,7 @@ mod error;
 mod plan;
 mod reader;
 
-pub use comp_shape::ShapeError;
 pub use error::ComposeError;
 pub use plan::compose_plan;
 pub use reader::ComponentReader;
+pub use wasm_compose::ShapeError;

@@ -1,7 +1,7 @@
 //! The component that a plan makes.
 
 ghost use Rattle.std.specs.Prelude.{◌∷◌, [], IfOk, IfErr};
-ghost use Rattle.compose_component.specs.Component.{IsRead};
+ghost use Rattle.wasm_compose.specs.Component.{IsRead};
 ghost use Rattle.warg_plan.specs.View.{entry_view, plan_view};
 ghost use Rattle.warg_compose.specs.Linked.{IsContentFault, IsComposeFault, IsPlanLinked};
 

@@ -6,8 +6,8 @@ use Rattle.warg_api.specs.declared.error.Other.TheVariants as call_other
 use Rattle.warg_exchange.specs.declared.service.ContentError.{ContentError}
 use Rattle.warg_exchange.specs.declared.service.ServiceError.{ServiceError}
 use Rattle.warg_exchange.specs.declared.service.ServiceError.TheVariants as service
-use Rattle.warg_fetch.specs.declared.error.LoadError.{LoadError}
-use Rattle.warg_fetch.specs.declared.error.LoadError.TheVariants as load
+use Rattle.warg_learn.specs.LoadError.{LoadError}
+use Rattle.warg_learn.specs.LoadError.TheVariants as load
 use Rattle.warg_store.specs.declared.error.StoreError.{StoreError}
 use Rattle.warg_store.specs.declared.error.StoreError.TheVariants as store
 use Rattle.warg_url.specs.declared.error.UrlError.{UrlError}

@@ -7,8 +7,8 @@ use Rattle.warg_compose.specs.declared.error.ComposeError.{ComposeError}
 use Rattle.warg_compose.specs.declared.error.ComposeError.TheVariants as compose
 use Rattle.warg_plan.specs.declared.stop.Stop.{Stop}
 use Rattle.warg_plan.specs.declared.stop.Stop.TheVariants as stop
-use Rattle.warg_search.specs.declared.error.SearchError.{SearchError}
-use Rattle.warg_search.specs.declared.error.SearchError.TheVariants as search
+use Rattle.warg_learn.specs.SearchError.{SearchError}
+use Rattle.warg_learn.specs.SearchError.TheVariants as search
 use Rattle.warg_error.specs.Calls.{load_refusal}
 use Rattle.warg_error.specs.Updates.{fetch_refusal}
 use Rattle.warg_error.specs.declared.error.PlanFault.TheVariants as fault

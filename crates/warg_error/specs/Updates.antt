@@ -1,15 +1,15 @@
 -- How a client tells the errors of updates.
 use Rattle.std.specs.Prelude.{ℕ, List}
-use Rattle.warg_fetch.specs.declared.error.FetchError.{FetchError}
-use Rattle.warg_fetch.specs.declared.error.FetchError.TheVariants as fetch
+use Rattle.warg_learn.specs.FetchError.{FetchError}
+use Rattle.warg_learn.specs.FetchError.TheVariants as fetch
 use Rattle.warg_info.specs.declared.error.TakeError.{TakeError}
 use Rattle.warg_info.specs.declared.error.TakeError.TheVariants as take
 use Rattle.warg_page.specs.declared.page.PageError.{PageError}
 use Rattle.warg_page.specs.declared.page.PageError.TheVariants as page
 use Rattle.warg_page.specs.declared.presence.PresenceError.{PresenceError}
 use Rattle.warg_page.specs.declared.presence.PresenceError.TheVariants as presence
-use Rattle.warg_session.specs.declared.error.UpdateRefusal.{UpdateRefusal}
-use Rattle.warg_session.specs.declared.error.UpdateRefusal.TheVariants as update
+use Rattle.warg_learn.specs.UpdateRefusal.{UpdateRefusal}
+use Rattle.warg_learn.specs.UpdateRefusal.TheVariants as update
 use Rattle.warg_update.specs.declared.error.UpdateError.{UpdateError}
 use Rattle.warg_update.specs.declared.error.UpdateError.TheVariants as reply
 use Rattle.warg_update.specs.declared.signature.SignatureError.{SignatureError}

@@ -7,7 +7,7 @@ ghost use Rattle.warg_error.specs.declared.error.ClientError.TheVariants.{Memory
 use crate::error::{ClientError, Other};
 use warg_api::{ClientError as CallError, Other as CallOther};
 use warg_exchange::{ContentError, ServiceError};
-use warg_fetch::LoadError;
+use warg_learn::LoadError;
 use warg_store::StoreError;
 use warg_url::UrlError;
 use warg_values::Memory;

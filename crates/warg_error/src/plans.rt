@@ -6,9 +6,8 @@ ghost use Rattle.warg_error.specs.Plans.{learn_refusal, compose_refusal, search_
 use crate::error::{ClientError, PlanFault};
 use comp_shape::ShapeError;
 use warg_compose::ComposeError;
-use warg_learn::LearnError;
+use warg_learn::{LearnError, SearchError};
 use warg_plan::Stop;
-use warg_search::SearchError;
 
 impl From<Stop> for ClientError {
     ghost from_gives = { λ e told. told ≡ stop_refusal e };

@@ -4,11 +4,10 @@ ghost use Rattle.std.specs.Prelude.{◌≡◌};
 ghost use Rattle.warg_error.specs.Updates.{fetch_refusal, operator_refusal, package_refusal, page_refusal, presence_refusal, reply_refusal, signature_refusal, update_refusal};
 
 use crate::error::{ClientError, Other};
-use warg_fetch::FetchError;
 use warg_hash::PackageName;
 use warg_info::TakeError;
+use warg_learn::{FetchError, UpdateRefusal};
 use warg_page::{PageError, PresenceError};
-use warg_session::UpdateRefusal;
 use warg_update::{SignatureError, UpdateError};
 
 /// That a record of the log of a registry's operator is refused.

@@ -10,7 +10,7 @@ use Rattle.warg_info.specs.Kept.{Kept}
 use Rattle.warg_info.specs.declared.package.PackageInfo.{PackageInfo}
 use Rattle.warg_page.specs.Logs.{Logs, EachGrows}
 use Rattle.warg_page.specs.Views.{package_view}
-use Rattle.warg_update.specs.Proved.{Turns, Pages, Start, Proves}
+use Rattle.warg_session.specs.Proved.{Turns, Pages, Start, Proves}
 use Rattle.warg_fetch.specs.Fetched.{IsSingle}
 
 -- these are the logs of one package, of this name

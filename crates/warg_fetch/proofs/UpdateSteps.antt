@@ -9,7 +9,7 @@ use Rattle.warg_info.specs.declared.package.PackageInfo.{PackageInfo}
 use Rattle.warg_api.specs.Link.{Asked}
 use Rattle.warg_page.specs.Logs.{Logs}
 use Rattle.warg_page.specs.Views.{logs_view}
-use Rattle.warg_update.specs.Proved.{AreAsked, Start, Proves}
+use Rattle.warg_session.specs.Proved.{AreAsked, Start, Proves}
 use Rattle.warg_session.specs.Recording.{Transcript}
 use Rattle.warg_session.specs.Updating.{IsBegun, IsUpdated, IsUpdateRefusal, LeavesPages}
 use Rattle.warg_session.specs.declared.error.UpdateRefusal.{UpdateRefusal}

@@ -8,7 +8,7 @@ use Rattle.warg_info.specs.Info.{operator_log, package_log, IsSoundOperator, IsS
 use Rattle.warg_info.specs.declared.package.PackageInfo.{PackageInfo}
 use Rattle.warg_page.specs.Steps.{IsGood, IsGoodOperator}
 use Rattle.warg_api.specs.Link.{Asked}
-use Rattle.warg_update.specs.Proved.{AreAsked, Proves}
+use Rattle.warg_session.specs.Proved.{AreAsked, Proves}
 use Rattle.warg_session.specs.Recording.{Transcript, AreKept}
 use Rattle.warg_session.specs.Updating.{IsBegun, IsUpdateRefusal, LeavesPages}
 use Rattle.warg_session.specs.declared.error.UpdateRefusal.{UpdateRefusal}

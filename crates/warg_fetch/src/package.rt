@@ -26,9 +26,8 @@ use warg_hash::PackageName;
 use warg_hint::Decide;
 use warg_info::{OperatorInfo, PackageInfo};
 use warg_log::Verifier;
-use warg_session::{Recording, Updated, run_update};
+use warg_session::{Recording, Settings, Updated, run_update};
 use warg_store::{NamespaceMapStorage, RegistryStorage};
-use warg_update::Settings;
 use warg_url::RegistryDomain;
 use warg_values::Memory;
 

@@ -5,7 +5,7 @@ use Rattle.std.specs.Cmp.Lexicographic.{nat_list_eq_equiv}
 use Rattle.std.specs.Map.{lookup}
 use Rattle.warg_exchange.specs.declared.exchange.Exchange.{Exchange}
 use Rattle.warg_exchange.specs.Requests.{Asker}
-use Rattle.warg_update.specs.Proved.{Start, AreAsked}
+use Rattle.warg_session.specs.Proved.{Start, AreAsked}
 use Rattle.warg_session.specs.Recording.{Transcript}
 use Rattle.warg_session.specs.Updating.{IsBegun}
 use Rattle.warg_store.specs.Contents.{Contents}

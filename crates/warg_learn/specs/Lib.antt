@@ -2,3 +2,17 @@ pub mod Learnt
 pub mod Refusals
 pub mod Seen
 pub mod Unlearnt
+pub use Rattle.warg_fetch.specs.Fetched
+pub use Rattle.warg_fetch.specs.Kept
+pub use Rattle.warg_fetch.specs.Loaded
+pub use Rattle.warg_fetch.specs.Stored
+pub use Rattle.warg_fetch.specs.declared.error.FetchError
+pub use Rattle.warg_fetch.specs.declared.error.LoadError
+pub use Rattle.warg_search.specs.Search
+pub use Rattle.warg_search.specs.SearchLaws
+pub use Rattle.warg_search.specs.declared.error.SearchError
+pub use Rattle.warg_session.specs.Pages
+pub use Rattle.warg_session.specs.Recording
+pub use Rattle.warg_session.specs.RecordingLaws
+pub use Rattle.warg_session.specs.Updating
+pub use Rattle.warg_session.specs.declared.error.UpdateRefusal

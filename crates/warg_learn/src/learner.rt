@@ -18,9 +18,8 @@ use warg_hint::{Decide, HintSettings};
 use warg_log::{Release, Verifier};
 use warg_plan::Content;
 use warg_search::Learn;
-use warg_session::Recording;
+use warg_session::{Recording, Settings};
 use warg_store::{ContentStorage, NamespaceMapStorage, RegistryStorage};
-use warg_update::Settings;
 use warg_url::RegistryDomain;
 
 /// Learns what a plan needs, as a client of registries, over a link, and keeps it in stores.

@@ -9,3 +9,6 @@ mod updated;
 
 pub use error::LearnError;
 pub use learner::Learner;
+pub use warg_fetch::{FetchError, LoadError, registry_for};
+pub use warg_search::{SearchError, search_plan};
+pub use warg_session::{Recording, UpdateRefusal};

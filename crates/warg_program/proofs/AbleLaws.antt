@@ -5,7 +5,7 @@ use Rattle.warg_values.specs.Faults.{Rose}
 use Rattle.warg_base.specs.Files.{file_at}
 use Rattle.comp_entity.specs.Entity.{ShapeTree}
 use Rattle.comp_shape.specs.Shape.{HasShape}
-use Rattle.warg_error.specs.declared.error.ClientError.TheVariants as error
+use Rattle.warg_replay.specs.ClientError.TheVariants as error
 use Rattle.warg_exchange.specs.declared.exchange.Reply.{Reply}
 use Rattle.warg_recorded.specs.Files.{replies_in, signatures_in}
 use Rattle.warg_replay.specs.Replay.{IsReplayable, accepts_listed}

@@ -2,8 +2,8 @@
 use Rattle.std.proofs.Common.{◌≡◌, ◌≤◌, inl, inr, ap, subst, ℕ, Bool, true, false, List, Some, None, IfSome}
 use Rattle.std.proofs.lemmas.Bool.{false≢true}
 use Rattle.warg_base.specs.Files.{file_at}
-use Rattle.warg_error.specs.declared.error.ClientError.{ClientError}
-use Rattle.warg_error.specs.declared.error.ClientError.TheVariants as error
+use Rattle.warg_replay.specs.ClientError.{ClientError}
+use Rattle.warg_replay.specs.ClientError.TheVariants as error
 use Rattle.warg_exchange.specs.declared.exchange.Reply.{Reply}
 use Rattle.warg_replay.specs.Replay.{IsReplayFault, IsReplayable, accepts_listed}
 use Rattle.warg_program.specs.World.{SeenFiles, HasFile}

@@ -2,8 +2,8 @@
 use Rattle.std.specs.Prelude.{◌≡◌, ℕ, List, Ok, Err, IsUtf8}
 use Rattle.std.specs.List.Sorted.{IsPermutation}
 use Rattle.warg_values.specs.Faults.{Rose}
-use Rattle.warg_error.specs.declared.error.ClientError.{ClientError}
-use Rattle.warg_error.specs.declared.error.ClientError.TheVariants as error
+use Rattle.warg_replay.specs.ClientError.{ClientError}
+use Rattle.warg_replay.specs.ClientError.TheVariants as error
 use Rattle.warg_exchange.specs.Body.{BodyFault}
 use Rattle.warg_exchange.specs.declared.exchange.Reply.{Reply}
 use Rattle.warg_plan.specs.Walk.{Entry}

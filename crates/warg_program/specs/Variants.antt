@@ -2,10 +2,10 @@
 use Rattle.std.specs.Prelude.{ℕ, List, codes}
 use Rattle.warg_api.specs.declared.error.ClientError.{ClientError as CallError}
 use Rattle.warg_api.specs.declared.error.ClientError.TheVariants as call
-use Rattle.warg_error.specs.declared.error.ClientError.{ClientError}
-use Rattle.warg_error.specs.declared.error.ClientError.TheVariants as error
-use Rattle.warg_error.specs.declared.error.Other.{Other}
-use Rattle.warg_error.specs.declared.error.Other.TheVariants as other
+use Rattle.warg_replay.specs.ClientError.{ClientError}
+use Rattle.warg_replay.specs.ClientError.TheVariants as error
+use Rattle.warg_replay.specs.Other.{Other}
+use Rattle.warg_replay.specs.Other.TheVariants as other
 
 -- an error of a registry's reply
 abbrev pub call_variant : CallError → List ℕ

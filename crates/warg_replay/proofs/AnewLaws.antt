@@ -23,13 +23,13 @@ use Rattle.warg_store.specs.Held.{Held, Info, Registry, SameHeld}
 use Rattle.warg_store.specs.Held as held
 use Rattle.warg_assemble.specs.Parts.{exchanges_in}
 use Rattle.warg_assemble.specs.Session.{IsSession, IsPlanOf}
-use Rattle.warg_fetch.specs.Stored.{CanBeRead, log_in, value_in, IsOwn}
-use Rattle.warg_learn.specs.Seen.{Seen, IsKnown, ReadsStores}
+use Rattle.warg_client.specs.Stored.{CanBeRead, log_in, value_in, IsOwn}
+use Rattle.warg_client.specs.Seen.{Seen, IsKnown, ReadsStores}
 use Rattle.warg_compose.specs.Linked.{IsPlanLinked}
 use Rattle.warg_compose.specs.Read.{IsComponent}
-use Rattle.warg_error.specs.declared.error.ClientError.{ClientError}
-use Rattle.warg_error.specs.declared.error.ClientError.TheVariants as told
-use Rattle.warg_complete.specs.Undisturbed.{IsUnreplied, pages_of_parts, registry_in}
+use Rattle.warg_client.specs.ClientError.{ClientError}
+use Rattle.warg_client.specs.ClientError.TheVariants as told
+use Rattle.warg_client.specs.Undisturbed.{IsUnreplied, pages_of_parts, registry_in}
 use Rattle.warg_client.specs.Complete.{IsValidCall}
 use Rattle.warg_client.specs.Assembled.{wanted, IsAssembleFault, IsPlanOfText}
 use Rattle.warg_replay.specs.Replay.{HaveNotFailed, AsksHome, IsAnew, IsRefused, IsReplayable, IsReplayed, nothing, page_limit, says}

@@ -1,1 +1,3 @@
 pub mod Replay
+pub use Rattle.warg_client.specs.ClientError
+pub use Rattle.warg_client.specs.Other

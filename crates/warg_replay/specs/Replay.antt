@@ -26,13 +26,13 @@ use Rattle.warg_store.specs.declared.memory_registry.MemoryRegistry.{MemoryRegis
 use Rattle.warg_assemble.specs.Known.{Known}
 use Rattle.warg_assemble.specs.Parts.{Part, exchanges_in, learnt_by}
 use Rattle.warg_assemble.specs.Session.{walked, AreOnce, IsSession, IsPlanOf}
-use Rattle.warg_learn.specs.Seen.{Faults, Seen, IsKnown, ReadsStores}
+use Rattle.warg_client.specs.Seen.{Faults, Seen, IsKnown, ReadsStores}
 use Rattle.warg_compose.specs.Linked.{IsLinkable, IsPlanLinked}
 use Rattle.warg_compose.specs.Read.{IsComponent}
-use Rattle.warg_complete.specs.Undisturbed.{pages_of_parts, registry_in}
-use Rattle.warg_error.specs.Text.{IsPlanText}
-use Rattle.warg_error.specs.declared.error.ClientError.{ClientError}
-use Rattle.warg_error.specs.declared.error.ClientError.TheVariants as error
+use Rattle.warg_client.specs.Undisturbed.{pages_of_parts, registry_in}
+use Rattle.warg_client.specs.Text.{IsPlanText}
+use Rattle.warg_client.specs.ClientError.{ClientError}
+use Rattle.warg_client.specs.ClientError.TheVariants as error
 use Rattle.warg_client.specs.Assembled.{IsAssembleFault, wanted}
 use Rattle.warg_client.specs.Shown.{seen_by, tells}
 use Rattle.warg_client.specs.declared.client.Client.{Client}

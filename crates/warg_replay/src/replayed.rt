@@ -4,7 +4,7 @@ ghost use Rattle.std.specs.Prelude.{◌≡◌, ◌⊎◌, ◌↔◌, true, IfOk,
 ghost use Rattle.warg_plan.specs.View.{plan_view};
 ghost use Rattle.warg_client.specs.Assembled.{beginning};
 ghost use Rattle.warg_client.specs.Shown.{settings_of};
-ghost use Rattle.warg_error.specs.declared.error.ClientError.TheVariants.{Memory as WantsMemory};
+ghost use Rattle.warg_client.specs.ClientError.TheVariants.{Memory as WantsMemory};
 ghost use Rattle.warg_replay.specs.Replay.{HaveNotFailed, IsAnew, IsReplayFault, IsReplayable, IsReplayed, accepts_listed, shown};
 
 use std::alloc::Global;

@@ -5,3 +5,4 @@ pub mod RecordingLaws
 pub mod Refusals
 pub mod Turns
 pub mod Updating
+pub use Rattle.warg_update.specs.Proved

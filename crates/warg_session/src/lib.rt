@@ -9,3 +9,4 @@ mod update;
 pub use error::UpdateRefusal;
 pub use recording::Recording;
 pub use update::{UpdateStart, Updated, run_update};
+pub use warg_update::Settings;

@@ -9,3 +9,5 @@ pub mod Stages
 pub mod FeedFaults
 pub mod Included
 pub mod Refusals
+pub use Rattle.warg_api.specs.Download
+pub use Rattle.warg_page.specs.Logs

@@ -7,8 +7,8 @@ mod link;
 mod mentions;
 
 pub use compose_component::{
-    Component, ComponentError, ComponentExport, ComponentImport, ExportIndex, Exports, FileError,
-    Files, ImportIndex, Imports, Shape, ShapeError, Sort, Text, TypeRef,
+    Component, ComponentError, ComponentExport, ComponentImport, Entity, ExportIndex, Exports,
+    FileError, Files, ImportIndex, Imports, Shape, ShapeError, Sort, Text, TypeRef, read_shape,
 };
 pub use error::ComposeError;
 pub use link::link_root;

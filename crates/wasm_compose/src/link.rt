@@ -17,8 +17,7 @@ use crate::error::ComposeError;
 use crate::mentions::is_open;
 use comp_encoder::ComponentBuilder;
 use comp_format::{CoreSort, EncodeError, Sort};
-use comp_shape::Entity;
-use compose_component::Component;
+use compose_component::{Component, Entity};
 use std::alloc::Global;
 use warg_base::Text;
 

@@ -6,7 +6,7 @@ ghost use Rattle.comp_entity.specs.Views.{component_sides, entity_tree, func_tre
 ghost use Rattle.wasm_compose.specs.Mentions.{boxed_mentions, entity_mentions, entries_mention, func_mentions, held_mentions, type_mentions, value_mentions};
 ghost use Rattle.wasm_compose.specs.Open.{is_open};
 
-use comp_shape::{ComponentShape, Entity, FuncShape, Shape, TypeShape, ValueShape};
+use compose_component::{ComponentShape, Entity, FuncShape, Shape, TypeShape, ValueShape};
 use warg_base::Text;
 
 /// Whether a value type holds a handle.

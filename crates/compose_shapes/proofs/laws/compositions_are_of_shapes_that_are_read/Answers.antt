@@ -1,7 +1,7 @@
 use Rattle.comp_entity.specs.Entity.{ShapeTree}
 use Rattle.comp_entity.specs.Views.{entries_of}
 use Rattle.compose_known.specs.Whole.{IsWhole}
-use Rattle.compose_origins.specs.Named.{IsWellNamed}
+use Rattle.compose_settled.specs.Named.{IsWellNamed}
 use Rattle.compose_shapes.proofs.Compositions.{all_of, imports_named, shapes_well_named}
 use Rattle.compose_shapes.proofs.laws.compositions_are_of_shapes_that_are_read.Goals as goal
 use Rattle.compose_writing.specs.Conditions.{KeepsEntries}

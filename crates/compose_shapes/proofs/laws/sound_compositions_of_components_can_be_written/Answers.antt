@@ -1,7 +1,7 @@
 use Rattle.std.proofs.Math.Logic.{∥∥₁_elim}
 use Rattle.compose_check.specs.Composition.{wiring}
 use Rattle.compose_check.specs.Open.{lefts}
-use Rattle.compose_image.specs.Imports.{used_components}
+use Rattle.compose_settled.specs.Imports.{used_components}
 use Rattle.compose_shapes.proofs.Sound.{IsReady, all_have_names, all_numbered, all_ready, importable, of_used, one_order}
 use Rattle.compose_shapes.proofs.laws.sound_compositions_of_components_can_be_written.Goals as goal
 

@@ -1,8 +1,8 @@
 use Rattle.std.proofs.Common.{sym, ◌∙◌, subst}
 use Rattle.std.proofs.lemmas.Result.{err_from_is_err_and}
 use Rattle.warg_plan.specs.View.{entry_view}
-use Rattle.compose_component.specs.Component.{bytes_of, shape_of}
-use Rattle.comp_shape.specs.Shape.{HasShape}
+use Rattle.wasm_compose.specs.Component.{bytes_of, shape_of}
+use Rattle.wasm_compose.specs.Shape.{HasShape}
 use Rattle.warg_compose.proofs.FaultLaws.{fault_of}
 use Rattle.warg_compose.proofs.plan.compose_entry.Goals as goal
 

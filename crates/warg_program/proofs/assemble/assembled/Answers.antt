@@ -1,6 +1,6 @@
 use Rattle.std.proofs.Common.{◌≡◌, ◌≤◌, ◌∙◌, arith, string_bytes, subst}
 use Rattle.std.proofs.lemmas.Result.{err_from_is_err_and}
-use Rattle.warg_error.specs.declared.error.ClientError.TheVariants as error
+use Rattle.warg_replay.specs.ClientError.TheVariants as error
 use Rattle.warg_replay.specs.Replay.{IsReplayFault, IsReplayable, accepts_listed}
 use Rattle.warg_program.specs.World.{seen_files}
 use Rattle.warg_program.specs.Assembly.{AtReplies, AtChecked, AtReplay}

@@ -2,7 +2,7 @@ use Rattle.std.proofs.Common.{◌≡◌, ◌⊎◌, inl, inr, sym, ◌∙◌, su
 use Rattle.warg_plan.specs.View.{plan_view}
 use Rattle.warg_api.specs.Link.{IsRecordedStep}
 use Rattle.warg_compose.specs.Linked.{IsPlanLinked}
-use Rattle.warg_error.specs.declared.error.ClientError.TheVariants as told
+use Rattle.warg_client.specs.ClientError.TheVariants as told
 use Rattle.warg_client.specs.Assembled.{IsPlanOfText, beginning}
 use Rattle.warg_client.specs.Shown.{settings_of}
 use Rattle.warg_replay.specs.Replay.{HaveNotFailed, IsRefused, IsReplayFault, accepts_listed, shown}

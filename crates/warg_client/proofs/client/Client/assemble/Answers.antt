@@ -2,8 +2,8 @@ use Rattle.std.proofs.Common.{inl, inr, refl, sym, ap, subst}
 use Rattle.std.proofs.lemmas.Result.{err_from_is_err_and}
 use Rattle.compose_config.specs.View.{settings_of as plan_settings}
 use Rattle.warg_plan.specs.View.{plan_view}
-use Rattle.warg_fetch.specs.Stored.{IsOwnStore}
-use Rattle.warg_search.specs.Search.{Finds}
+use Rattle.warg_learn.specs.Stored.{IsOwnStore}
+use Rattle.warg_learn.specs.Search.{Finds}
 use Rattle.warg_learn.specs.Learnt.{IsLearnt}
 use Rattle.warg_compose.specs.Read.{IsComponent}
 use Rattle.warg_client.specs.Assembled.{IsSearchRefused, wanted}
