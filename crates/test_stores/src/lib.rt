@@ -1,5 +1,7 @@
-//! Tests of stores in files, over files in memory: what stands in a file, and what a load answers.
+//! Tests of stores in files, over files in memory, and of locks: what stands in a file, and what a load answers.
 #![tactic(auto)]
 
+#[cfg(test)]
+mod locks;
 #[cfg(test)]
 mod stores;

@@ -9,6 +9,7 @@ pub mod hint;
 pub mod info;
 pub mod json;
 pub mod ledger;
+pub mod locks;
 pub mod log;
 pub mod model;
 pub mod names;
