@@ -1,7 +1,7 @@
 -- Naming bits of the parts of a type, one more each time.
-use Rattle.std.proofs.Common.{◌≡◌, ◌<◌, ◌+◌, ℕ, Bool, true, false, List, [], ◌∷◌, drop, get_or, length, map, Option, Some, None, refl, sym, ap, ◌∙◌}
+use Rattle.std.proofs.Common.{◌≡◌, ◌<◌, ◌+◌, ℕ, Bool, true, false, List, ◌∷◌, drop, get_or, length, Option, Some, None, refl, sym, ap, ◌∙◌}
 use Rattle.std.specs.Global.{Global}
-use Rattle.std.specs.Prelude.{◌&&◌, Box, Vec}
+use Rattle.std.specs.Prelude.{Box}
 use Rattle.std.proofs.lemmas.List.{at_drop_more}
 use Rattle.comp_entity.specs.declared.entity.ValueShape.{ValueShape, fold-roll-ValueShape}
 use Rattle.comp_entity.specs.declared.entity.ValueShape.TheOpen as value_layer

@@ -6,4 +6,8 @@ mod PassLaws
 mod ScopeLaws
 mod ViewLaws
 mod LeftLaws
+mod NamedLaws
+mod PassingLaws
+mod FoundLaws
+mod FirstLaws
 mod Rows

@@ -1,7 +1,6 @@
 -- What is behind things that stand one after the other.
-use Rattle.std.proofs.Common.{◌≡◌, ◌<◌, ◌+◌, ℕ, Bool, true, false, List, [], ◌∷◌, drop, get_or, length, map, Option, Some, None, refl, sym, ap, ◌∙◌}
+use Rattle.std.proofs.Common.{◌≡◌, ◌<◌, ◌+◌, ℕ, Bool, false, List, ◌∷◌, drop, get_or, length, Option, Some, None, sym, ap, ◌∙◌}
 use Rattle.std.specs.Prelude.{◌&&◌, option_and_then}
-use Rattle.std.specs.List.{list_all}
 use Rattle.std.proofs.lemmas.List.{at_drop_more}
 use Rattle.comp_entity.specs.Entity.{Entries}
 use Rattle.compose_naming.specs.Bits.{Scope, behind_all, closed, opened}

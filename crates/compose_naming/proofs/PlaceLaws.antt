@@ -11,7 +11,7 @@ use Rattle.compose_left.specs.declared.path.Path.{Path}
 use Rattle.compose_left.specs.declared.spots.Thing.{Thing}
 use Rattle.compose_needs.specs.declared.leaves.Leaf.{Leaf}
 use Rattle.compose_order.specs.Known.{NamePath, path_cmp}
-use Rattle.compose_naming.specs.Bits.{bit_at, bit_in, is_at, named_at, Scope, type_named}
+use Rattle.compose_naming.specs.Bits.{bit_at, bit_in, is_at, Scope, type_named}
 use Rattle.compose_naming.specs.Scopes.{FindsPlaces, named_of}
 use Rattle.compose_naming.proofs.PathLaws.{path_ties, same_paths}
 

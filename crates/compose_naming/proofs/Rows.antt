@@ -1,6 +1,6 @@
 -- Worked rows of the naming bits of left imports.
 use Rattle.std.proofs.Common.{◌≡◌, ℕ, Bool, List, [], ◌∷◌, Option, Some, None, refl, true, false}
-use Rattle.std.specs.Prelude.{is_some, option_map}
+use Rattle.std.specs.Prelude.{is_some}
 use Rattle.comp_format.specs.declared.types.Primitive.TheVariants as primitive
 use Rattle.comp_entity.specs.Entity.{made, brought, Name, ValueTree, Primitive, EnumOf, RecordOf, ListOf, labelled, no_case, present, Value, Component, EntityTree, IsType, IsFunc, IsInstance, IsComponent, Entries, no_entry, entry}
 use Rattle.compose_left.specs.Spots.{named_type, spots_in}

@@ -1,7 +1,6 @@
 -- Scopes in a vector, the innermost last, and what is noted in the innermost.
-use Rattle.std.proofs.Common.{◌≡◌, ◌<◌, ◌≤◌, ◌-◌, ◌+◌, ℕ, Bool, true, false, cond, List, [], ◌∷◌, ◌++◌, get_or, take, length, map, Option, Some, None, refl, sym, ap, ◌∙◌, arith}
+use Rattle.std.proofs.Common.{◌≡◌, ◌<◌, ◌≤◌, ◌-◌, ◌+◌, ℕ, Bool, true, false, cond, List, [], ◌∷◌, ◌++◌, get_or, take, length, map, Some, None, sym, ap, ◌∙◌, arith}
 use Rattle.std.specs.Prelude.{nat_lt, reverse}
-use Rattle.std.specs.Ordering.{is_eq}
 use Rattle.std.specs.BTreeMap.{BTreeMap, Updates, get}
 use Rattle.std.proofs.lemmas.List.{map_push, reverse-append, take_all, take_more}
 use Rattle.comp_entity.specs.Entity.{Name}
@@ -13,7 +12,7 @@ use Rattle.compose_naming.specs.Bits.{Scope, closed, noted, with_bit}
 use Rattle.compose_naming.specs.Scopes.{scope_of, scopes_in}
 use Rattle.compose_naming.specs.Settled.{name_in}
 use Rattle.compose_naming.specs.declared.scopes.Open.{Open}
-use Rattle.compose_naming.proofs.NameLaws.{found_by_name, named_is}
+use Rattle.compose_naming.proofs.NameLaws.{found_by_name}
 
 pub scopes_push : (os : List Open) (o : Open) → scopes_in (os ++ o ∷ []) ≡ scope_of o ∷ scopes_in os
 scopes_push os o = ap reverse (map_push scope_of os o) ∙ reverse-append (map scope_of os) (scope_of o ∷ [])

@@ -1,7 +1,6 @@
 -- Scopes that are open, as code holds them.
 use Rattle.std.specs.Prelude.{◌≡◌, Bool, List, ◌∷◌, Option, Some, None, find, map, option_and_then, option_map, reverse, if◌then◌else◌}
 use Rattle.std.specs.BTreeMap.{BTreeMap, get}
-use Rattle.comp_entity.specs.Entity.{Name}
 use Rattle.comp_entity.specs.Places.{Path}
 use Rattle.comp_entity.specs.Views.{Sides}
 use Rattle.compose_left.specs.Spots.{named_type}

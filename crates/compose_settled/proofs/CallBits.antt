@@ -14,13 +14,14 @@ use Rattle.compose_writing.specs.Conditions.{with_these}
 use Rattle.compose_meaning.specs.Meaning.{Meaning}
 use Rattle.compose_meaning.specs.Readable.{Spot, brought_keys}
 use Rattle.compose_naming.specs.Bits.{Scope, behind, behind_call, behind_calls, behind_left, behind_lefts, bit_at, bit_in, called_where, named_at, noted_where, outermost}
+use Rattle.compose_naming.specs.GrownLaws.{Grown, call_grows, calls_grow, entity_grows, grown_on, grows, lefts_grow, no_truth, noted_there, so_before, then_some, where_noted}
+use Rattle.compose_naming.specs.NamingBits.{Extends}
 use Rattle.compose_naming.specs.Settled.{name_in, settled}
 use Rattle.compose_origins.specs.Placed.{value_at}
 use Rattle.compose_settled.specs.ReadBack.{AllRemainToRead, BitMeans, BitsMean, RemainsToRead, called_keys, first_import, is_type, key_of, known_behind, spot_behind, with_call}
-use Rattle.compose_settled.specs.Stays.{AllStayToRead, Extends, Includes, Stays}
-use Rattle.compose_settled.proofs.Grown.{Grown, entity_grows, grown_on, grows, no_scopes, same, then_some, where_grows}
+use Rattle.compose_settled.specs.Stays.{AllStayToRead, Includes, Stays}
 use Rattle.compose_settled.proofs.Paths.{named_there}
-use Rattle.compose_settled.proofs.Remaining.{entity_included, keeps_known, no_truth, noted_alone, noted_there, remains, so_before, these_more, where_noted}
+use Rattle.compose_settled.proofs.Remaining.{entity_included, keeps_known, noted_alone, remains, these_more}
 
 some_scopes : (s t : List Scope) → Some s ≡ Some t → s ≡ t
 some_scopes s t h = same_Some s t h
@@ -28,17 +29,6 @@ some_scopes s t h = same_Some s t h
 -- ---- one call
 
 module _ (leaves : List Leaf) where
-  call_grows : (s : Scope) (around after : List Scope) (call : Call) → behind_call leaves (s ∷ around) call ≡ Some after → Grown s around after
-  call_grows s around after call = one call.what.is_type
-    where
-      by : (o : Option Bool) → bit_in (s ∷ around) (name_in call.what) ≡ o → called_where (s ∷ around) (name_in call.what) (bit_at leaves (s ∷ around) call.path) o ≡ Some after → Grown s around after
-      by (Some b) e h = same s around after h
-      by None e h = where_grows (name_in call.what) (bit_at leaves (s ∷ around) call.path) s around after e h
-
-      one : (x : Bool) → cond x (called_where (s ∷ around) (name_in call.what) (bit_at leaves (s ∷ around) call.path) (bit_in (s ∷ around) (name_in call.what))) (Some (s ∷ around)) ≡ Some after → Grown s around after
-      one true h = by (bit_in (s ∷ around) (name_in call.what)) refl h
-      one false h = same s around after h
-
   call_included : (s : Scope) (around after : List Scope) (call : Call) (known : Mention → Bool) → Includes known (s ∷ around) → behind_call leaves (s ∷ around) call ≡ Some after → Includes (with_call known call) after
   call_included s around after call known included = one call.what.is_type
     where
@@ -75,13 +65,6 @@ module _ (bit : Name → Bool) (e : EntityTree) where
 
 -- ---- all that is called
 
-calls_grow : (leaves : List Leaf) (calls : List Call) (s : Scope) (around after : List Scope) → behind_calls leaves calls (s ∷ around) ≡ Some after → Grown s around after
-calls_grow leaves [] s around after h = same s around after h
-calls_grow leaves (c ∷ calls) s around after h =
-    let x = then_some (behind_calls leaves calls) (behind_call leaves (s ∷ around) c) after h in
-    let g = call_grows leaves s around x.0 c x.1 in
-    grown_on s around x.0 after g (calls_grow leaves calls g.top around after (ap (behind_calls leaves calls) (sym g.is) ∙ x.2))
-
 calls_more : (known : Mention → Bool) (c : Call) (calls : List Call) → with_these (with_call known c) (called_keys calls) ≡ with_these known (called_keys (c ∷ calls))
 calls_more known c calls = these_more known (called_keys (c ∷ [])) (called_keys calls) ∙ ap (with_these known) (one c.what.is_type)
   where
@@ -114,20 +97,6 @@ calls_bits mean e (c ∷ calls) s around after known included h so =
     )
 
 -- ---- one import behind the other
-
-left_grows : (l : LeftTree) (s : Scope) (around after : List Scope) → behind_left l (s ∷ around) ≡ Some after → Grown s around after
-left_grows l s around after h =
-    let e = (settled l).entity in
-    let x = then_some (behind_calls (leaves_at e) l.calls) (behind e (s ∷ around)) after h in
-    let g = entity_grows e s around x.0 x.1 in
-    grown_on s around x.0 after g (calls_grow (leaves_at e) l.calls g.top around after (ap (behind_calls (leaves_at e) l.calls) (sym g.is) ∙ x.2))
-
-lefts_grow : (ls : List LeftTree) (s : Scope) (around after : List Scope) → behind_lefts ls (s ∷ around) ≡ Some after → Grown s around after
-lefts_grow [] s around after h = same s around after h
-lefts_grow (l ∷ ls) s around after h =
-    let x = then_some (behind_lefts ls) (behind_left l (s ∷ around)) after h in
-    let g = left_grows l s around x.0 x.1 in
-    grown_on s around x.0 after g (lefts_grow ls g.top around after (ap (behind_lefts ls) (sym g.is) ∙ x.2))
 
 pub lefts_remain : (mean : Meaning) (ls : List LeftTree) (p : Spot) (s : Scope) (around after : List Scope) → Includes p.known (s ∷ around)
     → behind_lefts ls (s ∷ around) ≡ Some after → Extends mean.bit after → AllStayToRead mean p ls → AllRemainToRead mean p ls

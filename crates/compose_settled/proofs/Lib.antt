@@ -11,7 +11,6 @@ mod Reading
 mod Readable
 mod Rows
 mod ValueBits
-mod Grown
 mod Remaining
 mod Paths
 mod CallBits

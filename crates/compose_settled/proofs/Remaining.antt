@@ -1,7 +1,6 @@
 -- An entity that is passed has its naming bits.
 use Rattle.std.proofs.Common.{◌≡◌, ℕ, ◌-◌, Bool, true, false, cond, List, [], ◌∷◌, ◌++◌, Option, Some, None, refl, sym, ap, subst, ◌∙◌}
 use Rattle.std.specs.Prelude.{◌||◌, ◌&&◌, ◌==◌, nat_lt, option_and_then, option_map}
-use Rattle.std.specs.Cmp.{nat_eq_equiv}
 use Rattle.std.specs.List.{list_any}
 use Rattle.std.proofs.lemmas.List.Folds.{list_any-append}
 use Rattle.std.proofs.lemmas.Option.{same_Some}
@@ -17,12 +16,10 @@ use Rattle.compose_meaning.specs.Readable.{Exporting, Importing, Spot, by_scope,
 use Rattle.compose_meaning.specs.Readable as readable
 use Rattle.compose_coherence.specs.Remaining.{AllRemain, BothSides, InComponent, Remains, TypeRemains, own_meaning}
 use Rattle.compose_naming.specs.Bits.{Scope, behind, behind_all, behind_place, behind_type, bit_in, closed, func_has_bit, further_out, is_set, named_in, noted, noted_where, opened, own_bit, with_bit}
-use Rattle.compose_settled.specs.Stays.{AllStay, Extends, Includes, Stays, TypeStays, Within}
-use Rattle.compose_settled.proofs.Grown.{Grown, all_grow, entity_grows, grown_on, grows, no_scopes, then_some}
+use Rattle.compose_naming.specs.GrownLaws.{Grown, all_grow, closed_is, entity_grows, grown_on, grows, no_scopes, no_truth, noted_there, sides_are, so_before, then_some, where_noted}
+use Rattle.compose_naming.specs.NamingBits.{Extends}
+use Rattle.compose_settled.specs.Stays.{AllStay, Includes, Stays, TypeStays, Within}
 use Rattle.compose_settled.proofs.ValueBits.{func_so, own_so}
-
-pub no_truth : {A : Type 0} → true ≡ false → A
-no_truth e = absurd cc
 
 -- ---- what is known
 
@@ -60,18 +57,6 @@ known_all mean (entry name e mark es) p =
 
 -- ---- what is noted
 
-same_itself : (n : Name) → same_name n n ≡ true
-same_itself n = λ i. nat_eq_equiv.refl n.out i && nat_eq_equiv.refl n.number i
-
-pub noted_there : (n : Name) (b : Bool) (s : Scope) (around after : List Scope) → noted n b (s ∷ around) ≡ Some after → bit_in after n ≡ Some b
-noted_there n b s around after = one (nat_lt n.out s.width) refl
-  where
-    one : (x : Bool) → nat_lt n.out s.width ≡ x → cond x (Some (with_bit n b s ∷ around)) None ≡ Some after → bit_in after n ≡ Some b
-    one false e h = no_scopes after h
-    one true e h =
-        ap (λ scopes. bit_in scopes n) (sym (same_Some (with_bit n b s ∷ around) after h))
-        ∙ (λ i. cond (e i) (cond (same_itself n i) (Some b) (s.bits n)) (bit_in around (further_out s.width n)))
-
 pub noted_alone : (n : Name) (b : Bool) (s : Scope) (around after : List Scope) (known : Mention → Bool) → Includes known (s ∷ around)
     → noted n b (s ∷ around) ≡ Some after → Includes (with_these known (OfPlace n ∷ [])) after
 noted_alone n b s around after known h = one (nat_lt n.out s.width)
@@ -89,10 +74,6 @@ noted_alone n b s around after known h = one (nat_lt n.out s.width)
     one : (x : Bool) → cond x (Some (with_bit n b s ∷ around)) None ≡ Some after → Includes (with_these known (OfPlace n ∷ [])) after
     one false e = no_scopes after e
     one true e = λ m c is. among m c (nat_lt m.out s.width) refl (ap (λ scopes. bit_in scopes m) (same_Some (with_bit n b s ∷ around) after e) ∙ is)
-
-pub where_noted : (n : Name) (o : Option Bool) (scopes after : List Scope) → noted_where n scopes o ≡ Some after → (b : Bool) × (o ≡ Some b) × (noted n b scopes ≡ Some after)
-where_noted n None scopes after h = no_scopes after h
-where_noted n (Some b) scopes after h = (b, refl, h)
 
 place_included : (t : ValueTree) (n : Name) (s : Scope) (around after : List Scope) (known : Mention → Bool) → Includes known (s ∷ around)
     → behind_place (s ∷ around) t (Some n) ≡ Some after → Includes (with_these known (OfPlace n ∷ [])) after
@@ -114,19 +95,6 @@ value_included t s around after known h = one (place_of t)
     one : (o : Option Name) → behind_place (s ∷ around) t o ≡ Some after → Includes (with_these known (named_value o)) after
     one None is = none_included [] (s ∷ around) after known h is
     one (Some n) is = place_included t n s around after known h is
-
--- a scope that was opened and closed again
-closed_is : (width : ℕ) (s : Scope) (around inner after : List Scope) → Grown (opened width) (s ∷ around) inner → closed inner ≡ Some after → Some (s ∷ around) ≡ Some after
-closed_is width s around inner after g h = sym (ap closed g.is) ∙ h
-
-sides_are : (is es : Entries) (s : Scope) (around after : List Scope)
-    → option_and_then closed (option_and_then (behind_all es) (behind_all is (opened 2 ∷ s ∷ around))) ≡ Some after → Some (s ∷ around) ≡ Some after
-sides_are is es s around after h =
-    let x = then_some closed (option_and_then (behind_all es) (behind_all is (opened 2 ∷ s ∷ around))) after h in
-    let y = then_some (behind_all es) (behind_all is (opened 2 ∷ s ∷ around)) x.0 x.1 in
-    let g = all_grow is (opened 2) (s ∷ around) y.0 y.1 in
-    closed_is 2 s around x.0 after
-    (grown_on (opened 2) (s ∷ around) y.0 x.0 g (all_grow es g.top (s ∷ around) x.0 (ap (behind_all es) (sym g.is) ∙ y.2))) x.2
 
 mutual
   pub entity_included : (e : EntityTree) (s : Scope) (around after : List Scope) (known : Mention → Bool) → Includes known (s ∷ around)
@@ -160,10 +128,6 @@ mutual
       (ap (behind_all es) (sym g.is) ∙ x.2))
 
 -- ---- bits
-
--- what is so behind it is so before it
-pub so_before : (bit : Name → Bool) (s : Scope) (around after : List Scope) → Grown s around after → Extends bit after → Extends bit (s ∷ around)
-so_before bit s around after g h n b e = h n b (grows s around after g n b e)
 
 value_remains : (mean : Meaning) (p : Spot) (t : ValueTree) (s : Scope) (around after : List Scope) → Includes p.known (s ∷ around)
     → behind_place (s ∷ around) t (place_of t) ≡ Some after → Grown s around after → Extends mean.bit after → readable.NewPlace mean p.known t (place_of t)

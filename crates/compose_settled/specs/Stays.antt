@@ -14,10 +14,6 @@ use Rattle.compose_naming.specs.Settled.{settled}
 use Rattle.compose_settled.specs.ReadBack.{spot_behind}
 use Rattle.compose_coherence.specs.Remaining.{own_meaning}
 
--- naming bits that are so, where they are known
-abbrev pub Extends : (Name → Bool) → List Scope → Type 0
-Extends bit scopes = (n : Name) (b : Bool) → bit_in scopes n ≡ Some b → bit n ≡ b
-
 -- a type is known that was named
 abbrev pub Includes : (Mention → Bool) → List Scope → Type 0
 Includes known scopes = (n : Name) (b : Bool) → bit_in scopes n ≡ Some b → known (OfPlace n) ≡ true

@@ -1,7 +1,6 @@
-use Rattle.std.proofs.Common.{◌∷◌, sym, ap, ◌∙◌}
-use Rattle.std.specs.Prelude.{option_and_then}
+use Rattle.std.proofs.Common.{sym, ap, ◌∙◌}
 use Rattle.comp_entity.specs.Views.{entity_tree, entries_of, named_entities, type_tree}
-use Rattle.compose_naming.specs.Bits.{behind, behind_all, behind_type, closed, opened}
+use Rattle.compose_naming.specs.Bits.{behind, behind_all, behind_type}
 use Rattle.compose_naming.specs.Scopes.{behind_sides, scopes_in, where_passed}
 use Rattle.compose_naming.proofs.PassLaws.{inner_fails, inner_passes, sides_pass}
 use Rattle.compose_naming.proofs.ViewLaws.{component_is, entity_instance, type_instance}

@@ -1,4 +1,4 @@
-use Rattle.std.proofs.Common.{rules, ◌≡◌, ◌+◌, drop, subst, ℕ, List, Option, Some, None, Bool, map, refl, sym, ap, ◌∙◌}
+use Rattle.std.proofs.Common.{rules, ◌≡◌, ◌+◌, drop, subst, ℕ, List, Option, None, Bool, map, refl, sym, ap, ◌∙◌}
 use Rattle.std.specs.Prelude.{option_map}
 use Rattle.comp_entity.specs.declared.entity.ValueShape.{ValueShape}
 use Rattle.comp_entity.specs.Views.{cases_of, fields_of, payload_of, value_tree, values_of}

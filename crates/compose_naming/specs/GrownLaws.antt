@@ -1,11 +1,22 @@
--- What is behind an entity: the same scopes, in the innermost of which more is named.
-use Rattle.std.proofs.Common.{◌≡◌, ℕ, Bool, true, false, cond, List, [], ◌∷◌, Option, Some, None, refl, sym, ap, subst, ◌∙◌}
-use Rattle.std.specs.Prelude.{◌==◌, nat_lt, option_and_then}
+-- What is behind an entity: the same scopes, in the innermost of which more is named, and with bits that are so behind
+-- it as they were before it.
+use Rattle.std.proofs.Common.{◌≡◌, ℕ, Bool, true, false, cond, List, [], ◌∷◌, Option, Some, None, refl, sym, ap, ◌∙◌}
+use Rattle.std.specs.Prelude.{◌&&◌, ◌==◌, nat_lt, option_and_then}
+use Rattle.std.specs.Cmp.{nat_eq_equiv}
 use Rattle.std.proofs.lemmas.Bool.{and_parts, eqb-true}
 use Rattle.std.proofs.lemmas.Option.{same_Some}
 use Rattle.comp_entity.specs.Entity.{Name, ValueTree, TypeShapeTree, Value, Resource, Func, Instance, Component, EntityTree, IsType, IsFunc, IsInstance, IsComponent, IsModule, IsOwnModule, Entries, no_entry, entry}
 use Rattle.comp_entity.specs.Fits.{place_of, same_name}
-use Rattle.compose_naming.specs.Bits.{Scope, behind, behind_all, behind_place, behind_type, behind_value, bit_in, closed, func_has_bit, further_out, named_in, noted, noted_where, opened, own_bit, with_bit}
+use Rattle.compose_left.specs.declared.spots.Spot.{Spot as Call}
+use Rattle.compose_needs.specs.declared.leaves.Leaf.{Leaf}
+use Rattle.compose_needs.specs.Leaves.{leaves_at}
+use Rattle.compose_order.specs.Needs.{LeftTree}
+use Rattle.compose_naming.specs.Bits.{Scope, behind, behind_all, behind_call, behind_calls, behind_left, behind_lefts, behind_place, behind_type, bit_at, bit_in, called_where, closed, func_has_bit, further_out, named_in, noted, noted_where, opened, own_bit, with_bit}
+use Rattle.compose_naming.specs.NamingBits.{Extends}
+use Rattle.compose_naming.specs.Settled.{name_in, settled}
+
+pub no_truth : {A : Type 0} → true ≡ false → A
+no_truth e = absurd cc
 
 pub no_scopes : {A : Type 0} (s : List Scope) → None ≡ Some s → A
 no_scopes s e = absurd cc
@@ -14,7 +25,7 @@ pub then_some : {X Y : Type 0} (f : X → Option Y) (o : Option X) (y : Y) → o
 then_some f None y h = absurd cc
 then_some f (Some x) y h = (x, refl, h)
 
-name_is : (a b : Name) → same_name a b ≡ true → a ≡ b
+pub name_is : (a b : Name) → same_name a b ≡ true → a ≡ b
 name_is a b h =
     let parts = and_parts (a.out == b.out) (a.number == b.number) h in
     let out = eqb-true a.out b.out parts.0 in
@@ -117,3 +128,75 @@ mutual
       let x = then_some (behind_all es) (behind e (s ∷ around)) after h in
       let g = entity_grows e s around x.0 x.1 in
       grown_on s around x.0 after g (all_grow es g.top around after (ap (behind_all es) (sym g.is) ∙ x.2))
+
+-- ---- behind what is called, and behind left imports
+
+pub call_grows : (leaves : List Leaf) (s : Scope) (around after : List Scope) (call : Call) → behind_call leaves (s ∷ around) call ≡ Some after → Grown s around after
+call_grows leaves s around after call = one call.what.is_type
+  where
+    by : (o : Option Bool) → bit_in (s ∷ around) (name_in call.what) ≡ o → called_where (s ∷ around) (name_in call.what) (bit_at leaves (s ∷ around) call.path) o ≡ Some after → Grown s around after
+    by (Some b) e h = same s around after h
+    by None e h = where_grows (name_in call.what) (bit_at leaves (s ∷ around) call.path) s around after e h
+
+    one : (x : Bool) → cond x (called_where (s ∷ around) (name_in call.what) (bit_at leaves (s ∷ around) call.path) (bit_in (s ∷ around) (name_in call.what))) (Some (s ∷ around)) ≡ Some after → Grown s around after
+    one true h = by (bit_in (s ∷ around) (name_in call.what)) refl h
+    one false h = same s around after h
+
+pub calls_grow : (leaves : List Leaf) (calls : List Call) (s : Scope) (around after : List Scope) → behind_calls leaves calls (s ∷ around) ≡ Some after → Grown s around after
+calls_grow leaves [] s around after h = same s around after h
+calls_grow leaves (c ∷ calls) s around after h =
+    let x = then_some (behind_calls leaves calls) (behind_call leaves (s ∷ around) c) after h in
+    let g = call_grows leaves s around x.0 c x.1 in
+    grown_on s around x.0 after g (calls_grow leaves calls g.top around after (ap (behind_calls leaves calls) (sym g.is) ∙ x.2))
+
+pub left_grows : (l : LeftTree) (s : Scope) (around after : List Scope) → behind_left l (s ∷ around) ≡ Some after → Grown s around after
+left_grows l s around after h =
+    let e = (settled l).entity in
+    let x = then_some (behind_calls (leaves_at e) l.calls) (behind e (s ∷ around)) after h in
+    let g = entity_grows e s around x.0 x.1 in
+    grown_on s around x.0 after g (calls_grow (leaves_at e) l.calls g.top around after (ap (behind_calls (leaves_at e) l.calls) (sym g.is) ∙ x.2))
+
+pub lefts_grow : (ls : List LeftTree) (s : Scope) (around after : List Scope) → behind_lefts ls (s ∷ around) ≡ Some after → Grown s around after
+lefts_grow [] s around after h = same s around after h
+lefts_grow (l ∷ ls) s around after h =
+    let x = then_some (behind_lefts ls) (behind_left l (s ∷ around)) after h in
+    let g = left_grows l s around x.0 x.1 in
+    grown_on s around x.0 after g (lefts_grow ls g.top around after (ap (behind_lefts ls) (sym g.is) ∙ x.2))
+
+-- ---- what is noted
+
+same_itself : (n : Name) → same_name n n ≡ true
+same_itself n = λ i. nat_eq_equiv.refl n.out i && nat_eq_equiv.refl n.number i
+
+pub noted_there : (n : Name) (b : Bool) (s : Scope) (around after : List Scope) → noted n b (s ∷ around) ≡ Some after → bit_in after n ≡ Some b
+noted_there n b s around after = one (nat_lt n.out s.width) refl
+  where
+    one : (x : Bool) → nat_lt n.out s.width ≡ x → cond x (Some (with_bit n b s ∷ around)) None ≡ Some after → bit_in after n ≡ Some b
+    one false e h = no_scopes after h
+    one true e h =
+        ap (λ scopes. bit_in scopes n) (sym (same_Some (with_bit n b s ∷ around) after h))
+        ∙ (λ i. cond (e i) (cond (same_itself n i) (Some b) (s.bits n)) (bit_in around (further_out s.width n)))
+
+pub where_noted : (n : Name) (o : Option Bool) (scopes after : List Scope) → noted_where n scopes o ≡ Some after → (b : Bool) × (o ≡ Some b) × (noted n b scopes ≡ Some after)
+where_noted n None scopes after h = no_scopes after h
+where_noted n (Some b) scopes after h = (b, refl, h)
+
+-- ---- scopes that were opened and closed again
+
+pub closed_is : (width : ℕ) (s : Scope) (around inner after : List Scope) → Grown (opened width) (s ∷ around) inner → closed inner ≡ Some after → Some (s ∷ around) ≡ Some after
+closed_is width s around inner after g h = sym (ap closed g.is) ∙ h
+
+pub sides_are : (is es : Entries) (s : Scope) (around after : List Scope)
+    → option_and_then closed (option_and_then (behind_all es) (behind_all is (opened 2 ∷ s ∷ around))) ≡ Some after → Some (s ∷ around) ≡ Some after
+sides_are is es s around after h =
+    let x = then_some closed (option_and_then (behind_all es) (behind_all is (opened 2 ∷ s ∷ around))) after h in
+    let y = then_some (behind_all es) (behind_all is (opened 2 ∷ s ∷ around)) x.0 x.1 in
+    let g = all_grow is (opened 2) (s ∷ around) y.0 y.1 in
+    closed_is 2 s around x.0 after
+    (grown_on (opened 2) (s ∷ around) y.0 x.0 g (all_grow es g.top (s ∷ around) x.0 (ap (behind_all es) (sym g.is) ∙ y.2))) x.2
+
+-- ---- bits
+
+-- what is so behind it is so before it
+pub so_before : (bit : Name → Bool) (s : Scope) (around after : List Scope) → Grown s around after → Extends bit after → Extends bit (s ∷ around)
+so_before bit s around after g h n b e = h n b (grows s around after g n b e)
