@@ -1,7 +1,9 @@
 //! What graphs are encoded as. The bytes were written out by hand from the binary format.
 
 use crate::check::{FUNCTION, THROUGH};
-use compose_graph::{Component, ComponentId, CompositionGraph, EncodeOptions, InstanceId};
+use compose_graph::{
+    Component, ComponentId, ComposeError, CompositionGraph, EncodeOptions, InstanceId,
+};
 use std::alloc::Global;
 use std::test::Fail;
 
@@ -19,9 +21,11 @@ const DEFINED: &[u8] = b"\0asm\r\0\x01\0\x04\x08\0asm\r\0\x01\0\x05\x04\x01\0\0\
 const LEFT_OPEN: &[u8] =
     b"\0asm\r\0\x01\0\x07\x05\x01\x40\0\x01\0\x0a\x06\x01\0\x01x\x01\0\x04\x17\0asm\r\0\x01\0\x07\x05\x01\x40\0\x01\0\x0a\x06\x01\0\x01x\x01\0\x05\x08\x01\0\0\x01\x01x\x01\0";
 
-/// Graphs of one component, its name and bytes, of which an instance is made where that is so; whether it is defined; and
+/// A graph of one component, its name and bytes, of which an instance is made where that is so; whether it is defined; and
 /// what is written.
-const WRITTEN: &[(&str, &[u8], bool, bool, &[u8])] = &[
+type Written = (&'static str, &'static [u8], bool, bool, &'static [u8]);
+
+const WRITTEN: &[Written] = &[
     ("b", EMPTY, false, false, EMPTY),
     ("b", EMPTY, false, true, EMPTY),
     ("b", EMPTY, true, false, IMPORTED),
@@ -53,34 +57,37 @@ fn options(define_components: bool, export: Option<InstanceId>) -> EncodeOptions
     }
 }
 
-/// Fails where a graph is not encoded as these bytes.
-fn is_written(
+/// What such a graph is encoded as, or why it is not. No test owns a graph, since the proof of each function that does is
+/// dear.
+fn encoded(
     alloc: Global,
-    graph: &CompositionGraph<'_>,
-    define: bool,
-    want: &[u8],
-) -> Result<(), Fail> {
-    let bytes = graph.encode(alloc, options(define, None))?;
-    if bytes.as_slice() == want {
-        Ok(())
-    } else {
-        Err(Fail::new("it is encoded as other bytes"))
-    }
+    (name, bytes, makes): (&str, &'static [u8], bool),
+    options: EncodeOptions,
+) -> Result<Result<Vec<u8>, ComposeError>, Fail> {
+    let graph = graph(alloc, name, bytes, makes)?;
+    Ok(graph.encode(alloc, options))
 }
 
-#[test]
-fn encodes_components_that_are_imported_or_defined(rt: HostRuntime) -> Result<(), Fail> {
-    for (name, bytes, makes, define, want) in WRITTEN {
-        let graph = graph(rt.alloc(), name, bytes, *makes)?;
-        is_written(rt.alloc(), &graph, *define, want)?;
+/// Fails at the first graph that is not encoded as these bytes.
+fn are_written(alloc: Global, rows: &[Written]) -> Result<(), Fail> {
+    for (name, bytes, makes, define, want) in rows {
+        let found = encoded(alloc, (name, bytes, *makes), options(*define, None))??;
+        if found.as_slice() != *want {
+            return Err(Fail::new(format_args!("{name} {makes} {define}")));
+        }
     }
     Ok(())
 }
 
 #[test]
+fn encodes_components_that_are_imported_or_defined(rt: HostRuntime) -> Result<(), Fail> {
+    are_written(rt.alloc(), WRITTEN)
+}
+
+#[test]
 fn encodes_exports_of_an_instance(rt: HostRuntime) -> Result<(), Fail> {
-    let graph = graph(rt.alloc(), "t", THROUGH, true)?;
-    let bytes = graph.encode(rt.alloc(), options(true, Some(InstanceId(0))))?;
+    let exporting = options(true, Some(InstanceId(0)));
+    let bytes = encoded(rt.alloc(), ("t", THROUGH, true), exporting)??;
     let component = Component::from_bytes(rt.alloc(), "output", &bytes)?;
     match component.export_by_name("y") {
         Some(_found) => Ok(()),
@@ -88,9 +95,11 @@ fn encodes_exports_of_an_instance(rt: HostRuntime) -> Result<(), Fail> {
     }
 }
 
-/// Graphs of one component, its name and bytes, and one instance; the instance that is exported; and why the graph is not
+/// A graph of one component, its name and bytes, and one instance; the instance that is exported; and why the graph is not
 /// encoded with its component imported.
-const REFUSED: &[(&str, &[u8], Option<usize>, &str)] = &[
+type Refused = (&'static str, &'static [u8], Option<usize>, &'static str);
+
+const REFUSED: &[Refused] = &[
     (
         "b",
         EMPTY,
@@ -105,29 +114,22 @@ const REFUSED: &[(&str, &[u8], Option<usize>, &str)] = &[
     ),
 ];
 
-/// Fails where a graph is encoded, or refused with another text.
-fn is_refused(
-    alloc: Global,
-    graph: &CompositionGraph<'_>,
-    export: Option<usize>,
-    want: &str,
-) -> Result<(), Fail> {
-    let Err(error) = graph.encode(alloc, options(false, export.map(InstanceId))) else {
-        return Err(Fail::new("it is encoded"));
-    };
-    let text = format!(in alloc; "{error}")?;
-    if text.as_str() == want {
-        Ok(())
-    } else {
-        Err(Fail::new("it is refused with another text"))
+/// Fails at the first graph that is encoded, or refused with another text.
+fn are_refused(alloc: Global, rows: &[Refused]) -> Result<(), Fail> {
+    for (name, bytes, export, want) in rows {
+        let exporting = options(false, export.map(InstanceId));
+        let Err(error) = encoded(alloc, (name, bytes, true), exporting)? else {
+            return Err(Fail::new(format_args!("{name} is encoded")));
+        };
+        let text = format!(in alloc; "{error}")?;
+        if text.as_str() != *want {
+            return Err(Fail::new(format_args!("{name}: {text}")));
+        }
     }
+    Ok(())
 }
 
 #[test]
 fn refuses_what_can_not_be_encoded(rt: HostRuntime) -> Result<(), Fail> {
-    for (name, bytes, export, want) in REFUSED {
-        let graph = graph(rt.alloc(), name, bytes, true)?;
-        is_refused(rt.alloc(), &graph, *export, want)?;
-    }
-    Ok(())
+    are_refused(rt.alloc(), REFUSED)
 }
