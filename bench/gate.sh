@@ -1,7 +1,7 @@
 #!/bin/sh
 # Measures a whole merge gate from nothing: where its processor time goes, how long it takes, and how much memory it holds.
-# It runs `rt ci --anew` in a checkout, looks once a second at the processes below it, and prints the tables of README.md,
-# "The gate".
+# It runs `rt ci` in a checkout, anew where the kit keeps what it passed, looks once a second at the processes below it, and
+# prints the tables of README.md, "The gate".
 #
 # usage: bench/gate.sh [FOLDER]    FOLDER is the top of a checkout; without it, that of this script
 #
@@ -53,12 +53,15 @@ at_hand() {
     awk '/^MemAvailable:/ { print $2 }' /proc/meminfo
 }
 
+anew=
+if rt help 2>&1 | grep -q -e --anew; then anew=--anew; fi
+
 begin=$(date +%s)
 most=$(at_hand)
 least=$most
 (
     status=0
-    rt ci --anew >"$work/gate" 2>&1 || status=$?
+    rt ci $anew >"$work/gate" 2>&1 || status=$?
     printf '%s\n' "$status" >"$work/ended"
     times >"$work/times"
     mv "$work/ended" "$work/status"

@@ -98,8 +98,14 @@ fn fail(error: LockError) -> Fail {
 #[test]
 fn readers_share_a_lock_that_a_writer_made(rt: HostRuntime) -> Result<(), Fail> {
     let path = "locks/two/.lock";
-    holds(FileLock::open_ro(&rt, rt.alloc(), path).is_err(), "nobody made the file")?;
-    write_and_read(rt.alloc(), FileLock::open_rw(&rt, rt.alloc(), path).map_err(fail)?)?;
+    holds(
+        FileLock::open_ro(&rt, rt.alloc(), path).is_err(),
+        "nobody made the file",
+    )?;
+    write_and_read(
+        rt.alloc(),
+        FileLock::open_rw(&rt, rt.alloc(), path).map_err(fail)?,
+    )?;
     let first = FileLock::open_ro(&rt, rt.alloc(), path).map_err(fail)?;
     let second = FileLock::try_open_ro(&rt, rt.alloc(), path).map_err(fail)?;
     holds(second.is_some(), "two readers lock one file")?;

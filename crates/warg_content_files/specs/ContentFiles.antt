@@ -9,6 +9,10 @@ use Rattle.warg_store.specs.Contents.{Contents}
 abbrev pub content_folder : List ℕ → List ℕ
 content_folder base = if nat_eq (length base) 0 then codes "sha256" else base ++ codes "/sha256"
 
+-- the path that a store locks: `.lock` in a base folder
+abbrev pub lock_path : List ℕ → List ℕ
+lock_path base = if nat_eq (length base) 0 then codes ".lock" else base ++ codes "/.lock"
+
 -- where a content is: in the folder of contents, by the lower-case hexadecimal digits of its digest
 abbrev pub content_path : List ℕ → List ℕ → List ℕ
 content_path folder digest = folder ++ codes "/" ++ encode_lower digest

@@ -6,13 +6,17 @@ use Rattle.warg_content_files.specs.ContentFiles.{contents_in}
 use Rattle.warg_content_files.specs.declared.storage.FileSystemContentStorage.{FileSystemContentStorage}
 
 -- the files in which it keeps contents
-abbrev pub files_of : {F : Type 0} → FileSystemContentStorage F → F
+abbrev pub files_of : {F L : Type 0} → FileSystemContentStorage F L → F
 files_of store = store.files
 
 -- the folder of its contents
-abbrev pub folder_of : {F : Type 0} → FileSystemContentStorage F → List ℕ
+abbrev pub folder_of : {F L : Type 0} → FileSystemContentStorage F L → List ℕ
 folder_of store = store.folder
 
+-- the lock that it holds
+abbrev pub lock_of : {F L : Type 0} → FileSystemContentStorage F L → L
+lock_of store = store.held
+
 -- the contents that it holds, where its files are told
-abbrev pub contents_of : {F : Type 0} → (F → Option FileMap) → FileSystemContentStorage F → Option Contents
+abbrev pub contents_of : {F L : Type 0} → (F → Option FileMap) → FileSystemContentStorage F L → Option Contents
 contents_of told store = option_map (contents_in store.folder) (told store.files)

@@ -3,9 +3,11 @@
 ghost use Rattle.std.specs.Prelude.{◌≡◌, ◌≢◌, ◌≤◌, ℕ, List, Some, None, Ok, Err, true, is_some, IfOk, IfErr, IfSome, OnOk, OnErr, option_copied, option_map};
 ghost use Rattle.sha2.specs.Sha256.{sha256};
 ghost use Rattle.warg_base.specs.Files.{LeavesPartlyRemoved, LeavesPartlyWritten, with_file, without_path};
+ghost use Rattle.warg_values.specs.Faults.{Rose};
+ghost use Rattle.warg_locks.specs.declared.locks.LockError.TheVariants.{Failed as lock_failed};
 ghost use Rattle.warg_base.specs.declared.files.FileError.TheVariants.{Missing as is_missing, Failed as has_failed};
-ghost use Rattle.warg_content_files.specs.ContentFiles.{content_folder, content_path, is_digest};
-ghost use Rattle.warg_content_files.specs.Shown.{files_of, folder_of, contents_of};
+ghost use Rattle.warg_content_files.specs.ContentFiles.{content_folder, content_path, is_digest, lock_path};
+ghost use Rattle.warg_content_files.specs.Shown.{files_of, folder_of, contents_of, lock_of};
 ghost use Rattle.warg_store.specs.Contents.{TellsContents, LeavesContent, LeavesCleared, IsContentFault, IsStoreContentFault, with_content};
 ghost use Rattle.warg_store.specs.Entry.{IsStoreFault};
 ghost use Rattle.warg_store.specs.declared.error.StoreError.TheVariants.{Failed as store_failed, Memory as no_memory, IncorrectContent as IsIncorrect};
@@ -13,15 +15,17 @@ ghost use Rattle.warg_store.specs.declared.error.StoreError.TheVariants.{Failed 
 use std::alloc::Global;
 use warg_base::{FileError, Files};
 use warg_hash::AnyHash;
+use warg_locks::{LockError, Locks};
 use warg_store::{ContentStorage, StoreError};
 use warg_values::{Memory, Text};
 
 /// Contents in files: each stands in a file that is named by its digest, in one folder, and nothing else of the files
-/// is touched.
+/// is touched. It holds the lock that it was made with, until it is dropped.
 #[derive(Drop)]
-pub struct FileSystemContentStorage<F> {
+pub struct FileSystemContentStorage<F, L> {
     files: F,
     folder: Text,
+    held: L,
 }
 
 /// Why a store refuses what files refused, which were not asked for a file that is missing.
@@ -60,7 +64,17 @@ fn folder_below(alloc: Global, base: &str) -> Result<Text, Memory>
     Ok(Text::new(format!(in alloc; "{base}/sha256")?))
 }
 
-impl<F> FileSystemContentStorage<F> {
+/// The path that a store locks, in a base folder.
+fn lock_in(alloc: Global, base: &str) -> Result<Text, Memory>
+    ensures { IfOk result (λ path. path ≡ lock_path base.now) }
+{
+    if base.is_empty() {
+        return Text::copy_of(alloc, ".lock");
+    }
+    Ok(Text::new(format!(in alloc; "{base}/.lock")?))
+}
+
+impl<F, L> FileSystemContentStorage<F, L> {
     /// The path of a digest's content.
     fn path(&self, alloc: Global, digest: &AnyHash) -> Result<Text, Memory>
         ensures path { IfOk result (λ path. path ≡ content_path (folder_of self.now) digest.now) }
@@ -74,14 +88,76 @@ impl<F> FileSystemContentStorage<F> {
     }
 }
 
-impl<F: Files + Drop> FileSystemContentStorage<F> {
-    /// The contents that files hold in the folder `sha256` below a base folder. No file is asked for.
+impl<F: Files + Drop> FileSystemContentStorage<F, ()> {
+    /// The contents that files hold in the folder `sha256` below a base folder, without a lock. No file is asked for.
     pub fn new(alloc: Global, files: F, base: &str) -> Result<Self, Memory>
         ensures files { IfOk result (λ store. files_of store ≡ files) }
         ensures folder { IfOk result (λ store. folder_of store ≡ content_folder base.now) }
     {
+        FileSystemContentStorage::with_lock(alloc, files, base, ())
+    }
+}
+
+impl<F: Files + Drop, L: Drop> FileSystemContentStorage<F, L> {
+    /// The same, holding a lock.
+    fn with_lock(alloc: Global, files: F, base: &str, held: L) -> Result<Self, Memory>
+        ensures files { IfOk result (λ store. files_of store ≡ files) }
+        ensures folder { IfOk result (λ store. folder_of store ≡ content_folder base.now) }
+        ensures lock { IfOk result (λ store. lock_of store ≡ held) }
+    {
         let folder = folder_below(alloc, base)?;
-        Ok(FileSystemContentStorage { files, folder })
+        Ok(FileSystemContentStorage {
+            files,
+            folder,
+            held,
+        })
+    }
+
+    /// The contents that files hold in the folder `sha256` below a base folder, in which it locks `.lock`. `None` where
+    /// somebody else holds that.
+    pub fn try_lock<K: Locks<Lock = L>>(
+        alloc: Global,
+        files: F,
+        locks: &mut K,
+        base: &str,
+    ) -> Result<Option<Self>, LockError>
+        ensures never_falls { K.faults locks.old ≤ K.faults locks.new }
+        ensures files { IfOk result (λ found. IfSome found (λ store. files_of store ≡ files)) }
+        ensures folder { IfOk result (λ found. IfSome found (λ store. folder_of store ≡ content_folder base.now)) }
+        ensures lock { IfOk result (λ found. IfSome found (λ store. K.locked (lock_of store) ≡ lock_path base.now)) }
+        ensures held { result ≡ Ok None → Rose (K.met locks.old) (K.met locks.new) }
+        ensures failed { result ≡ Err lock_failed → Rose (K.faults locks.old) (K.faults locks.new) }
+    {
+        let path = lock_in(alloc, base)?;
+        let Some(held) = locks.try_lock(alloc, path.as_str())? else {
+            return Ok(None);
+        };
+        Ok(Some(FileSystemContentStorage::with_lock(alloc, files, base, held)?))
+    }
+
+    /// The same, but waits while somebody else holds the lock.
+    pub fn lock<K: Locks<Lock = L>>(
+        alloc: Global,
+        files: F,
+        locks: &mut K,
+        base: &str,
+    ) -> Result<Self, LockError>
+        ensures never_falls { K.faults locks.old ≤ K.faults locks.new }
+        ensures files { IfOk result (λ store. files_of store ≡ files) }
+        ensures folder { IfOk result (λ store. folder_of store ≡ content_folder base.now) }
+        ensures lock { IfOk result (λ store. K.locked (lock_of store) ≡ lock_path base.now) }
+        ensures failed { result ≡ Err lock_failed → Rose (K.faults locks.old) (K.faults locks.new) }
+    {
+        let path = lock_in(alloc, base)?;
+        let held = locks.lock(alloc, path.as_str())?;
+        Ok(FileSystemContentStorage::with_lock(alloc, files, base, held)?)
+    }
+
+    /// The lock that it holds.
+    pub fn held(&self) -> &L
+        ensures { result.now ≡ lock_of self.now }
+    {
+        &self.held
     }
 
     /// The files in which contents are kept.
@@ -92,7 +168,7 @@ impl<F: Files + Drop> FileSystemContentStorage<F> {
     }
 }
 
-impl<F: Files + Drop> ContentStorage for FileSystemContentStorage<F> {
+impl<F: Files + Drop, L: Drop> ContentStorage for FileSystemContentStorage<F, L> {
     ghost faults = { λ s. F.faults (files_of s) };
 
     ghost told = { λ s. contents_of F.told s };

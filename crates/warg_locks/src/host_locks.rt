@@ -48,6 +48,8 @@ impl<'r, R: RuntimeFiles<File = File>> Locks for HostLocks<'r, R> {
 
     ghost met = { λ h. h.met };
 
+    ghost locked = { λ l. l };
+
     fn try_lock(&mut self, alloc: Global, path: &str) -> Result<Option<FileLock>, LockError> {
         match FileLock::try_open_rw(self.rt, alloc, path) {
             Ok(Some(lock)) => Ok(Some(lock)),

@@ -1,6 +1,6 @@
 //! Locks, as the outside gives them.
 
-ghost use Rattle.std.specs.Prelude.{◌≡◌, ◌≤◌, ℕ, Ok, None, IsErrOf};
+ghost use Rattle.std.specs.Prelude.{◌≡◌, ◌≤◌, ℕ, List, Ok, None, IfOk, IfSome, IsErrOf};
 ghost use Rattle.warg_values.specs.Faults.{Rose};
 ghost use Rattle.warg_locks.specs.declared.locks.LockError.TheVariants.{Memory as no_memory};
 
@@ -56,11 +56,15 @@ pub trait Locks {
     /// How often a path was met held so far.
     ghost met: { Self → ℕ };
 
+    /// The path that a lock is on.
+    ghost locked: { Self.Lock → List ℕ };
+
     /// Locks the path, unless somebody else holds it: then the answer is `None`.
     fn try_lock(&mut self, alloc: Global, path: &str) -> Result<Option<Self::Lock>, LockError>
         ensures never_falls { faults self.old ≤ faults self.new }
         ensures met_never_falls { met self.old ≤ met self.new }
 
+        ensures on_path { IfOk result (λ found. IfSome found (λ lock. locked lock ≡ path.now)) }
         ensures held { result ≡ Ok None → Rose (met self.old) (met self.new) }
         ensures failed { IsErrOf result LockError.Failed → Rose (faults self.old) (faults self.new) };
 
@@ -69,5 +73,6 @@ pub trait Locks {
         ensures never_falls { faults self.old ≤ faults self.new }
         ensures met_never_falls { met self.old ≤ met self.new }
 
+        ensures on_path { IfOk result (λ lock. locked lock ≡ path.now) }
         ensures failed { IsErrOf result LockError.Failed → Rose (faults self.old) (faults self.new) };
 }

@@ -123,11 +123,13 @@ impl Locks for MemoryLocks {
 
     ghost met = { λ l. l.met };
 
+    ghost locked = { λ l. l };
+
     /// Locks the path, unless it is one of those that somebody else holds.
     fn try_lock(&mut self, alloc: Global, path: &str) -> Result<Option<MemoryLock>, LockError>
         ensures never_falls { self.old.schedule.faults ≤ self.new.schedule.faults }
         ensures met_never_falls { self.old.met ≤ self.new.met }
-        ensures locked { IfOk result (λ found. IfSome found (λ lock. lock ≡ path.now)) }
+        ensures on_path { IfOk result (λ found. IfSome found (λ lock. lock ≡ path.now)) }
         ensures free { IfOk result (λ found. IfSome found (λ lock. is_held self.old.held path.now ≡ false)) }
         ensures held { result ≡ Ok None → Rose self.old.met self.new.met }
         ensures held_by_another { result ≡ Ok None → is_held self.old.held path.now ≡ true }
@@ -150,7 +152,7 @@ impl Locks for MemoryLocks {
     fn lock(&mut self, alloc: Global, path: &str) -> Result<MemoryLock, LockError>
         ensures never_falls { self.old.schedule.faults ≤ self.new.schedule.faults }
         ensures met_never_falls { self.old.met ≤ self.new.met }
-        ensures locked { IfOk result (λ lock. lock ≡ path.now) }
+        ensures on_path { IfOk result (λ lock. lock ≡ path.now) }
         ensures free { IfOk result (λ lock. is_held self.old.held path.now ≡ false) }
         ensures failed { IsErrOf result LockError.Failed → Rose self.old.schedule.faults self.new.schedule.faults }
         ensures cause { IsErrOf result LockError.Failed
