@@ -1,6 +1,6 @@
 -- Left imports that are passed, one behind the other, have their naming bits, and what is called in them those of what stands
 -- there.
-use Rattle.std.proofs.Common.{◌≡◌, ℕ, Bool, true, false, cond, List, [], ◌∷◌, ◌++◌, map, Option, Some, None, refl, sym, ap, subst, ◌∙◌}
+use Rattle.std.proofs.Common.{◌≡◌, Bool, true, false, cond, List, [], ◌∷◌, ◌++◌, map, Option, Some, None, refl, sym, ap, subst, ◌∙◌}
 use Rattle.std.specs.Prelude.{filter, nat_lt, option_and_then}
 use Rattle.std.proofs.lemmas.Option.{same_Some}
 use Rattle.comp_entity.specs.Entity.{Name, ValueTree, EntityTree}
@@ -12,14 +12,14 @@ use Rattle.compose_needs.specs.Leaves.{leaves_at}
 use Rattle.compose_order.specs.Needs.{LeftTree}
 use Rattle.compose_writing.specs.Conditions.{with_these}
 use Rattle.compose_meaning.specs.Meaning.{Meaning}
-use Rattle.compose_meaning.specs.Readable.{Spot, brought_keys}
-use Rattle.compose_naming.specs.Bits.{Scope, behind, behind_call, behind_calls, behind_left, behind_lefts, bit_at, bit_in, called_where, named_at, noted_where, outermost}
-use Rattle.compose_naming.specs.GrownLaws.{Grown, call_grows, calls_grow, entity_grows, grown_on, grows, lefts_grow, no_truth, noted_there, so_before, then_some, where_noted}
+use Rattle.compose_meaning.specs.Readable.{Spot}
+use Rattle.compose_naming.specs.Bits.{Scope, behind, behind_call, behind_calls, behind_left, behind_lefts, bit_at, bit_in, called_where, outermost}
+use Rattle.compose_naming.specs.GrownLaws.{call_grows, calls_grow, entity_grows, lefts_grow, no_truth, noted_there, so_before, then_some, where_noted}
 use Rattle.compose_naming.specs.NamingBits.{Extends}
 use Rattle.compose_naming.specs.Settled.{name_in, settled}
 use Rattle.compose_origins.specs.Placed.{value_at}
-use Rattle.compose_settled.specs.ReadBack.{AllRemainToRead, BitMeans, BitsMean, RemainsToRead, called_keys, first_import, is_type, key_of, known_behind, spot_behind, with_call}
-use Rattle.compose_settled.specs.Stays.{AllStayToRead, Includes, Stays}
+use Rattle.compose_settled.specs.ReadBack.{AllRemainToRead, BitsMean, called_keys, first_import, is_type, key_of, known_behind, spot_behind, with_call}
+use Rattle.compose_settled.specs.Stays.{AllStayToRead, Includes}
 use Rattle.compose_settled.proofs.Paths.{named_there}
 use Rattle.compose_settled.proofs.Remaining.{entity_included, keeps_known, noted_alone, remains, these_more}
 

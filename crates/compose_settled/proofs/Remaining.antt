@@ -1,6 +1,6 @@
 -- An entity that is passed has its naming bits.
-use Rattle.std.proofs.Common.{◌≡◌, ℕ, ◌-◌, Bool, true, false, cond, List, [], ◌∷◌, ◌++◌, Option, Some, None, refl, sym, ap, subst, ◌∙◌}
-use Rattle.std.specs.Prelude.{◌||◌, ◌&&◌, ◌==◌, nat_lt, option_and_then, option_map}
+use Rattle.std.proofs.Common.{◌≡◌, ℕ, Bool, true, false, cond, List, [], ◌∷◌, ◌++◌, Option, Some, None, refl, sym, ap, subst, ◌∙◌}
+use Rattle.std.specs.Prelude.{◌||◌, nat_lt, option_and_then, option_map}
 use Rattle.std.specs.List.{list_any}
 use Rattle.std.proofs.lemmas.List.Folds.{list_any-append}
 use Rattle.std.proofs.lemmas.Option.{same_Some}
@@ -14,9 +14,9 @@ use Rattle.compose_meaning.specs.Meaning as meaning
 use Rattle.compose_meaning.specs.Meaning.{Meaning}
 use Rattle.compose_meaning.specs.Readable.{Exporting, Importing, Spot, by_scope, brought_keys, exports_spot, first_spot, in_component_type, in_instance_type, keys_among, within}
 use Rattle.compose_meaning.specs.Readable as readable
-use Rattle.compose_coherence.specs.Remaining.{AllRemain, BothSides, InComponent, Remains, TypeRemains, own_meaning}
-use Rattle.compose_naming.specs.Bits.{Scope, behind, behind_all, behind_place, behind_type, bit_in, closed, func_has_bit, further_out, is_set, named_in, noted, noted_where, opened, own_bit, with_bit}
-use Rattle.compose_naming.specs.GrownLaws.{Grown, all_grow, closed_is, entity_grows, grown_on, grows, no_scopes, no_truth, noted_there, sides_are, so_before, then_some, where_noted}
+use Rattle.compose_coherence.specs.Remaining.{AllRemain, InComponent, Remains, TypeRemains, own_meaning}
+use Rattle.compose_naming.specs.Bits.{Scope, behind, behind_all, behind_place, behind_type, bit_in, closed, func_has_bit, further_out, is_set, named_in, noted, opened, own_bit, with_bit}
+use Rattle.compose_naming.specs.GrownLaws.{Grown, all_grow, closed_is, entity_grows, grown_on, no_scopes, no_truth, noted_there, sides_are, so_before, then_some, where_noted}
 use Rattle.compose_naming.specs.NamingBits.{Extends}
 use Rattle.compose_settled.specs.Stays.{AllStay, Includes, Stays, TypeStays, Within}
 use Rattle.compose_settled.proofs.ValueBits.{func_so, own_so}
