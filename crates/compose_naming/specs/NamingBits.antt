@@ -1,5 +1,6 @@
--- The naming bits of the types that left imports name, as a relation: bits that each of them may have, whatever finds them
--- (Component Model, Explainer.md, "Import and Export Definitions"). `Bits` has the bits that are found along the way.
+-- The naming bits of the types that left imports name, as a relation: bits that each of them may have, whatever finds
+-- them (Component Model, Explainer.md, "Import and Export Definitions"). `Bits` has the bits that are found along the
+-- way.
 use Rattle.std.specs.Prelude.{◌≡◌, ℕ, Bool, true, false, ◌||◌, List, [], ◌∷◌, Option, Some, None, nat_lt, if◌then◌else◌}
 use Rattle.comp_entity.specs.Entity.{Name, ValueTree, TypeShapeTree, Value, Resource, Func, Instance, Component, EntityTree, IsType, IsFunc, IsInstance, IsComponent, IsModule, IsOwnModule, Entries, no_entry, entry}
 use Rattle.comp_entity.specs.Fits.{place_of, same_name}
@@ -61,7 +62,8 @@ abbrev pub PlaceHas : ℕ → (Name → Bool) → (Name → Bool) → ValueTree 
 PlaceHas width named bit t None = Unit {0}
 PlaceHas width named bit t (Some n) = named n ≡ false → IsNamedFirst width named bit t n
 
--- Each function has the bit. A type of instances or components is a scope of its own, whose types have bits of their own.
+-- Each function has the bit. A type of instances or components is a scope of its own, whose types have bits of their
+-- own.
 abbrev mutual
   pub TypeHas : ℕ → (Name → Bool) → (Name → Bool) → TypeShapeTree → Type 0
   TypeHas width named bit (Value t) = PlaceHas width named bit t (place_of t)
@@ -101,7 +103,8 @@ abbrev pub named_by_calls : (Name → Bool) → List Spot → Name → Bool
 named_by_calls named [] = named
 named_by_calls named (s ∷ ss) = named_by_calls (named_by_call named s) ss
 
--- A type that is first named by a call has the bit of the type that stands at the path of the call, which was named before.
+-- A type that is first named by a call has the bit of the type that stands at the path of the call, which was named
+-- before.
 pub record IsCalledFirst (leaves : List Leaf) (named bit : Name → Bool) (s : Spot) : Type 0 where
   pub place : Name
   pub there : named_at leaves s.path ≡ Some place
@@ -130,8 +133,8 @@ AllImportsHave named bit [] = Unit {0}
 AllImportsHave named bit (l ∷ ls) =
     EntityHas named bit (settled l).entity l.calls × AllImportsHave (named_behind_left named l) bit ls
 
--- Left imports, in the order in which they are written, whose named types may have bits with which each function has the
--- naming bit.
+-- Left imports, in the order in which they are written, whose named types may have bits with which each function has
+-- the naming bit.
 pub record HaveNamingBits (ls : List LeftTree) : Type 0 where
   pub bit : Name → Bool
   pub have : AllImportsHave nothing bit ls

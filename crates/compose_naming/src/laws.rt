@@ -23,8 +23,8 @@ pub fn naming_bits_are_decided()
     ensures found { (ls : Imports) → HaveNamingBits ls → HaveBits ls }
 {}
 
-/// An import is the first without the bit exactly where those in front of it may have their naming bits, and with it they
-/// may not.
+/// An import is the first without the bit exactly where those in front of it may have their naming bits, and with it
+/// they may not.
 pub fn the_first_without_bit_has_none()
     ensures before { (ls : Imports) (n : ℕ) → IsFirstWithoutBit ls n → HaveNamingBits (take n ls) }
     ensures not_with_it { (ls : Imports) (n : ℕ) → IsFirstWithoutBit ls n → HaveNamingBits (take (n + 1) ls) → ⊥ }

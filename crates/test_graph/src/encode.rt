@@ -21,8 +21,8 @@ const DEFINED: &[u8] = b"\0asm\r\0\x01\0\x04\x08\0asm\r\0\x01\0\x05\x04\x01\0\0\
 const LEFT_OPEN: &[u8] =
     b"\0asm\r\0\x01\0\x07\x05\x01\x40\0\x01\0\x0a\x06\x01\0\x01x\x01\0\x04\x17\0asm\r\0\x01\0\x07\x05\x01\x40\0\x01\0\x0a\x06\x01\0\x01x\x01\0\x05\x08\x01\0\0\x01\x01x\x01\0";
 
-/// A graph of one component, its name and bytes, of which an instance is made where that is so; whether it is defined; and
-/// what is written.
+/// A graph of one component, its name and bytes, of which an instance is made where that is so; whether it is defined;
+/// and what is written.
 type Written = (&'static str, &'static [u8], bool, bool, &'static [u8]);
 
 const WRITTEN: &[Written] = &[
@@ -57,8 +57,8 @@ fn options(define_components: bool, export: Option<InstanceId>) -> EncodeOptions
     }
 }
 
-/// What such a graph is encoded as, or why it is not. No test owns a graph, since the proof of each function that does is
-/// dear.
+/// What such a graph is encoded as, or why it is not. No test owns a graph, since the proof of each function that does
+/// is dear.
 fn encoded(
     alloc: Global,
     (name, bytes, makes): (&str, &'static [u8], bool),
@@ -95,8 +95,8 @@ fn encodes_exports_of_an_instance(rt: HostRuntime) -> Result<(), Fail> {
     }
 }
 
-/// A graph of one component, its name and bytes, and one instance; the instance that is exported; and why the graph is not
-/// encoded with its component imported.
+/// A graph of one component, its name and bytes, and one instance; the instance that is exported; and why the graph is
+/// not encoded with its component imported.
 type Refused = (&'static str, &'static [u8], Option<usize>, &'static str);
 
 const REFUSED: &[Refused] = &[

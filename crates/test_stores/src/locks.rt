@@ -27,8 +27,8 @@ fn waited<T>(answer: &Result<T, LockError>) -> &'static str {
     }
 }
 
-/// Calls of locks in memory, of which somebody else holds `/held`, and the third is to fail: whether the call waits, its
-/// path, and its answer.
+/// Calls of locks in memory, of which somebody else holds `/held`, and the third is to fail: whether the call waits,
+/// its path, and its answer.
 const CALLS: &[(bool, &str, &str)] = &[
     (false, "/free", "locked"),
     (false, "/held", "held"),

@@ -6,8 +6,8 @@ ghost use Rattle.warg_values.specs.Faults.{Rose};
 use std::alloc::Global;
 use warg_locks::{LockError, Locks};
 
-/// The locks of a registry's folder and of that of the contents, in this order, or `None` where somebody else holds one of
-/// them: then none is kept.
+/// The locks of a registry's folder and of that of the contents, in this order, or `None` where somebody else holds
+/// one of them: then none is kept.
 pub fn both<K: Locks>(
     alloc: Global,
     locks: &mut K,

@@ -81,8 +81,8 @@ fn try_lock(file: &File, access: Access) -> Result<bool, LockError> {
 }
 
 impl FileLock {
-    /// Opens and locks a file for one alone, unless somebody holds it: then the answer is `None`. The file and its folders
-    /// are made.
+    /// Opens and locks a file for one alone, unless somebody holds it: then the answer is `None`. The file and its
+    /// folders are made.
     pub fn try_open_rw<R: RuntimeFiles<File = File>>(
         rt: &R,
         alloc: Global,
@@ -104,8 +104,8 @@ impl FileLock {
         FileLock::open(rt, alloc, path, Access::Exclusive)
     }
 
-    /// Opens and locks a file that is there, for several at once to read, unless one alone holds it: then the answer is
-    /// `None`.
+    /// Opens and locks a file that is there, for several at once to read, unless one alone holds it: then the answer
+    /// is `None`.
     pub fn try_open_ro<R: RuntimeFiles<File = File>>(
         rt: &R,
         alloc: Global,

@@ -32,8 +32,8 @@ impl MemoryLock {
     }
 }
 
-/// Locks in memory. Somebody else holds the paths that it lists, and never gives them back; what it gives itself, it may
-/// give again.
+/// Locks in memory. Somebody else holds the paths that it lists, and never gives them back; what it gives itself, it
+/// may give again.
 #[derive(Debug, Drop)]
 pub struct MemoryLocks {
     held: Vec<Text>,
@@ -58,7 +58,8 @@ impl Model for MemoryLocks {
 impl MemoryLocks {
     /// Locks of which somebody else holds these paths. No call is to fail.
     pub fn new(alloc: Global, held: Vec<Text>) -> Self
-        ensures { result ≡ record { held = held.items; met = 0; schedule = record { calls = 0; failing = []; faults = 0 } } }
+        ensures { result
+            ≡ record { held = held.items; met = 0; schedule = record { calls = 0; failing = []; faults = 0 } } }
     {
         MemoryLocks {
             held,
@@ -71,7 +72,9 @@ impl MemoryLocks {
 
     /// Has the call of this number fail, counted from 1 over all calls. A refusal changes nothing.
     pub fn fail_at(&mut self, call: u64) -> Result<(), Memory>
-        ensures listed { OnOk result (self.new ≡ record self.old { schedule = record self.old.schedule { failing = self.old.schedule.failing ++ call ∷ [] } }) }
+        ensures listed { OnOk result (self.new ≡ record self.old {
+          schedule = record self.old.schedule { failing = self.old.schedule.failing ++ call ∷ [] };
+        }) }
         ensures unchanged { OnErr result (self.new ≡ self.old) }
     {
         self.failing.push(call)?;
@@ -110,7 +113,9 @@ impl MemoryLocks {
     /// Counts a fault that no schedule asked for.
     fn fault(&mut self)
         ensures never_falls { self.old.schedule.faults ≤ self.new.schedule.faults }
-        ensures counted { self.new ≡ record self.old { schedule = record self.old.schedule { faults = one_more self.old.schedule.faults } } }
+        ensures counted { self.new ≡ record self.old {
+          schedule = record self.old.schedule { faults = one_more self.old.schedule.faults };
+        } }
     {
         self.faults = self.faults.saturating_add(1);
     }
@@ -133,7 +138,8 @@ impl Locks for MemoryLocks {
         ensures free { IfOk result (λ found. IfSome found (λ lock. is_held self.old.held path.now ≡ false)) }
         ensures held { result ≡ Ok None → Rose self.old.met self.new.met }
         ensures held_by_another { result ≡ Ok None → is_held self.old.held path.now ≡ true }
-        ensures failed { IsErrOf result LockError.Failed ↔ Contains self.old.schedule.failing (one_more self.old.schedule.calls) }
+        ensures failed { IsErrOf result LockError.Failed
+            ↔ Contains self.old.schedule.failing (one_more self.old.schedule.calls) }
         ensures counted { IsErrOf result LockError.Failed → Rose self.old.schedule.faults self.new.schedule.faults }
         ensures after { self.new ≡ after_meeting self.old (is_met result) (has_failed result) }
     {
@@ -156,8 +162,10 @@ impl Locks for MemoryLocks {
         ensures free { IfOk result (λ lock. is_held self.old.held path.now ≡ false) }
         ensures failed { IsErrOf result LockError.Failed → Rose self.old.schedule.faults self.new.schedule.faults }
         ensures cause { IsErrOf result LockError.Failed
-            → (is_held self.old.held path.now ≡ true) ⊎ Contains self.old.schedule.failing (one_more self.old.schedule.calls) }
-        ensures fails { Contains self.old.schedule.failing (one_more self.old.schedule.calls) → IsErrOf result LockError.Failed }
+            → (is_held self.old.held path.now ≡ true)
+            ⊎ Contains self.old.schedule.failing (one_more self.old.schedule.calls) }
+        ensures fails { Contains self.old.schedule.failing (one_more self.old.schedule.calls)
+            → IsErrOf result LockError.Failed }
         ensures after { self.new ≡ after_meeting self.old false (has_failed result) }
     {
         if self.fails_now() {
