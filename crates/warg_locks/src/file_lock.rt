@@ -127,6 +127,7 @@ impl FileLock {
         FileLock::open(rt, alloc, path, Access::Shared)
     }
 
+    /// Opens and locks a file, unless somebody holds it.
     fn try_open<R: RuntimeFiles<File = File>>(
         rt: &R,
         alloc: Global,
@@ -144,6 +145,7 @@ impl FileLock {
         }
     }
 
+    /// Opens and locks a file, and waits while somebody holds it.
     fn open<R: RuntimeFiles<File = File>>(
         rt: &R,
         alloc: Global,
