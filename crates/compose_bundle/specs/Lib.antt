@@ -1,0 +1,5 @@
+pub mod Bundled
+pub mod Defined
+pub mod Refusing
+pub mod Errors
+pub mod Whole
