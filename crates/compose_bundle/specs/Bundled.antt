@@ -11,14 +11,14 @@ use Rattle.comp_format.specs.Sections.{Reads}
 use Rattle.indexmap.specs.IndexMap.{get}
 use Rattle.std.specs.HashMap.{HashMap}
 
--- an import, or the content that stands in its place
-abbrev pub placed : ImportTree → Option (List ℕ) → ItemTree
-placed i (Some bytes) = Component bytes
-placed i None = Import i
+-- an item, or the content that stands in its place
+abbrev pub in_place : ItemTree → Option (List ℕ) → ItemTree
+in_place item (Some bytes) = Component bytes
+in_place item None = item
 
 -- an import of this description: that of a component under a name that has a content gives place to it
 abbrev pub bundled_import : (List ℕ → Option (List ℕ)) → ImportTree → TypeRef → ItemTree
-bundled_import content i (description.Component t) = placed i (content i.name)
+bundled_import content i (description.Component t) = in_place (Import i) (content i.name)
 bundled_import content i ty = Import i
 
 -- what stands for an item: every other item stays as it is, and nested components are not entered

@@ -14,6 +14,8 @@ ghost use Rattle.compose_encode.specs.Whole.{IsWhole};
 ghost use Rattle.compose_image.specs.CompositionImage.{composition_image, is_component};
 ghost use Rattle.compose_image.specs.Imports.{used_components};
 
+use compose_agree::laws::one_order;
+
 /// The link image of bundled items is that of the items, in which the imports with a content are components of which
 /// instances are made, and with these defined: where the items have an image, so have the bundled ones, and else neither.
 pub fn bundling_defines_components()
@@ -51,4 +53,6 @@ pub fn bundling_is_defining()
         → IsWhole c true export bytes
         → Reads bytes others
         → image (is_component c true) shown items ≡ image (is_component c true) shown others }
-{}
+{
+    one_order();
+}

@@ -3,10 +3,10 @@
 //! The binary format is that of the Component Model's `Binary.md`, and what items mean is that of its `Explainer.md`.
 #![tactic(auto)]
 
-mod bundle;
+mod bundling;
 mod error;
 pub mod laws;
 
-pub use bundle::bundle;
+pub use bundling::bundle;
 pub use comp_shape::ShapeError;
 pub use error::BundleError;

@@ -1,13 +1,14 @@
 //! Components in the place of imports.
 
-ghost use Rattle.std.specs.Prelude.{◌≡◌, ◌++◌, ◌∷◌, [], ℕ, OnOk, IfOk, Err};
+ghost use Rattle.std.specs.Prelude.{◌≡◌, ◌≤◌, ◌^◌, ◌++◌, ◌∷◌, [], ℕ, All, Err, IfOk, IfSome, OnOk, map, option_map};
 ghost use Rattle.comp_encoder.specs.Builder.{entries_of};
-ghost use Rattle.comp_encoder.specs.Writing.{Single};
-ghost use Rattle.comp_format.specs.Fits.{FitsItem};
+ghost use Rattle.comp_encoder.specs.Writing.{Single, items_of};
+ghost use Rattle.comp_format.specs.declared.error.EncodeError.TheVariants as encode_error;
+ghost use Rattle.comp_format.specs.Fits.{FitsItem, IsComponent};
 ghost use Rattle.comp_format.specs.Items.{item_tree};
 ghost use Rattle.comp_shape.specs.declared.error.ShapeError.{ShapeError as AnyShapeError};
-ghost use Rattle.compose_bundle.specs.Bundled.{AreComponents, IsBundled, bundled_item, content_in};
-ghost use Rattle.compose_bundle.specs.Refusing.{IsBad, IsTooLarge};
+ghost use Rattle.compose_bundle.specs.Bundled.{AreComponents, IsBundled, bundled, bundled_item, content_in, in_place, singles};
+ghost use Rattle.compose_bundle.specs.Refusing.{IsAmong, IsBad, IsOfItem, IsTooLarge};
 ghost use Rattle.compose_bundle.specs.declared.error.BundleError.TheVariants as refusal;
 
 use crate::error::BundleError;
@@ -21,6 +22,10 @@ use warg_values::Text;
 
 /// The content that stands in the place of an item, where there is one: that of an import of a component under its name.
 fn content_for<'a>(item: &Item<'_>, contents: &IndexMap<Text, &'a [u8]>) -> Option<&'a [u8]>
+    requires { AreComponents (content_in contents.now) }
+    ensures stands { bundled_item (content_in contents.now) (item_tree item.now)
+        ≡ in_place (item_tree item.now) (option_map (λ bytes. bytes.now) result) }
+    ensures component { IfSome result (λ bytes. IsComponent bytes.now) }
 {
     match item {
         Item::Import {
@@ -42,6 +47,9 @@ fn add(
     requires components { AreComponents (content_in contents.now) }
     ensures added { OnOk result (entries_of builder.new
         ≡ entries_of builder.old ++ Single (bundled_item (content_in contents.now) (item_tree item.now)) ∷ []) }
+    ensures too_large { (n : ℕ) → result ≡ Err (encode_error.TooLarge n)
+        → (2 ^ 32 ≤ n)
+        × IsOfItem n (items_of (entries_of builder.old)) (bundled_item (content_in contents.now) (item_tree item.now)) }
 {
     match content_for(item, contents) {
         Some(bytes) => {
@@ -50,6 +58,26 @@ fn add(
         None => builder.push_item(alloc, item)?,
     }
     Ok(())
+}
+
+/// A builder with some items, or the contents that stand in their place.
+fn built(
+    alloc: Global,
+    items: &[Item<'_>],
+    contents: &IndexMap<Text, &[u8]>,
+) -> Result<ComponentBuilder, EncodeError>
+    requires fit { All FitsItem (map item_tree items.now) }
+    requires components { AreComponents (content_in contents.now) }
+    ensures items { IfOk result (λ builder. entries_of builder
+        ≡ singles (bundled (content_in contents.now) (map item_tree items.now))) }
+    ensures too_large { (n : ℕ) → result ≡ Err (encode_error.TooLarge n)
+        → (2 ^ 32 ≤ n) × IsAmong n (bundled (content_in contents.now) (map item_tree items.now)) }
+{
+    let mut builder = ComponentBuilder::new(alloc);
+    for item in items {
+        add(alloc, &mut builder, item, contents)?;
+    }
+    Ok(builder)
 }
 
 /// A component in which each import of a component whose name has a content is replaced by the nested component that the
@@ -73,10 +101,7 @@ pub fn bundle(
 {
     what_is_read_can_be_written();
     let items = read_items(alloc, bytes)?;
-    let mut builder = ComponentBuilder::new(alloc);
-    for item in &items {
-        add(alloc, &mut builder, item, contents)?;
-    }
+    let builder = built(alloc, &items, contents)?;
     let bundle = builder.finish(alloc)?;
     Ok(bundle)
 }

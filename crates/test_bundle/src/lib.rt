@@ -1,0 +1,5 @@
+//! Tests of `compose_bundle`.
+#![tactic(auto)]
+
+#[cfg(test)]
+mod bundles;
