@@ -1,4 +1,4 @@
--- A lock of a composition, bundled with the bytes of its components.
+-- A composition that is encoded with its components imported, and bundled with their bytes.
 use Rattle.std.proofs.Common.{◌≡◌, ◌∙◌, ℕ, Bool, true, false, cond, List, [], ◌∷◌, map, Option, Some, None, Contains, refl, sym, ap, subst}
 use Rattle.std.specs.Prelude.{bytes_eq, is_some, option_map, ◌||◌}
 use Rattle.std.specs.List.{AllByRecursion, list_any}

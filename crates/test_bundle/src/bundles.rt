@@ -1,6 +1,10 @@
 //! What components are bundled as. The bytes were written out by hand from the binary format.
 
-use compose_bundle::{BundleError, bundle};
+ghost use Rattle.std.specs.Prelude.{IfOk, OnOk};
+ghost use Rattle.compose_bundle.specs.Bundled.{AreComponents, content_in};
+
+use comp_shape::read_items;
+use compose_bundle::bundle;
 use indexmap::IndexMap;
 use std::alloc::Global;
 use std::test::Fail;
@@ -74,14 +78,32 @@ const REFUSED: &[(&[u8], &str)] = &[
     ),
 ];
 
+/// Adds a content, which is a component, under its name.
+fn add(
+    alloc: Global,
+    contents: &mut IndexMap<Text, &'static [u8]>,
+    name: &str,
+    bytes: &'static [u8],
+) -> Result<(), Fail>
+    requires { AreComponents (content_in contents.old) }
+    ensures { OnOk result (AreComponents (content_in contents.new)) }
+{
+    let _items = read_items(alloc, bytes)?;
+    let name = Text::copy_of(alloc, name)?;
+    let _old = contents.insert(name, bytes)?;
+    Ok(())
+}
+
 /// The contents of a row as a map.
 fn contents(
     alloc: Global,
     row: &[(&'static str, &'static [u8])],
-) -> Result<IndexMap<Text, &'static [u8]>, Fail> {
+) -> Result<IndexMap<Text, &'static [u8]>, Fail>
+    ensures { IfOk result (λ contents. AreComponents (content_in contents)) }
+{
     let mut contents = IndexMap::new(alloc);
     for (name, bytes) in row {
-        let _old = contents.insert(Text::copy_of(alloc, name)?, *bytes)?;
+        add(alloc, &mut contents, name, *bytes)?;
     }
     Ok(contents)
 }
@@ -96,4 +118,29 @@ fn are_bundled(alloc: Global, rows: &[Bundled]) -> Result<(), Fail> {
         }
     }
     Ok(())
+}
+
+#[test]
+fn puts_contents_in_the_place_of_imports(rt: HostRuntime) -> Result<(), Fail> {
+    are_bundled(rt.alloc(), BUNDLED)
+}
+
+/// Fails at the first row that is bundled, or refused with another text.
+fn are_refused(alloc: Global, rows: &[(&[u8], &str)]) -> Result<(), Fail> {
+    let contents = contents(alloc, &[])?;
+    for (bytes, want) in rows {
+        let Err(error) = bundle(alloc, bytes, &contents) else {
+            return Err(Fail::new(format_args!("bundled: {want}")));
+        };
+        let text = format!(in alloc; "{error}")?;
+        if text.as_str() != *want {
+            return Err(Fail::new(format_args!("{want}: {text}")));
+        }
+    }
+    Ok(())
+}
+
+#[test]
+fn refuses_what_is_no_component(rt: HostRuntime) -> Result<(), Fail> {
+    are_refused(rt.alloc(), REFUSED)
 }

@@ -2,6 +2,7 @@
 //! crate, whose page quotes it.
 #![tactic(auto)]
 
+mod bundle;
 mod check;
 mod encode;
 mod graph;
@@ -10,6 +11,7 @@ mod needs;
 mod order;
 mod types;
 
+pub use bundle::imported_and_bundled;
 pub use check::written_order;
 pub use encode::bundled;
 pub use graph::{linked, reconnect};
