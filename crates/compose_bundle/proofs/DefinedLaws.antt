@@ -1,10 +1,8 @@
 -- The image of bundled items is that of the items, with components defined.
-use Rattle.std.proofs.Common.{◌≡◌, ◌∙◌, ℕ, Bool, true, false, cond, List, [], ◌∷◌, ◌++◌, length, map, Option, Some, None, refl, sym, ap}
+use Rattle.std.proofs.Common.{◌≡◌, ◌∙◌, ℕ, Bool, false, cond, List, [], ◌∷◌, Option, Some, None, refl, sym, ap}
 use Rattle.std.specs.Prelude.{option_map, option_and_then, is_some}
 use Rattle.std.specs.Option.{option_map_or}
 use Rattle.std.proofs.lemmas.List.{map-append, length-map}
-use Rattle.comp_format.specs.declared.types.Arg.{Arg}
-use Rattle.comp_format.specs.declared.types.Sort.{Sort}
 use Rattle.comp_format.specs.declared.types.Sort.TheVariants as sort
 use Rattle.comp_format.specs.declared.types.TypeRef.{TypeRef}
 use Rattle.comp_format.specs.declared.types.TypeRef.TheVariants as description
@@ -12,7 +10,7 @@ use Rattle.comp_format.specs.declared.types.InstanceItem.TheVariants as instance
 use Rattle.comp_format.specs.declared.types.Alias.TheVariants as alias
 use Rattle.comp_format.specs.Items.{ItemTree, ImportTree, ExportTree, Custom, CoreModule, CoreMade, CoreTy, Component, Instance, Aliased, Ty, Canonical, Import, Export}
 use Rattle.comp_entity.specs.Entity.{EntityTree}
-use Rattle.comp_scope.specs.Image.{ArgOf, ComponentOf, Defined, Exported, Image, Imported, Indexed, Left, OfComponent, Progress, arguments, as_component, as_part, exported, image, imported, indexed, nothing_seen, numbering, seen, seen_all, sort_described, with_component, with_export, with_instance}
+use Rattle.comp_scope.specs.Image.{ArgOf, ComponentOf, Defined, Imported, Left, Progress, arguments, as_component, as_part, exported, image, imported, indexed, nothing_seen, numbering, seen, seen_all, with_component, with_export, with_instance}
 use Rattle.compose_bundle.specs.Bundled.{bundled, bundled_import, bundled_item, in_place}
 use Rattle.compose_bundle.specs.Defined.{defined, defined_component, has_content}
 

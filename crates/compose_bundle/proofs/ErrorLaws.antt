@@ -1,5 +1,5 @@
 -- Errors of calls below, as those of bundling.
-use Rattle.std.proofs.Common.{◌≡◌, ◌∙◌, ℕ, List, Result, Ok, Err, refl, sym, ap, subst}
+use Rattle.std.proofs.Common.{◌≡◌, ℕ, List, Result, Err, subst}
 use Rattle.comp_format.specs.declared.error.EncodeError.{EncodeError}
 use Rattle.comp_format.specs.declared.error.EncodeError.TheVariants as encode
 use Rattle.comp_shape.specs.Refusal.{IsUnread}

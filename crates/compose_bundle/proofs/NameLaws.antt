@@ -1,5 +1,5 @@
 -- The link image depends on the names of components only where components are imported.
-use Rattle.std.proofs.Common.{◌≡◌, ◌∙◌, ℕ, ◌<◌, Bool, cond, List, [], ◌∷◌, length, Option, Some, None, Contains, refl, ap, arith}
+use Rattle.std.proofs.Common.{◌≡◌, ◌∙◌, ℕ, Bool, cond, List, [], ◌∷◌, Option, Some, None, Contains, refl, ap, arith}
 use Rattle.std.specs.Prelude.{option_map, option_and_then}
 use Rattle.std.proofs.lemmas.List.Elements.{Contains-append_right}
 use Rattle.comp_format.specs.declared.types.Sort.TheVariants as sort
@@ -9,7 +9,7 @@ use Rattle.comp_format.specs.declared.types.InstanceItem.TheVariants as instance
 use Rattle.comp_format.specs.declared.types.Alias.TheVariants as alias
 use Rattle.comp_format.specs.Items.{ItemTree, ImportTree, Custom, CoreModule, CoreMade, CoreTy, Component, Instance, Aliased, Ty, Canonical, Import, Export}
 use Rattle.comp_entity.specs.Entity.{EntityTree}
-use Rattle.comp_scope.specs.Image.{Image, Imported, Left, Progress, image, imported, nothing_seen, numbering, seen, seen_all, with_component}
+use Rattle.comp_scope.specs.Image.{Imported, Left, Progress, image, imported, nothing_seen, numbering, seen, seen_all, with_component}
 
 module _ (one other : List ℕ → Bool) where
   import_alike : (p : Progress) (i : ImportTree) (ty : TypeRef) → one i.name ≡ other i.name

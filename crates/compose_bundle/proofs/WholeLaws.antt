@@ -1,5 +1,5 @@
 -- A composition that is encoded with its components imported, and bundled with their bytes.
-use Rattle.std.proofs.Common.{◌≡◌, ◌∙◌, ℕ, Bool, true, false, cond, List, [], ◌∷◌, map, Option, Some, None, Contains, refl, sym, ap, subst}
+use Rattle.std.proofs.Common.{◌≡◌, ◌∙◌, ℕ, Bool, true, false, List, [], ◌∷◌, map, Option, Some, Contains, refl, sym, ap}
 use Rattle.std.specs.Prelude.{bytes_eq, is_some, option_map, ◌||◌}
 use Rattle.std.specs.List.{AllByRecursion, list_any}
 use Rattle.std.specs.Option.{option_map_or}
@@ -7,13 +7,12 @@ use Rattle.std.proofs.lemmas.Slice.Eq.{bytes_eq-Decides}
 use Rattle.comp_format.specs.Items.{Import, ImportTree, ItemTree}
 use Rattle.comp_format.specs.Sections.{Reads}
 use Rattle.comp_entity.specs.Entity.{EntityTree}
-use Rattle.comp_scope.specs.Image.{ComponentOf, Imported, Defined, Image, image}
+use Rattle.comp_scope.specs.Image.{Imported, Defined, image}
 use Rattle.compose_agree.specs.Order.{IsOrder, all_of, is_ready}
-use Rattle.compose_check.specs.Checked.{IsInstanceOrder, sources}
+use Rattle.compose_check.specs.Checked.{sources}
 use Rattle.compose_check.specs.Composition.{ComponentTree, CompositionTree}
 use Rattle.compose_image.specs.CompositionImage.{component_image, composition_image, is_component, is_named}
 use Rattle.compose_image.specs.Imports.{used_components}
-use Rattle.compose_image.specs.Instances.{written}
 use Rattle.compose_encode.specs.Whole.{IsWhole}
 use Rattle.compose_bundle.specs.Bundled.{IsBundled, bundled}
 use Rattle.compose_bundle.specs.Defined.{defined, defined_component, has_content}

@@ -1,5 +1,5 @@
 -- Maps of contents, one more each time.
-use Rattle.std.proofs.Common.{◌≡◌, ◌∙◌, ℕ, Bool, true, false, cond, List, Option, Some, None, Bor, refl, sym, ap, subst}
+use Rattle.std.proofs.Common.{◌≡◌, ◌∙◌, ℕ, Bool, true, false, cond, List, Some, None, Bor, refl, sym, ap, subst}
 use Rattle.std.specs.HashMap.{HashMap}
 use Rattle.std.specs.Prelude.{[], bytes_eq, option_map}
 use Rattle.comp_format.specs.Fits.{IsComponent}
@@ -24,7 +24,7 @@ one_more old new key lent updates here there = λ name bytes found. by name byte
     by : (name bytes : List ℕ) → content_in new name ≡ Some bytes → (b : Bool) → bytes_eq key name ≡ b → IsComponent bytes
     by name bytes found true e =
         let is = ap (option_map (λ (b : Bor (List ℕ)). b.now))
-                (updates name ∙ ap (λ b. cond b (Some lent) (get bytes_eq old name)) e) in
+        (updates name ∙ ap (λ b. cond b (Some lent) (get bytes_eq old name)) e) in
         let same : lent.now ≡ bytes = cc in
         subst IsComponent same here
     by name bytes found false e =

@@ -24,9 +24,11 @@ pub returns-in_err-add-clause-too_large : goal.returns-in_err-add-clause-too_lar
 returns-in_err-add-clause-too_large c = λ n e.
     let p = err_from_is_err_and c.from_residual.result c.from_residual.ensures.1 in
     let same : p.0 ≡ encode_error.TooLarge n = encode_is p.0 (encode_error.TooLarge n) (sym p.1 ∙ e) in
-    let of = c.in_err-add.ensures.too_large n (ap (λ (x : EncodeError). Err x) (sym p.2 ∙ same)) in
-    (of.0, among_at (content_in c.args.contents.now) c.args.items.now c.loop-item.item-index c.item-item.result
-    (entries_of c.loop-item.builder) n c.loop-item-test.true c.item-item.is c.loop-item.invariant of.1)
+    let of = c.in_err-add.ensures.too_large n (ap (λ (x : EncodeError). Err x) (sym p.2 ∙ same)) in (
+      of.0,
+      among_at (content_in c.args.contents.now) c.args.items.now c.loop-item.item-index c.item-item.result
+          (entries_of c.loop-item.builder) n c.loop-item-test.true c.item-item.is c.loop-item.invariant of.1,
+    )
 
 pub returns-clause-items : goal.returns-clause-items
 returns-clause-items c =

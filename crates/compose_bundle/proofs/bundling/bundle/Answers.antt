@@ -4,7 +4,7 @@ use Rattle.std.proofs.lemmas.Result.{err_from_is_err_and}
 use Rattle.comp_encoder.specs.Builder.{entries_of}
 use Rattle.comp_encoder.specs.Writing.{Entry, IsTooLongAmong, component_text, items_of, sections_of}
 use Rattle.comp_format.specs.Fits.{FitsItem}
-use Rattle.comp_format.specs.Items.{ItemTree, item_tree}
+use Rattle.comp_format.specs.Items.{item_tree}
 use Rattle.comp_format.specs.Sections.{Reads}
 use Rattle.comp_format.specs.declared.error.EncodeError.{EncodeError}
 use Rattle.comp_format.specs.declared.types.Item.{Item}
@@ -62,7 +62,7 @@ pub returns-in_err-bundle-clause-too_large : goal.returns-in_err-bundle-clause-t
 returns-in_err-bundle-clause-too_large c = λ n is.
     let content = content_in c.args.contents.now in
     let entries : entries_of c.in_ok-builder.builder ≡ singles (stand content c.in_ok-items.items.items) =
-        c.in_ok-builder.ensures.items ∙ ap (λ (items : List Item). singles (stand content items)) c.deref.ensures.value in
+    c.in_ok-builder.ensures.items ∙ ap (λ (items : List Item). singles (stand content items)) c.deref.ensures.value in
     let p = err_from_is_err_and c.from_residual-in_err-bundle.result c.from_residual-in_err-bundle.ensures.1 in
     let same : p.0 ≡ refusal.TooLarge n = error_is p.0 (refusal.TooLarge n) (sym p.1 ∙ is) in
     let number = number_of c.in_err-bundle.field-0.0 n (sym p.2 ∙ same) in
@@ -78,9 +78,9 @@ pub returns-clause-bundled : goal.returns-clause-bundled
 returns-clause-bundled c =
     let content = content_in c.args.contents.now in
     let entries : entries_of c.in_ok-builder.builder ≡ singles (stand content c.in_ok-items.items.items) =
-        c.in_ok-builder.ensures.items ∙ ap (λ (items : List Item). singles (stand content items)) c.deref.ensures.value in
+    c.in_ok-builder.ensures.items ∙ ap (λ (items : List Item). singles (stand content items)) c.deref.ensures.value in
     let items : items_of (entries_of c.in_ok-builder.builder) ≡ stand content c.in_ok-items.items.items =
-        ap items_of entries ∙ items_of_singles (stand content c.in_ok-items.items.items) in
+    ap items_of entries ∙ items_of_singles (stand content c.in_ok-items.items.items) in
     record {
       items = map item_tree c.in_ok-items.items.items;
       read = c.in_ok-items.ensures.found;

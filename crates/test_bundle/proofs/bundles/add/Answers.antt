@@ -7,4 +7,4 @@ pub returns : goal.returns
 returns c =
     let items = map item_tree c.in_ok-_items._items.items in
     one_more c.args.contents.now c.insert.new.self c.in_ok-name.name c.args.bytes c.in_ok-_old.ensures.updates.0
-        (items , c.in_ok-_items.ensures.found) c.requires
+    (items, c.in_ok-_items.ensures.found) c.requires
