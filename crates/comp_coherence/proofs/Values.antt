@@ -4,6 +4,7 @@ use Rattle.comp_entity.specs.Entity.{Name, ValueTree, Primitive, TupleOf, Record
 use Rattle.comp_entity.specs.Names.{Change, changing, place_by, value_by, values_by, cases_by, payload_by, without_places}
 use Rattle.comp_entity.specs.NameLaws.{value_twice, value_kept, unchanged, outside_twice}
 use Rattle.comp_coherence.specs.Coherence.{Names, bare_value, OneTree, OneTrees, OneTreeCases, OneTreePayload}
+use Rattle.comp_coherence.specs.TypeLaws.{left_of, right_of}
 
 -- two changes, and two others that come to the same
 module _ (c1 c2 c3 c4 : Change) (d1 d2 d3 d4 : ℕ) (resource : (n : Name) → c1.resource d1 (c2.resource d2 n) ≡ c3.resource d3 (c4.resource d4 n)) (place : (p : Option Name) → place_by c1 d1 (place_by c2 d2 p) ≡ place_by c3 d3 (place_by c4 d4 p)) where
@@ -87,14 +88,6 @@ abbrev mutual
 
 pub both : {a b : Bool} → a ≡ true → b ≡ true → (a && b) ≡ true
 both h k = (λ i. h i && k i)
-
-pub left_of : (a b : Bool) → (a && b) ≡ true → a ≡ true
-left_of true b h = refl
-left_of false b h = h
-
-pub right_of : (a b : Bool) → (a && b) ≡ true → b ≡ true
-right_of true b h = h
-right_of false b h = absurd cc
 
 -- what a type mentions that keeps one name for one type
 module _ (names : Names) where

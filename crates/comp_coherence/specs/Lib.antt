@@ -1,3 +1,4 @@
 pub mod Coherence
 pub mod NamedTypes
 pub mod Changes
+pub mod TypeLaws

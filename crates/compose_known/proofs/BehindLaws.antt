@@ -19,7 +19,8 @@ use Rattle.compose_needs.specs.Tied.{are_tied}
 use Rattle.compose_writing.specs.Keys.{mention_outside, name_outside, holds_there, from_within}
 use Rattle.compose_writing.specs.Conditions.{with_these, all_known, unnamed, if_all, if_scope, known_behind, type_known_behind, entries_known_behind}
 use Rattle.compose_known.specs.InOrder.{IsApart, parts_mention}
-use Rattle.compose_known.proofs.MentionLaws.{all_have, among_mention, deepen, deepened, entries_deep, filter_has, further_out, has_either, has_first, has_itself, has_one, has_then, in_leaves, leaves_mentioned, name_itself, outwards-append, outwards_out}
+use Rattle.compose_needs.specs.DeepLaws.{deepen, deepened, entries_deep}
+use Rattle.compose_known.proofs.MentionLaws.{all_have, among_mention, filter_has, further_out, has_either, has_first, has_itself, has_one, has_then, in_leaves, leaves_mentioned, name_itself, outwards-append, outwards_out}
 
 -- ---- things and mentions
 

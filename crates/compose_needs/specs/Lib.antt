@@ -9,3 +9,4 @@ pub mod Components
 pub mod Sides
 pub mod Exports
 pub mod Hiding
+pub mod DeepLaws

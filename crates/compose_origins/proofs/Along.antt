@@ -15,7 +15,8 @@ use Rattle.compose_left.specs.Spots.{named_type, spots}
 use Rattle.compose_left.specs.Wiring.{Wiring}
 use Rattle.compose_fit.specs.Fit.{AllFitted, WireFits, fits_under, in_place}
 use Rattle.compose_fit.specs.Wires.{Export, Given, Whole, given_of}
-use Rattle.compose_origins.proofs.Types.{bare_changed, left_of, place_stands, right_of}
+use Rattle.comp_coherence.specs.TypeLaws.{left_of, place_stands, right_of}
+use Rattle.compose_origins.proofs.Types.{bare_changed}
 use Rattle.compose_origins.proofs.Paths.{at_by, at_coheres, at_path, each, fit_at, fit_found, front_or_rest, map_some, near, some_is, then_some}
 use Rattle.compose_origins.proofs.Narrowed.{StandFor}
 use Rattle.compose_origins.proofs.Spots.{SpotIn, Typed, each_apart, export_under, found, spots_stand}

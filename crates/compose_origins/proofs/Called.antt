@@ -21,7 +21,7 @@ use Rattle.compose_order.specs.Needs.{LeftTree, called_at, is_at, thing_of}
 use Rattle.compose_check.specs.Open.{Asked, agrees, all_agree, is_named, left_alone, left_open, lefts, merged_with, with_asked}
 use Rattle.compose_origins.specs.Named.{HasOwnNames, HaveOwnNames}
 use Rattle.compose_origins.specs.Placed.{CallsOneType, CallsWhatStands, IsTypeOf, StandsThere, PlacedCohere, type_of}
-use Rattle.compose_origins.proofs.Types.{label_is, left_of, place_stands, right_of}
+use Rattle.comp_coherence.specs.TypeLaws.{label_is, left_of, place_stands, right_of}
 use Rattle.compose_origins.proofs.Paths.{at_coheres, at_path, both, itself, map_some, some_is}
 use Rattle.compose_origins.proofs.Merged.{TypeAt, open_asks, under_behind, union_coheres, union_left, union_right}
 use Rattle.compose_origins.proofs.Numbers.{path_is}

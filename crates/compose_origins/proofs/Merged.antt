@@ -12,7 +12,7 @@ use Rattle.compose_left.specs.Origins.{placed}
 use Rattle.compose_left.specs.Wiring.{Wiring, wire_into}
 use Rattle.compose_order.specs.Needs.{LeftTree}
 use Rattle.compose_check.specs.Open.{Asked, agrees, all_agree, asked_by, asked_from, asked_by_all, is_named, left_alone, left_open, lefts, merged_with, with_asked}
-use Rattle.compose_origins.proofs.Types.{left_of, right_of, value_is}
+use Rattle.comp_coherence.specs.TypeLaws.{left_of, right_of, value_is}
 use Rattle.compose_origins.specs.Placed.{PlacedCohere}
 use Rattle.compose_origins.proofs.Paths.{at_path, back, both, equal_at, front, front_or_rest, itself, some_is, then_some}
 

@@ -14,7 +14,7 @@ use Rattle.compose_left.specs.Numbers.{IsThere}
 use Rattle.compose_left.specs.Origins.{brought_from, held_at, is_made, number_in, origin, place_in, same_origin, same_path, table, with_origin}
 use Rattle.compose_left.specs.Spots.{spots}
 use Rattle.compose_left.specs.Wiring.{Wiring}
-use Rattle.compose_origins.proofs.Types.{left_of, right_of, label_is}
+use Rattle.comp_coherence.specs.TypeLaws.{left_of, right_of, label_is}
 use Rattle.compose_origins.proofs.Paths.{back, front, itself, some_is}
 
 -- ---- equal origins

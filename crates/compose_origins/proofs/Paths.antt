@@ -10,7 +10,7 @@ use Rattle.comp_entity.specs.Fits.{same_name, values_equal, entities_equal, entr
 use Rattle.comp_entity.specs.Places.{Path}
 use Rattle.comp_coherence.specs.Coherence.{Names, OneTree, Coheres, AllCohere, inside_component, nowhere}
 use Rattle.compose_origins.specs.Placed.{value_at}
-use Rattle.compose_origins.proofs.Types.{left_of, right_of, label_is}
+use Rattle.comp_coherence.specs.TypeLaws.{left_of, right_of, label_is}
 
 -- ---- lists
 

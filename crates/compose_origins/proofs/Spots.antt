@@ -12,7 +12,7 @@ use Rattle.compose_left.specs.declared.spots.Thing.{Thing}
 use Rattle.compose_left.specs.Merging.{is_absent}
 use Rattle.compose_left.specs.Spots.{named_type, spots_from, spots_in, spots_of}
 use Rattle.compose_origins.specs.Named.{HasOwnNames, HaveOwnNames}
-use Rattle.compose_origins.proofs.Types.{label_is}
+use Rattle.comp_coherence.specs.TypeLaws.{label_is}
 use Rattle.compose_origins.proofs.Paths.{at_path, both, itself, some_is}
 
 -- ---- lists

@@ -22,7 +22,7 @@ use Rattle.compose_fit.specs.Wires.{Joined, given_of}
 use Rattle.compose_check.specs.Open.{all_agree, left_open, lefts}
 use Rattle.compose_origins.specs.Named.{IsWellNamed, WiresBegin}
 use Rattle.compose_origins.specs.Placed.{OneTypeEach, PlacedCohere}
-use Rattle.compose_origins.proofs.Types.{value_is}
+use Rattle.comp_coherence.specs.TypeLaws.{value_is}
 use Rattle.compose_origins.proofs.Paths.{at_by, at_path, map_some, near, some_is, then_some}
 use Rattle.compose_origins.proofs.Spots.{found, weaker}
 use Rattle.compose_origins.proofs.Called.{lefts_call, lefts_stand}
