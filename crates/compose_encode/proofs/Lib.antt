@@ -6,3 +6,4 @@ mod AgreedLaws
 mod RefusingLaws
 mod OrderLaws
 mod WholeLaws
+mod NameLaws

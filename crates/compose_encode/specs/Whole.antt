@@ -1,13 +1,13 @@
 -- Compositions as components: which bytes are one, and why there are none (Component Model, Explainer.md, "Component
 -- Definitions" and "Instance Definitions").
-use Rattle.std.specs.Prelude.{◌≡◌, ◌≤◌, ◌^◌, ℕ, Bool, List, [], map, Option, Some, None, option_and_then, if◌then◌else◌}
+use Rattle.std.specs.Prelude.{◌≡◌, ◌≤◌, ◌<◌, ◌^◌, ℕ, Bool, false, List, [], map, bytes_eq, slice_get, Option, Some, None, option_and_then, if◌then◌else◌}
 use Rattle.std.specs.Option.{option_or}
 use Rattle.comp_format.specs.Items.{ItemTree}
 use Rattle.comp_entity.specs.Entity.{EntityTree}
 use Rattle.comp_scope.specs.Image.{image}
 use Rattle.compose_order.specs.Needs.{LeftTree}
 use Rattle.compose_check.specs.Checked.{IsCheckRefusal, IsSound, hidden_export}
-use Rattle.compose_check.specs.Composition.{CompositionTree, wiring}
+use Rattle.compose_check.specs.Composition.{ComponentTree, CompositionTree, wiring}
 use Rattle.compose_check.specs.declared.error.CheckError.{CheckError}
 use Rattle.compose_check.specs.declared.error.CheckError.TheVariants as check
 use Rattle.compose_check.specs.declared.error.Why.TheVariants as why
@@ -24,7 +24,12 @@ use Rattle.compose_encode.specs.declared.refused.CompositionError.TheVariants as
 abbrev pub imported : CompositionTree → Bool → List ℕ
 imported c define = if define then [] else used c
 
--- no two of them have one name
+-- no two of some components have one name
+abbrev pub AreApart : List ComponentTree → Type 0
+AreApart ks = (i j : ℕ) (x y : ComponentTree) → i < j → slice_get ks i ≡ Some x → slice_get ks j ≡ Some y
+    → bytes_eq x.name y.name ≡ false
+
+-- no two of those of which instances are made have one name
 abbrev pub HaveComponentNames : CompositionTree → Type 0
 HaveComponentNames c = HaveOwnNames (map component_import (used_components c))
 

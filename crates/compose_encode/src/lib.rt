@@ -8,6 +8,7 @@ mod components;
 mod encode;
 mod exports;
 mod instances;
+pub mod laws;
 mod lookups;
 mod output;
 mod part;

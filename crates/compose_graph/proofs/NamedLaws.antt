@@ -1,14 +1,10 @@
--- No two components of a graph of which instances are made have one name.
-use Rattle.std.proofs.Common.{◌≡◌, ◌<◌, ◌≤◌, ◌+◌, arith, ℕ, zero, suc, Bool, true, false, cond, List, [], ◌∷◌, ◌++◌, length, map, filter, Option, Some, None, refl, sym, ap, ◌∙◌}
-use Rattle.std.specs.Prelude.{bytes_eq, find, flat_map, option_to_list, slice_get}
-use Rattle.std.specs.List.{range_with_len}
+-- No two components of a graph have one name.
+use Rattle.std.proofs.Common.{◌≡◌, ◌<◌, arith, ℕ, zero, suc, Bool, true, false, cond, List, [], ◌∷◌, map, Some, None, refl, sym, ap, ◌∙◌}
+use Rattle.std.specs.Prelude.{bytes_eq, slice_get}
 use Rattle.std.proofs.lemmas.Option.{same_Some}
-use Rattle.compose_check.specs.Composition.{ComponentTree, CompositionTree}
-use Rattle.compose_encode.specs.Imports.{component_import, component_of, is_used, used}
-use Rattle.compose_encode.specs.Writable.{HaveOwnNames as ImportsHaveOwnNames, is_of}
-use Rattle.compose_encode.specs.Whole.{HaveComponentNames}
-use Rattle.compose_graph.specs.Composed.{composed, composed_component}
-use Rattle.compose_graph.specs.Graph.{ComponentEntry, GraphTree, component_named}
+use Rattle.compose_check.specs.Composition.{ComponentTree}
+use Rattle.compose_graph.specs.Composed.{composed_component}
+use Rattle.compose_graph.specs.Graph.{ComponentEntry, component_named}
 use Rattle.compose_graph.specs.Kept.{HaveOwnNames}
 
 -- a name that none has is that of none by its place
@@ -26,7 +22,7 @@ unnamed (c ∷ cs) name j y none e = by (bytes_eq name c.name) refl none j e (un
     by false h k (suc m) at rest = rest m y k at
 
 -- components at two places have two names
-apart : (cs : List ComponentEntry) → HaveOwnNames cs → (i j : ℕ) (x y : ComponentTree) → i < j
+pub apart : (cs : List ComponentEntry) → HaveOwnNames cs → (i j : ℕ) (x y : ComponentTree) → i < j
     → slice_get (map composed_component cs) i ≡ Some x → slice_get (map composed_component cs) j ≡ Some y
     → bytes_eq x.name y.name ≡ false
 apart [] own i j x y lt e f = absurd cc
@@ -35,58 +31,3 @@ apart (c ∷ cs) own zero (suc j) x y lt e f =
     ap (λ (t : ComponentTree). bytes_eq t.name y.name) (sym (same_Some (composed_component c) x e)) ∙ unnamed cs c.name j y own.0 f
 apart (c ∷ cs) own (suc i) zero x y lt e f = absurd (omega (arith, lt))
 apart (c ∷ cs) own (suc i) (suc j) x y lt e f = apart cs own.1 i j x y (omega (arith, lt)) e f
-
--- numbers that rise, from this one on
-abbrev Rise : ℕ → List ℕ → Type 0
-Rise low [] = Unit {0}
-Rise low (n ∷ ns) = (low ≤ n) × Rise (suc n) ns
-
-rise_lower : (low from : ℕ) (ns : List ℕ) → low ≤ from → Rise from ns → Rise low ns
-rise_lower low from [] le h = tt
-rise_lower low from (n ∷ ns) le h = let at = h.0 in (omega (arith, le, at), h.1)
-
-range_rises : (a n : ℕ) → Rise a (range_with_len a n)
-range_rises a zero = tt
-range_rises a (suc n) = (omega arith, rise_lower (suc a) (a + 1) (range_with_len (a + 1) n) (omega arith) (range_rises (a + 1) n))
-
-kept_rise : (p : ℕ → Bool) (low : ℕ) (ns : List ℕ) → Rise low ns → Rise low (filter p ns)
-kept_rise p low [] h = tt
-kept_rise p low (n ∷ ns) h = by (p n) (kept_rise p (suc n) ns h.1)
-  where
-    by : (b : Bool) → Rise (suc n) (filter p ns) → Rise low (cond b (n ∷ filter p ns) (filter p ns))
-    by true rest = (h.0, rest)
-    by false rest = let at = h.0 in rise_lower low (suc n) (filter p ns) (omega (arith, at)) rest
-
-module _ (g : GraphTree) (own : HaveOwnNames g.components) where
-  abbrev c : CompositionTree
-  c = composed g
-
-  later : (i : ℕ) (x : ComponentTree) → slice_get c.components i ≡ Some x → (ns : List ℕ) → Rise (suc i) ns
-      → find (is_of x.name) (map component_import (flat_map (component_of c) ns)) ≡ None
-  later i x at [] h = refl
-  later i x at (n ∷ ns) h = one (slice_get c.components n) refl (later i x at ns (let le = h.0 in rise_lower (suc i) (suc n) ns (omega (arith, le)) h.1))
-    where
-      by : (y : ComponentTree) (b : Bool) → b ≡ false → find (is_of x.name) (map component_import (flat_map (component_of c) ns)) ≡ None
-          → cond b (Some (component_import y)) (find (is_of x.name) (map component_import (flat_map (component_of c) ns))) ≡ None
-      by y true e rest = absurd cc
-      by y false e rest = rest
-
-      one : (o : Option ComponentTree) → slice_get c.components n ≡ o
-          → find (is_of x.name) (map component_import (flat_map (component_of c) ns)) ≡ None
-          → find (is_of x.name) (map component_import (option_to_list o ++ flat_map (component_of c) ns)) ≡ None
-      one None e rest = rest
-      one (Some y) e rest = by y (bytes_eq x.name y.name) (let le = h.0 in apart g.components own i n x y (omega (arith, le)) at e) rest
-
-  own_names : (low : ℕ) (ns : List ℕ) → Rise low ns → ImportsHaveOwnNames (map component_import (flat_map (component_of c) ns))
-  own_names low [] h = tt
-  own_names low (n ∷ ns) h = one (slice_get c.components n) refl (own_names (suc n) ns h.1)
-    where
-      one : (o : Option ComponentTree) → slice_get c.components n ≡ o
-          → ImportsHaveOwnNames (map component_import (flat_map (component_of c) ns))
-          → ImportsHaveOwnNames (map component_import (option_to_list o ++ flat_map (component_of c) ns))
-      one None e rest = rest
-      one (Some x) e rest = (later n x e ns h.1, rest)
-
-  pub component_names : HaveComponentNames c
-  component_names =
-      own_names 0 (used c) (kept_rise (is_used c) 0 (range_with_len 0 (length c.components)) (range_rises 0 (length c.components)))

@@ -14,6 +14,7 @@ use crate::options::EncodeOptions;
 use crate::places::Places;
 use comp_shape::{ShapeError, read_shape};
 use compose_check::CheckError;
+use compose_encode::laws::components_apart_have_own_names;
 use compose_encode::{CompositionError, encode_composition};
 use std::alloc::Global;
 use warg_values::Memory;
@@ -72,6 +73,7 @@ impl<'a> CompositionGraph<'a> {
         ensures encoded { IfOk result (λ bytes. IsEncoding (graph_of self.now) options bytes.items) }
         ensures refused { IfErr result (IsComposeRefusal (graph_of self.now) options) }
     {
+        components_apart_have_own_names();
         let ids = self.instances.ids(alloc)?;
         let composition = self.composition(alloc)?;
         match encode_composition(alloc, &composition, options.define_components, export) {

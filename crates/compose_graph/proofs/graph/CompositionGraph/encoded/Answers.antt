@@ -9,7 +9,7 @@ use Rattle.compose_graph.specs.Kept.{IsGraph}
 use Rattle.compose_graph.specs.Listed.{HeldGraph, graph_of}
 use Rattle.compose_graph.specs.Wiring.{instance_id}
 use Rattle.compose_graph.proofs.ComposedLaws.{is_composition, on_circle}
-use Rattle.compose_graph.proofs.NamedLaws.{component_names}
+use Rattle.compose_graph.proofs.NamedLaws.{apart}
 use Rattle.compose_graph.proofs.graph.CompositionGraph.encoded.Goals as goal
 
 pub encode_composition-requires-clause-made : goal.encode_composition-requires-clause-made
@@ -20,7 +20,7 @@ encode_composition-requires-clause-made c =
 pub encode_composition-requires-clause-names : goal.encode_composition-requires-clause-names
 encode_composition-requires-clause-names c =
     let graph = subst (λ (g : HeldGraph). IsGraph (graph_of g)) c.self.view_is c.self.invariant in
-    subst HaveComponentNames (sym c.in_ok-composition.ensures) (component_names (graph_of c.args.self.now) graph.names)
+    subst HaveComponentNames (sym c.in_ok-composition.ensures) (c.components_apart_have_own_names.ensures (composed (graph_of c.args.self.now)) (apart (graph_of c.args.self.now).components graph.names))
 
 pub index-requires : goal.index-requires
 index-requires c =
