@@ -12,7 +12,7 @@ use warg_url::RegistryDomain;
 use warg_values::Text;
 
 /// Files in memory of which one has a text.
-fn one_file(alloc: Global, path: &str, text: &str) -> Result<MemoryFiles, Fail> {
+pub fn one_file(alloc: Global, path: &str, text: &str) -> Result<MemoryFiles, Fail> {
     let mut files = MemoryFiles::new(alloc);
     match files.write(alloc, path, text.as_bytes()) {
         Ok(()) => Ok(files),

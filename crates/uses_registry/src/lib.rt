@@ -3,6 +3,7 @@
 
 pub mod api;
 pub mod body;
+pub mod config;
 pub mod exchange;
 pub mod hash;
 pub mod hint;

@@ -1,0 +1,4 @@
+pub mod FileLaws
+pub mod JsonLaws
+pub mod PathLaws
+pub mod SearchLaws
