@@ -1,10 +1,13 @@
 //! What becomes of plans over recorded replies, by `assemble PLAN REPLIES CHECKED OUT` over files and an output in memory.
 
 use crate::world::{
-    CHECKED, LINKED, NOTHING_CONTENT, NOTHING_SOURCES, OPEN_CHECKPOINT, OPEN_CONTENT,
-    OPEN_INCLUSION, OPEN_PAGE, OPEN_SOURCES, TEXT_CHECKPOINT, TEXT_CONTENT, TEXT_INCLUSION,
-    TEXT_PAGE, TEXT_SOURCES, TYPES_CHECKPOINT, TYPES_CONTENT, TYPES_INCLUSION, TYPES_NO_PROOF,
-    TYPES_PAGE, TYPES_SOURCES,
+    CHECKED, GREATEST_PRINTED, NOTHING_CONTENT, NOTHING_LINKED, NOTHING_PRINTED, NOTHING_SOURCES,
+    OLDER_SOURCES, OPEN_CHECKPOINT, OPEN_CONTENT, OPEN_INCLUSION, OPEN_LINKED, OPEN_PAGE,
+    OPEN_PRINTED, OPEN_SOURCES, TEXT_CHECKPOINT, TEXT_CONTENT, TEXT_INCLUSION, TEXT_PAGE,
+    TEXT_SOURCES, TYPES_CHECKPOINT, TYPES_CONTENT, TYPES_INCLUSION, TYPES_LINKED, TYPES_NO_PROOF,
+    TYPES_PAGE, TYPES_PRINTED, TYPES_SOURCES, UNFIT_CHECKPOINT, UNFIT_INCLUSION, UNFIT_PAGE,
+    WIRED_CHECKPOINT, WIRED_CONTENT, WIRED_INCLUSION, WIRED_LINKED, WIRED_PAGE, WIRED_PRINTED,
+    WIRED_SOURCES, YANKED_CHECKPOINT, YANKED_INCLUSION, YANKED_PAGE,
 };
 use hex::encode;
 use std::alloc::Global;
@@ -32,7 +35,8 @@ struct Row {
     ended: &'static str,
 }
 
-const ROWS: &[Row] = &[
+/// Which release a plan of one package gets.
+const RELEASES: &[Row] = &[
     Row {
         text: TEXT,
         bodies: &[
@@ -42,8 +46,8 @@ const ROWS: &[Row] = &[
             TYPES_SOURCES,
             TYPES_CONTENT,
         ],
-        printed: "entry demo:app 1.1.0 sha256:191d8b6cf1703426361caf20b95d05b13018134aa737605635be82ca70b14196 named root\nbundle 57 e41da149a1013026158395250a1d4b819ead3f2e0d47a57de1fd964442c5d451\n",
-        ended: LINKED,
+        printed: TYPES_PRINTED,
+        ended: TYPES_LINKED,
     },
     // A release below a version, and a reply more than is asked for.
     Row {
@@ -56,8 +60,8 @@ const ROWS: &[Row] = &[
             NOTHING_CONTENT,
             NOTHING_CONTENT,
         ],
-        printed: "entry demo:app 1.0.0 sha256:24eaf3439a60c96764c4f2c92a0a81b52bd4fe5d5b91f090184a0f6486b1bf29 named root\nbundle 24 251c41b4a061e17112655e1ae12d851da9dbdef7499d0bd5b11cb933ca4fa8cd\n",
-        ended: "0061736d0d00010004080061736d0d0001000504010000",
+        printed: NOTHING_PRINTED,
+        ended: NOTHING_LINKED,
     },
     Row {
         text: "instantiations:\n  root:\n    dependency: demo:app@{>=2.0.0}\n",
@@ -65,6 +69,29 @@ const ROWS: &[Row] = &[
         printed: "refused PackageVersionRequirementDoesNotExist\n",
         ended: "6 no release of demo:app is what is asked for",
     },
+    // The greatest release that is neither yanked nor a pre-release, and where all that match are yanked.
+    Row {
+        text: "instantiations:\n  root:\n    dependency: demo:app@{>=1.0.0}\n",
+        bodies: &[
+            YANKED_CHECKPOINT,
+            YANKED_PAGE,
+            YANKED_INCLUSION,
+            NOTHING_SOURCES,
+            NOTHING_CONTENT,
+        ],
+        printed: GREATEST_PRINTED,
+        ended: NOTHING_LINKED,
+    },
+    Row {
+        text: "instantiations:\n  root:\n    dependency: demo:app@{>=1.11.0 <2.0.0}\n",
+        bodies: &[YANKED_CHECKPOINT, YANKED_PAGE, YANKED_INCLUSION],
+        printed: "refused PackageVersionRequirementDoesNotExist\n",
+        ended: "6 no release of demo:app is what is asked for",
+    },
+];
+
+/// Replies that lack something, or give something else.
+const REPLIES: &[Row] = &[
     Row {
         text: TEXT,
         bodies: &[TYPES_CHECKPOINT, TYPES_PAGE, TYPES_NO_PROOF],
@@ -103,18 +130,6 @@ const ROWS: &[Row] = &[
     Row {
         text: TEXT,
         bodies: &[
-            OPEN_CHECKPOINT,
-            OPEN_PAGE,
-            OPEN_INCLUSION,
-            OPEN_SOURCES,
-            OPEN_CONTENT,
-        ],
-        printed: "refused NotBuilt\n",
-        ended: "6 hints at other registries, and plans of several packages",
-    },
-    Row {
-        text: TEXT,
-        bodies: &[
             TEXT_CHECKPOINT,
             TEXT_PAGE,
             TEXT_INCLUSION,
@@ -124,6 +139,80 @@ const ROWS: &[Row] = &[
         printed: "refused BadComponent\n",
         ended: "6 a package's content is no component",
     },
+];
+
+/// What the imports of an instance get, or are left to.
+const IMPORTS: &[Row] = &[
+    Row {
+        text: TEXT,
+        bodies: &[
+            OPEN_CHECKPOINT,
+            OPEN_PAGE,
+            OPEN_INCLUSION,
+            OPEN_SOURCES,
+            OPEN_CONTENT,
+        ],
+        printed: OPEN_PRINTED,
+        ended: OPEN_LINKED,
+    },
+    Row {
+        text: "disallow-imports: true\ninstantiations:\n  root:\n    dependency: demo:app\n",
+        bodies: &[
+            OPEN_CHECKPOINT,
+            OPEN_PAGE,
+            OPEN_INCLUSION,
+            OPEN_SOURCES,
+            OPEN_CONTENT,
+        ],
+        printed: "refused ImportsDisallowed\n",
+        ended: "6 `f` is left open, and the plan disallows imports",
+    },
+    // The root is given to itself.
+    Row {
+        text: "instantiations:\n  root:\n    dependency: demo:app\n    arguments:\n      f: root\n",
+        bodies: &[
+            OPEN_CHECKPOINT,
+            OPEN_PAGE,
+            OPEN_INCLUSION,
+            OPEN_SOURCES,
+            OPEN_CONTENT,
+        ],
+        printed: "refused DependencyCycle\n",
+        ended: "6 an instance needs itself",
+    },
+    // A package that imports an instance of its older release, which exports what is asked for, or nothing.
+    Row {
+        text: TEXT,
+        bodies: &[
+            WIRED_CHECKPOINT,
+            WIRED_PAGE,
+            WIRED_INCLUSION,
+            WIRED_SOURCES,
+            WIRED_CONTENT,
+            OLDER_SOURCES,
+            TYPES_CONTENT,
+        ],
+        printed: WIRED_PRINTED,
+        ended: WIRED_LINKED,
+    },
+    Row {
+        text: TEXT,
+        bodies: &[
+            UNFIT_CHECKPOINT,
+            UNFIT_PAGE,
+            UNFIT_INCLUSION,
+            WIRED_SOURCES,
+            WIRED_CONTENT,
+            NOTHING_SOURCES,
+            NOTHING_CONTENT,
+        ],
+        printed: "refused Incompatible\n",
+        ended: "6 the plan: the export `t` does not fit the import `unlocked-dep=<demo:app@{<1.1.0}>`",
+    },
+];
+
+/// Texts that are no plan.
+const NO_PLANS: &[Row] = &[
     Row {
         text: "a: 1\n",
         bodies: &[],
@@ -205,8 +294,23 @@ fn end_so(alloc: Global, rows: &[Row]) -> Result<(), Fail> {
 }
 
 #[test]
-fn a_plan_is_assembled_or_tells_the_first_fault(rt: HostRuntime) -> Result<(), Fail> {
-    end_so(rt.alloc(), ROWS)
+fn the_greatest_release_that_is_asked_for_is_linked(rt: HostRuntime) -> Result<(), Fail> {
+    end_so(rt.alloc(), RELEASES)
+}
+
+#[test]
+fn what_replies_lack_is_told(rt: HostRuntime) -> Result<(), Fail> {
+    end_so(rt.alloc(), REPLIES)
+}
+
+#[test]
+fn imports_get_what_the_plan_gives_them(rt: HostRuntime) -> Result<(), Fail> {
+    end_so(rt.alloc(), IMPORTS)
+}
+
+#[test]
+fn a_text_that_is_no_plan_is_refused(rt: HostRuntime) -> Result<(), Fail> {
+    end_so(rt.alloc(), NO_PLANS)
 }
 
 /// The bytes of PLAN, REPLIES and CHECKED, where these files are there, and the line that is printed and the beginning of

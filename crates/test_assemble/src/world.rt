@@ -104,6 +104,126 @@ pub const OPEN_SOURCES: &str = "\
 pub const OPEN_CONTENT: &str = "\
     AGFzbQ0AAQAHBQFAAABzCgYBAAFmAQA=";
 
+/// A package that imports its older release: the checkpoint.
+pub const WIRED_CHECKPOINT: &str = "\
+    eyJjb250ZW50cyI6eyJsb2dMZW5ndGgiOjMsImxvZ1Jvb3QiOiJzaGEyNTY6OWRlMTM5MWUwYjhjOWVkYzQ1MTg4NTYyYmQ0OTMz\
+    OWM3OTU0ZTU5ZDljMjViOTcxN2Y2YzUwZThhMWFkNDEwOSIsIm1hcFJvb3QiOiJzaGEyNTY6MTllOWIwY2FmNzViZWJhOTA0YWM2\
+    MWNjNGEyNTFlZjAzZDEyZTEzNzE4OTFmMWRjNmVjMjg5MDQ3ZTg1Njg4NiIsInRpbWVzdGFtcCI6N30sImtleUlkIjoic2hhMjU2\
+    OjRlZmU2NTRiYzMwMDUxMTUyYmQ2MDIxOGQwNGU4ODNlYzFlNmI5MmYzOWY4NjIzYjRjYWEwNDlhOTBmNzEyMDUiLCJzaWduYXR1\
+    cmUiOiJzOkFBPT0ifQ==";
+
+/// A package that imports its older release: the page of all records.
+pub const WIRED_PAGE: &str = "\
+    eyJtb3JlIjpmYWxzZSwib3BlcmF0b3IiOlt7ImNvbnRlbnRCeXRlcyI6IkdnSUlBU0lTQ2hBS0JtczZRVUU5UFJJR2MyaGhNalUy\
+    SWdVaUF3b0JZUT09IiwiZmV0Y2hUb2tlbiI6InQwIiwia2V5SWQiOiJzaGEyNTY6NGVmZTY1NGJjMzAwNTExNTJiZDYwMjE4ZDA0\
+    ZTg4M2VjMWU2YjkyZjM5Zjg2MjNiNGNhYTA0OWE5MGY3MTIwNSIsInJlZ2lzdHJ5SW5kZXgiOjAsInNpZ25hdHVyZSI6InM6QUE9\
+    PSJ9XSwicGFja2FnZXMiOnsic2hhMjU2OmU5MThhMGVmZDE0NGZhZmIzZDI4MmFiMTZjY2ZmZDg1YmQ1NzU3ODhmMTA4MGE3Mjcy\
+    ZGQ4YmNkNWJlOGQ3M2YiOlt7ImNvbnRlbnRCeXRlcyI6IkdnSUlBU0lTQ2hBS0JtczZRVUU5UFJJR2MyaGhNalUySWxJaVVBb0ZN\
+    UzR3TGpBU1IzTm9ZVEkxTmpveE9URmtPR0kyWTJZeE56QXpOREkyTXpZeFkyRm1NakJpT1RWa01EVmlNVE13TVRneE16UmhZVGN6\
+    TnpZd05UWXpOV0psT0RKallUY3dZakUwTVRrMiIsImZldGNoVG9rZW4iOiJ0MSIsImtleUlkIjoic2hhMjU2OjRlZmU2NTRiYzMw\
+    MDUxMTUyYmQ2MDIxOGQwNGU4ODNlYzFlNmI5MmYzOWY4NjIzYjRjYWEwNDlhOTBmNzEyMDUiLCJyZWdpc3RyeUluZGV4IjoxLCJz\
+    aWduYXR1cmUiOiJzOkFBPT0ifSx7ImNvbnRlbnRCeXRlcyI6IkNrZHphR0V5TlRZNk0yWTJabUV4T0dVNE1ETmxPVGMxTjJZeVpq\
+    VTNPRGhpWXpnNU1EazNZekJsTmpKak0yRXdaRFZtTXpWbFlqaGpNVEJoWWpReE5tWTNOelZtT0RReVl4b0NDQUVpVWlKUUNnVXhM\
+    akV1TUJKSGMyaGhNalUyT21FME1tTTVOekprTkRRMk1ETTBZMlV6TldFMk5qWTRZekV6TkdZellUY3dZekF3Wm1FMlpHWTNPV1Zp\
+    TUdGaE9XSXhZVFJtTVRSa1pEY3daVFJpTkRrPSIsImZldGNoVG9rZW4iOiJ0MiIsImtleUlkIjoic2hhMjU2OjRlZmU2NTRiYzMw\
+    MDUxMTUyYmQ2MDIxOGQwNGU4ODNlYzFlNmI5MmYzOWY4NjIzYjRjYWEwNDlhOTBmNzEyMDUiLCJyZWdpc3RyeUluZGV4IjoyLCJz\
+    aWduYXR1cmUiOiJzOkFBPT0ifV19fQ==";
+
+/// A package that imports its older release: the inclusion of both last records.
+pub const WIRED_INCLUSION: &str = "\
+    eyJsb2ciOiJBQUFBQUFNQUFBQUFBQUFBQUFIN1JET2ZyT0FZbGEzZTlwYWRheGlTM3pPcG04TWNFcHhWSnNHN0hGd1lQUUFBQUFB\
+    QUFBQUFBa1ExWEdqVU56TG1yc0YrOWpLTWE5amNsOW9WZjAzM2tzR0FDQ1p6b1RQK0FRQUFBQUFBQUFBQXZId1FtS0J4YTZ4c0F2\
+    UGdiMlNTWENCWEZNby9ZTW15M1pWaVpuWHpaakFBQUFBQUFBQUFBZ0FBQUFBQUFBQURBQUFBQUFBQUFBQUFBQUFBQUFBQUF3QUFB\
+    QUFBQUFBQyIsIm1hcCI6IkFBQUFBQUlnQUFBQUFBQUFBQUFBQUFBQUFBQUFBQUFBQUFBQUFBQUFBQUFBQUFBQUFHcy80TFZBb1Ba\
+    OHZNcUlDMWVSc2doWFVGajJzYUpqZmcvQlFrU1VyNS9USUFBQUFBQUFBQUFBQUFBQUFBQUFBQUFBQUFBQUFBQUFBQUFBQUFBQUFB\
+    RG1oQ013OUZ2dlVLZk8xTDl1K2J1V0ZIZFVXSjFjSnBMT1dKa0YzNDg3RkE9PSJ9";
+
+/// A package that imports its older release: where the content of 1.1.0 is.
+pub const WIRED_SOURCES: &str = "\
+    eyJjb250ZW50U291cmNlcyI6eyJzaGEyNTY6YTQyYzk3MmQ0NDYwMzRjZTM1YTY2NjhjMTM0ZjNhNzBjMDBmYTZkZjc5ZWIwYWE5\
+    YjFhNGYxNGRkNzBlNGI0OSI6W3sidHlwZSI6Imh0dHBHZXQiLCJ1cmwiOiJodHRwczovL2NvbnRlbnQudGVzdC9jIn1dfX0=";
+
+/// A package that imports its older release: the content of 1.1.0.
+pub const WIRED_CONTENT: &str = "\
+    AGFzbQ0AAQAHDwFCAgFvAnl5BAABdAMAAAolAQAgdW5sb2NrZWQtZGVwPTxkZW1vOmFwcEB7PDEuMS4wfT4FAAYGAQMAAAF0CwcB\
+    AAF0AwEA";
+
+/// Where the content of 1.0.0 is that exports a type.
+pub const OLDER_SOURCES: &str = "\
+    eyJjb250ZW50U291cmNlcyI6eyJzaGEyNTY6MTkxZDhiNmNmMTcwMzQyNjM2MWNhZjIwYjk1ZDA1YjEzMDE4MTM0YWE3Mzc2MDU2\
+    MzViZTgyY2E3MGIxNDE5NiI6W3sidHlwZSI6Imh0dHBHZXQiLCJ1cmwiOiJodHRwczovL2NvbnRlbnQudGVzdC9jIn1dfX0=";
+
+/// The same, where the older release exports nothing: the checkpoint.
+pub const UNFIT_CHECKPOINT: &str = "\
+    eyJjb250ZW50cyI6eyJsb2dMZW5ndGgiOjMsImxvZ1Jvb3QiOiJzaGEyNTY6Y2VkNWMxOTFkMjM3NGMzNWVhMmFmOWNlYjE2Yjgz\
+    MTdiZjgyYzZkMzIyYzE0MTE5NzJkMjg2ODQ4ZTVmNGI3ZiIsIm1hcFJvb3QiOiJzaGEyNTY6YzJjN2RiYmU3N2I1MzQ5N2MyMmIz\
+    YWE1N2RjMWEyNjVmMmExYjFmYjE4NGYxY2MwOWQ3YTRhOTUzNDgwYjUyMSIsInRpbWVzdGFtcCI6N30sImtleUlkIjoic2hhMjU2\
+    OjRlZmU2NTRiYzMwMDUxMTUyYmQ2MDIxOGQwNGU4ODNlYzFlNmI5MmYzOWY4NjIzYjRjYWEwNDlhOTBmNzEyMDUiLCJzaWduYXR1\
+    cmUiOiJzOkFBPT0ifQ==";
+
+/// The same, where the older release exports nothing: the page of all records.
+pub const UNFIT_PAGE: &str = "\
+    eyJtb3JlIjpmYWxzZSwib3BlcmF0b3IiOlt7ImNvbnRlbnRCeXRlcyI6IkdnSUlBU0lTQ2hBS0JtczZRVUU5UFJJR2MyaGhNalUy\
+    SWdVaUF3b0JZUT09IiwiZmV0Y2hUb2tlbiI6InQwIiwia2V5SWQiOiJzaGEyNTY6NGVmZTY1NGJjMzAwNTExNTJiZDYwMjE4ZDA0\
+    ZTg4M2VjMWU2YjkyZjM5Zjg2MjNiNGNhYTA0OWE5MGY3MTIwNSIsInJlZ2lzdHJ5SW5kZXgiOjAsInNpZ25hdHVyZSI6InM6QUE9\
+    PSJ9XSwicGFja2FnZXMiOnsic2hhMjU2OmU5MThhMGVmZDE0NGZhZmIzZDI4MmFiMTZjY2ZmZDg1YmQ1NzU3ODhmMTA4MGE3Mjcy\
+    ZGQ4YmNkNWJlOGQ3M2YiOlt7ImNvbnRlbnRCeXRlcyI6IkdnSUlBU0lTQ2hBS0JtczZRVUU5UFJJR2MyaGhNalUySWxJaVVBb0ZN\
+    UzR3TGpBU1IzTm9ZVEkxTmpveU5HVmhaak0wTXpsaE5qQmpPVFkzTmpSak5HWXlZemt5WVRCaE9ERmlOVEppWkRSbVpUVmtOV0k1\
+    TVdZd09UQXhPRFJoTUdZMk5EZzJZakZpWmpJNSIsImZldGNoVG9rZW4iOiJ0MSIsImtleUlkIjoic2hhMjU2OjRlZmU2NTRiYzMw\
+    MDUxMTUyYmQ2MDIxOGQwNGU4ODNlYzFlNmI5MmYzOWY4NjIzYjRjYWEwNDlhOTBmNzEyMDUiLCJyZWdpc3RyeUluZGV4IjoxLCJz\
+    aWduYXR1cmUiOiJzOkFBPT0ifSx7ImNvbnRlbnRCeXRlcyI6IkNrZHphR0V5TlRZNk1XSmpZelV5T1RRNVl6QXhZV014TXpGaU0y\
+    VXlNak15WkdNek9UQXdZVFUyT1RaaU9EYzJZakl4T0RKaE5UWXpNVFF4TW1VMU1tUmtOalEwWlRoa1pCb0NDQUVpVWlKUUNnVXhM\
+    akV1TUJKSGMyaGhNalUyT21FME1tTTVOekprTkRRMk1ETTBZMlV6TldFMk5qWTRZekV6TkdZellUY3dZekF3Wm1FMlpHWTNPV1Zp\
+    TUdGaE9XSXhZVFJtTVRSa1pEY3daVFJpTkRrPSIsImZldGNoVG9rZW4iOiJ0MiIsImtleUlkIjoic2hhMjU2OjRlZmU2NTRiYzMw\
+    MDUxMTUyYmQ2MDIxOGQwNGU4ODNlYzFlNmI5MmYzOWY4NjIzYjRjYWEwNDlhOTBmNzEyMDUiLCJyZWdpc3RyeUluZGV4IjoyLCJz\
+    aWduYXR1cmUiOiJzOkFBPT0ifV19fQ==";
+
+/// The same, where the older release exports nothing: the inclusion of both last records.
+pub const UNFIT_INCLUSION: &str = "\
+    eyJsb2ciOiJBQUFBQUFNQUFBQUFBQUFBQUFHQmY1QkRJcjE1N3JuZTJYOS9vcVIvVnhDc3hkazJhcHpDUGRXcWdFbUhiZ0FBQUFB\
+    QUFBQUFBdUR6TER0b3owMTZ2Z1pGYkVwQ2JrUS9YQXExcTM3U3hTWStQTXdDSlRQWkFRQUFBQUFBQUFBQWRNRUUzSmJvVGR4MU9n\
+    YkpxTXUySUVscWxmQmxhK2NVTVljMVZhUlh3N2NBQUFBQUFBQUFBZ0FBQUFBQUFBQURBQUFBQUFBQUFBQUFBQUFBQUFBQUF3QUFB\
+    QUFBQUFBQyIsIm1hcCI6IkFBQUFBQUlnQUFBQUFBQUFBQUFBQUFBQUFBQUFBQUFBQUFBQUFBQUFBQUFBQUFBQUFObFdxbWdzS1Iy\
+    MGRKMVNaKzZ5TDZLNEc5S2F0d3hZa3QybDUyZEZQdEM2SUFBQUFBQUFBQUFBQUFBQUFBQUFBQUFBQUFBQUFBQUFBQUFBQUFBQUFB\
+    RG1oQ013OUZ2dlVLZk8xTDl1K2J1V0ZIZFVXSjFjSnBMT1dKa0YzNDg3RkE9PSJ9";
+
+/// A package with four releases, of which the greatest but a pre-release is yanked: the checkpoint.
+pub const YANKED_CHECKPOINT: &str = "\
+    eyJjb250ZW50cyI6eyJsb2dMZW5ndGgiOjMsImxvZ1Jvb3QiOiJzaGEyNTY6YzE2MWY3YzkxZTY5NmQ5MWY5ZGZjOTk4MmE1OWI3\
+    NGU3ZGUzODBhZDc2NmFlOTdiYzZkMGZmMGFiYjBjMGMzMiIsIm1hcFJvb3QiOiJzaGEyNTY6Y2RiMTk5MDE1MjRlYzljYzJkMDA2\
+    ZWQ0ODA2M2EyZTU0MDNkMTY3ZDI3ZWRjYmJkYmMxMGFlYjBmOGU4Y2YwZSIsInRpbWVzdGFtcCI6N30sImtleUlkIjoic2hhMjU2\
+    OjRlZmU2NTRiYzMwMDUxMTUyYmQ2MDIxOGQwNGU4ODNlYzFlNmI5MmYzOWY4NjIzYjRjYWEwNDlhOTBmNzEyMDUiLCJzaWduYXR1\
+    cmUiOiJzOkFBPT0ifQ==";
+
+/// A package with four releases, of which the greatest but a pre-release is yanked: the page of all records.
+pub const YANKED_PAGE: &str = "\
+    eyJtb3JlIjpmYWxzZSwib3BlcmF0b3IiOlt7ImNvbnRlbnRCeXRlcyI6IkdnSUlBU0lTQ2hBS0JtczZRVUU5UFJJR2MyaGhNalUy\
+    SWdVaUF3b0JZUT09IiwiZmV0Y2hUb2tlbiI6InQwIiwia2V5SWQiOiJzaGEyNTY6NGVmZTY1NGJjMzAwNTExNTJiZDYwMjE4ZDA0\
+    ZTg4M2VjMWU2YjkyZjM5Zjg2MjNiNGNhYTA0OWE5MGY3MTIwNSIsInJlZ2lzdHJ5SW5kZXgiOjAsInNpZ25hdHVyZSI6InM6QUE9\
+    PSJ9XSwicGFja2FnZXMiOnsic2hhMjU2OmU5MThhMGVmZDE0NGZhZmIzZDI4MmFiMTZjY2ZmZDg1YmQ1NzU3ODhmMTA4MGE3Mjcy\
+    ZGQ4YmNkNWJlOGQ3M2YiOlt7ImNvbnRlbnRCeXRlcyI6IkdnSUlBU0lTQ2hBS0JtczZRVUU5UFJJR2MyaGhNalUySWxJaVVBb0ZN\
+    UzR5TGpBU1IzTm9ZVEkxTmpveU5HVmhaak0wTXpsaE5qQmpPVFkzTmpSak5HWXlZemt5WVRCaE9ERmlOVEppWkRSbVpUVmtOV0k1\
+    TVdZd09UQXhPRFJoTUdZMk5EZzJZakZpWmpJNUlsTWlVUW9HTVM0eE1DNHdFa2R6YUdFeU5UWTZNalJsWVdZek5ETTVZVFl3WXpr\
+    Mk56WTBZelJtTW1NNU1tRXdZVGd4WWpVeVltUTBabVUxWkRWaU9URm1NRGt3TVRnMFlUQm1OalE0Tm1JeFltWXlPU0pYSWxVS0Nq\
+    SXVNQzR3TFhKakxqRVNSM05vWVRJMU5qb3lOR1ZoWmpNME16bGhOakJqT1RZM05qUmpOR1l5WXpreVlUQmhPREZpTlRKaVpEUm1a\
+    VFZrTldJNU1XWXdPVEF4T0RSaE1HWTJORGcyWWpGaVpqSTVJbE1pVVFvR01TNHhNUzR3RWtkemFHRXlOVFk2TWpSbFlXWXpORE01\
+    WVRZd1l6azJOelkwWXpSbU1tTTVNbUV3WVRneFlqVXlZbVEwWm1VMVpEVmlPVEZtTURrd01UZzBZVEJtTmpRNE5tSXhZbVl5T1E9\
+    PSIsImZldGNoVG9rZW4iOiJ0MSIsImtleUlkIjoic2hhMjU2OjRlZmU2NTRiYzMwMDUxMTUyYmQ2MDIxOGQwNGU4ODNlYzFlNmI5\
+    MmYzOWY4NjIzYjRjYWEwNDlhOTBmNzEyMDUiLCJyZWdpc3RyeUluZGV4IjoxLCJzaWduYXR1cmUiOiJzOkFBPT0ifSx7ImNvbnRl\
+    bnRCeXRlcyI6IkNrZHphR0V5TlRZNllUazJNR00yTlRBek5EUTJaV0kyTnpNd01qVTFNV0kxTjJOaVpHSm1PREprTkRNME56Tmpa\
+    VEE0TURBNVl6WXdPVGN3TnpRM09XTTNNek0wTVdFeU54b0NDQUVpQ2lvSUNnWXhMakV4TGpBPSIsImZldGNoVG9rZW4iOiJ0MiIs\
+    ImtleUlkIjoic2hhMjU2OjRlZmU2NTRiYzMwMDUxMTUyYmQ2MDIxOGQwNGU4ODNlYzFlNmI5MmYzOWY4NjIzYjRjYWEwNDlhOTBm\
+    NzEyMDUiLCJyZWdpc3RyeUluZGV4IjoyLCJzaWduYXR1cmUiOiJzOkFBPT0ifV19fQ==";
+
+/// A package with four releases, of which the greatest but a pre-release is yanked: the inclusion of both last records.
+pub const YANKED_INCLUSION: &str = "\
+    eyJsb2ciOiJBQUFBQUFNQUFBQUFBQUFBQUFFeUE0UEpKT3laZjVGMTJJaUp2T1BqQi9Kc3ZRWlpKcTlpejRlU1U0S1ovQUFBQUFB\
+    QUFBQUFBaStBUTVRRGZTc1VVd0s3TkFzVlU1SExpaEo4TGY5WUJJajBzMFJRUDl1ZEFRQUFBQUFBQUFBQWcrL2wzcWFrQmQvejFC\
+    VTVncytZbGdBdFhNdVNYdmpkNkx1S2tYRnlOczhBQUFBQUFBQUFBZ0FBQUFBQUFBQURBQUFBQUFBQUFBQUFBQUFBQUFBQUF3QUFB\
+    QUFBQUFBQyIsIm1hcCI6IkFBQUFBQUlnQUFBQUFBQUFBQUFBQUFBQUFBQUFBQUFBQUFBQUFBQUFBQUFBQUFBQUFPcGZTK29BM3Vx\
+    MHplUW5Uak01MStpVzRwakV4Wk1ZYVRlREt0S0U5M29QSUFBQUFBQUFBQUFBQUFBQUFBQUFBQUFBQUFBQUFBQUFBQUFBQUFBQUFB\
+    RG1oQ013OUZ2dlVLZk8xTDl1K2J1V0ZIZFVXSjFjSnBMT1dKa0YzNDg3RkE9PSJ9";
+
 /// A package whose content is a text: the checkpoint.
 pub const TEXT_CHECKPOINT: &str = "\
     eyJjb250ZW50cyI6eyJsb2dMZW5ndGgiOjMsImxvZ1Jvb3QiOiJzaGEyNTY6ZDgxNTM3MDFhMGM0MTNkYjIzMmM3OTlmZWU0YzYw\
@@ -149,8 +269,39 @@ pub const TEXT_CONTENT: &str = "\
 
 /// The signatures that are accepted.
 pub const CHECKED: &str =
-    r#"[{"key":"k:AA==","signature":"s:AA==","text":"a92e20c65019fcc292833d838f060127d81d86c602b8020ae340e8efbbb346d6"},{"key":"k:AA==","signature":"s:AA==","text":"cebf39bae8deb0363d3a98dff1c47f9ae9cd0f12d9d8919211d2ec3daf788bbb"},{"key":"k:AA==","signature":"s:AA==","text":"5bd67597700aeb3bef7b2451b463c25c00eb462ca6fe886a400c7def3333c1ea"},{"key":"k:AA==","signature":"s:AA==","text":"53e25b4e8fe2a8fa3c51a8eea40ffb37b9c3e95e778742e0296f098acecb928e"},{"key":"k:AA==","signature":"s:AA==","text":"dbf1344b4983086a9bd5617749a4bc3dd23d9b8a10123e6845f231efe6a979ee"},{"key":"k:AA==","signature":"s:AA==","text":"53e25b4e8fe2a8fa3c51a8eea40ffb37b9c3e95e778742e0296f098acecb928e"},{"key":"k:AA==","signature":"s:AA==","text":"a92e20c65019fcc292833d838f060127d81d86c602b8020ae340e8efbbb346d6"},{"key":"k:AA==","signature":"s:AA==","text":"db333b9cbf3bdc1f471e89eb5993f2aa693955ae81308cdb82f06d6c1053aa7d"},{"key":"k:AA==","signature":"s:AA==","text":"7343d295a4501b18cb2aacdf939c390184ca5ee33947b038095f35ed88b2812d"},{"key":"k:AA==","signature":"s:AA==","text":"df0627f11ec461548d5ef73f1678dd0497cc895cc9bcae66d17fea58073f6f16"},{"key":"k:AA==","signature":"s:AA==","text":"a92e20c65019fcc292833d838f060127d81d86c602b8020ae340e8efbbb346d6"},{"key":"k:AA==","signature":"s:AA==","text":"db333b9cbf3bdc1f471e89eb5993f2aa693955ae81308cdb82f06d6c1053aa7d"},{"key":"k:AA==","signature":"s:AA==","text":"343db15bb65bb003a01618c24a17bcfa3daf428f976055753bcfaf324ece59e2"},{"key":"k:AA==","signature":"s:AA==","text":"3dd355bd4ad7815b55ac859bc7fc4d0f320256cc36ce4c5fcbc1a300d0290b9b"},{"key":"k:AA==","signature":"s:AA==","text":"a92e20c65019fcc292833d838f060127d81d86c602b8020ae340e8efbbb346d6"},{"key":"k:AA==","signature":"s:AA==","text":"db333b9cbf3bdc1f471e89eb5993f2aa693955ae81308cdb82f06d6c1053aa7d"},{"key":"k:AA==","signature":"s:AA==","text":"641078d3c738ff58f200cc3cc9c6382c433f758f641e781c464045b425fb2a32"},{"key":"k:AA==","signature":"s:AA==","text":"e8bbc65fe9610bd23a7c3d54ac5e0d69486c5072d4dc03b39f997f2d9797a6f8"}]"#;
+    r#"[{"key":"k:AA==","signature":"s:AA==","text":"a92e20c65019fcc292833d838f060127d81d86c602b8020ae340e8efbbb346d6"},{"key":"k:AA==","signature":"s:AA==","text":"cebf39bae8deb0363d3a98dff1c47f9ae9cd0f12d9d8919211d2ec3daf788bbb"},{"key":"k:AA==","signature":"s:AA==","text":"5bd67597700aeb3bef7b2451b463c25c00eb462ca6fe886a400c7def3333c1ea"},{"key":"k:AA==","signature":"s:AA==","text":"53e25b4e8fe2a8fa3c51a8eea40ffb37b9c3e95e778742e0296f098acecb928e"},{"key":"k:AA==","signature":"s:AA==","text":"dbf1344b4983086a9bd5617749a4bc3dd23d9b8a10123e6845f231efe6a979ee"},{"key":"k:AA==","signature":"s:AA==","text":"53e25b4e8fe2a8fa3c51a8eea40ffb37b9c3e95e778742e0296f098acecb928e"},{"key":"k:AA==","signature":"s:AA==","text":"a92e20c65019fcc292833d838f060127d81d86c602b8020ae340e8efbbb346d6"},{"key":"k:AA==","signature":"s:AA==","text":"db333b9cbf3bdc1f471e89eb5993f2aa693955ae81308cdb82f06d6c1053aa7d"},{"key":"k:AA==","signature":"s:AA==","text":"7343d295a4501b18cb2aacdf939c390184ca5ee33947b038095f35ed88b2812d"},{"key":"k:AA==","signature":"s:AA==","text":"df0627f11ec461548d5ef73f1678dd0497cc895cc9bcae66d17fea58073f6f16"},{"key":"k:AA==","signature":"s:AA==","text":"a92e20c65019fcc292833d838f060127d81d86c602b8020ae340e8efbbb346d6"},{"key":"k:AA==","signature":"s:AA==","text":"db333b9cbf3bdc1f471e89eb5993f2aa693955ae81308cdb82f06d6c1053aa7d"},{"key":"k:AA==","signature":"s:AA==","text":"343db15bb65bb003a01618c24a17bcfa3daf428f976055753bcfaf324ece59e2"},{"key":"k:AA==","signature":"s:AA==","text":"3dd355bd4ad7815b55ac859bc7fc4d0f320256cc36ce4c5fcbc1a300d0290b9b"},{"key":"k:AA==","signature":"s:AA==","text":"a92e20c65019fcc292833d838f060127d81d86c602b8020ae340e8efbbb346d6"},{"key":"k:AA==","signature":"s:AA==","text":"e9600897eca9f4eeb3ee44a52ebdbba4415d8bb130fd240e01e486f49916a5ff"},{"key":"k:AA==","signature":"s:AA==","text":"fd538b3f6dc0b1ae8b2fdea96bd459666fe4c2ec4132040142a29654b64b4708"},{"key":"k:AA==","signature":"s:AA==","text":"27e088e38f94718c66af805833fd9ef5fed68ee66824deceb6cbbffff1ed7c96"},{"key":"k:AA==","signature":"s:AA==","text":"a92e20c65019fcc292833d838f060127d81d86c602b8020ae340e8efbbb346d6"},{"key":"k:AA==","signature":"s:AA==","text":"db333b9cbf3bdc1f471e89eb5993f2aa693955ae81308cdb82f06d6c1053aa7d"},{"key":"k:AA==","signature":"s:AA==","text":"48b40925d66226438365f661235e230c60afd5932899c188cb200758e19116a4"},{"key":"k:AA==","signature":"s:AA==","text":"cc6c92e78950b7cbb1a3ebcb230fae1038c4c8df7ff561eb4295e3e89c7af0d9"},{"key":"k:AA==","signature":"s:AA==","text":"a92e20c65019fcc292833d838f060127d81d86c602b8020ae340e8efbbb346d6"},{"key":"k:AA==","signature":"s:AA==","text":"646b5d4e314c4f06c65153d32de004a3a14ab414eff5220814e11b438bba6bfb"},{"key":"k:AA==","signature":"s:AA==","text":"ee491b6565e1191ba118b687910416aa3aaeb7239c69493426760abec09b5a1a"},{"key":"k:AA==","signature":"s:AA==","text":"3e633fc63f3e9dd54528d749df5651857b5e235b7c3a7f65db52e3dbddf0f147"},{"key":"k:AA==","signature":"s:AA==","text":"a92e20c65019fcc292833d838f060127d81d86c602b8020ae340e8efbbb346d6"},{"key":"k:AA==","signature":"s:AA==","text":"db333b9cbf3bdc1f471e89eb5993f2aa693955ae81308cdb82f06d6c1053aa7d"},{"key":"k:AA==","signature":"s:AA==","text":"641078d3c738ff58f200cc3cc9c6382c433f758f641e781c464045b425fb2a32"},{"key":"k:AA==","signature":"s:AA==","text":"e8bbc65fe9610bd23a7c3d54ac5e0d69486c5072d4dc03b39f997f2d9797a6f8"}]"#;
 
-/// What the package that exports a type is linked into, in hex.
-pub const LINKED: &str =
-    "0061736d0d00010004180061736d0d0001000705016f0279790b070100017403000005040100000006060103000001740b0701000174030000";
+/// What is printed for a plan.
+pub const TYPES_PRINTED: &str =
+    "entry demo:app 1.1.0 sha256:191d8b6cf1703426361caf20b95d05b13018134aa737605635be82ca70b14196 named root\nlock 166 89f9cf7a11643cfa65456faed6694d0d9ca3277f2eb7d7684c27284d33fab98c\nbundle 74 acb281becb3ac95beaeae1b36c219c814d1c1b1b9a2065862e7cdd04440120b9\n";
+
+/// What a plan is linked into, in hex.
+pub const TYPES_LINKED: &str =
+    "0061736d0d000100070f014102016f0279790400017403000004180061736d0d0001000705016f0279790b070100017403000005040100000006060103000001740b0701000174030100";
+
+/// What is printed for a plan.
+pub const NOTHING_PRINTED: &str =
+    "entry demo:app 1.0.0 sha256:24eaf3439a60c96764c4f2c92a0a81b52bd4fe5d5b91f090184a0f6486b1bf29 named root\nlock 137 ec70a878367b3097958b8fa7b5f8feef78a7796596204bcdfb436b2219c11c95\nbundle 29 a6a8cff571cb0a9a95c98eb88cf82122488b0541eb6a092de18f017adaaa4d8a\n";
+
+/// What a plan is linked into, in hex.
+pub const NOTHING_LINKED: &str = "0061736d0d000100070301410004080061736d0d000100050401000000";
+
+/// What is printed for a plan.
+pub const GREATEST_PRINTED: &str =
+    "entry demo:app 1.10.0 sha256:24eaf3439a60c96764c4f2c92a0a81b52bd4fe5d5b91f090184a0f6486b1bf29 named root\nlock 138 e835015cfbf2fdf6296c2857c2bb770b9e7c4da0fa94ef4a0bb42b7217e8e550\nbundle 29 a6a8cff571cb0a9a95c98eb88cf82122488b0541eb6a092de18f017adaaa4d8a\n";
+
+/// What is printed for a plan.
+pub const OPEN_PRINTED: &str =
+    "entry demo:app 1.1.0 sha256:3b175a6168dc9b2a2ac9c3418348d0a67e7eeecc17ad462cbbee6449a73cd70b named root\nleft f\nlock 167 51912bf4020ddf941e831b8b488e3cef7ac2fdbbf0ee00551e9ab84266e8d424\nbundle 74 f0465de6832fae020a4d66e5606f77f1db2ef490b973c4491f2092ae68ad3f46\n";
+
+/// What a plan is linked into, in hex.
+pub const OPEN_LINKED: &str =
+    "0061736d0d000100070e014102014000007303000166010004170061736d0d000100070501400000730a06010001660100070501400000730a0601000166010105080100000101660100";
+
+/// What is printed for a plan.
+pub const WIRED_PRINTED: &str =
+    "entry demo:app 1.0.0 sha256:191d8b6cf1703426361caf20b95d05b13018134aa737605635be82ca70b14196 parsed demo:app@{<1.1.0}\nentry demo:app 1.1.0 sha256:a42c972d446034ce35a6668c134f3a70c00fa6df79eb0aa9b1a4f14dd70e4b49 named root\nlock 391 4497a9b7200de547e022f30bf1ee6b50307d06e42f464b614e54e5dab3626de2\nbundle 264 46e03598c9506b466ff1a1115cfe0545ac27380de4963d465b945c7d7b746ed6\n";
+
+/// What a plan is linked into, in hex.
+pub const WIRED_LINKED: &str =
+    "0061736d0d000100070f014102016f0279790400017403000004180061736d0d0001000705016f0279790b07010001740300000743014104014202016f02797904000174030000030020756e6c6f636b65642d6465703d3c64656d6f3a617070407b3c312e312e307d3e0500016f0279790400017403000104510061736d0d000100070f014202016f027979040001740300000a25010020756e6c6f636b65642d6465703d3c64656d6f3a617070407b3c312e312e307d3e050006060103000001740b0701000174030100052a0200000000010120756e6c6f636b65642d6465703d3c64656d6f3a617070407b3c312e312e307d3e050006060103000101740b0701000174030200";

@@ -9,11 +9,6 @@ use Rattle.compose_bundle.specs.Bundled.{AreComponents, content_in}
 abbrev Contents : Type 0 → Type 0
 Contents S = HashMap (List ℕ) (Bor (List ℕ)) S
 
-pub none_yet : {S : Type 0} (contents : Contents S) → contents.entries ≡ [] → AreComponents (content_in contents)
-none_yet contents is = λ name bytes found.
-    let none : content_in contents name ≡ None = rw is refl in
-    absurd cc
-
 pub one_more : {S : Type 0} (old new : Contents S) (key : List ℕ) (lent : Bor (List ℕ))
     → ((name : List ℕ) → get bytes_eq new name ≡ cond (bytes_eq key name) (Some lent) (get bytes_eq old name))
     → IsComponent lent.now

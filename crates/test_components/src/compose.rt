@@ -1,9 +1,10 @@
-//! Components from bytes and from files, and links. The bytes were written out by hand from the binary format.
+//! Components from bytes and from files. The bytes were written out by hand from the binary format.
 
 use std::alloc::Global;
 use std::test::Fail;
 use warg_base::{Files, MemoryFiles};
-use wasm_compose::{Component, ComponentError, ExportIndex, link_root};
+use wasm_compose::ComponentError;
+use wasm_compose::graph::{Component, ExportIndex};
 
 /// The header of a component.
 const EMPTY: &[u8] = b"\0asm\r\0\x01\0";
@@ -14,15 +15,8 @@ const TUPLE: &[u8] = b"\0asm\r\0\x01\0\x07\x05\x01\x6f\x02\x79\x79\x0b\x07\x01\0
 /// A component with a custom section.
 const CUSTOM: &[u8] = b"\0asm\r\0\x01\0\0\x04\x01xxx";
 
-/// A component that exports a nested component as `c`, and an instance as `i`.
-const PARTS: &[u8] =
-    b"\0asm\r\0\x01\0\x04\x08\0asm\r\0\x01\0\x05\x03\x01\x01\0\x0b\x0d\x02\0\x01c\x04\0\0\0\x01i\x05\0\0";
-
 /// A component that imports a component `c` of a type without declarations.
 const IMPORTS: &[u8] = b"\0asm\r\0\x01\0\x07\x03\x01\x41\0\x0a\x06\x01\0\x01c\x04\0";
-
-/// A component that exports a resource as `r`.
-const RESOURCE: &[u8] = b"\0asm\r\0\x01\0\x07\x04\x01\x3f\x7f\0\x0b\x07\x01\0\x01r\x03\0\0";
 
 /// A component that exports the tuple of two `u32` twice, as `t` and as `T`.
 const TWICE: &[u8] =
@@ -47,25 +41,6 @@ const FROM_FILES: &[(u64, &str, &str, &str)] = &[
     (2, "a", "root.wasm", "File(Failed)"),
     (2, "", "root.wasm", "BadName"),
     (3, "a", "twice.wasm", "BadComponent(Index(24))"),
-];
-
-/// The bytes of a component, and its link in hexadecimal digits, or why it is not linked.
-const LINKS: &[(&[u8], &str)] = &[
-    (EMPTY, "0061736d0d00010004080061736d0d000100050401000000"),
-    (
-        TUPLE,
-        "0061736d0d00010004180061736d0d0001000705016f0279790b070100017403000005040100000006060103000001740b0701000174030000",
-    ),
-    (
-        CUSTOM,
-        "0061736d0d000100040e0061736d0d000100000401787878050401000000",
-    ),
-    (
-        PARTS,
-        "0061736d0d00010004260061736d0d00010004080061736d0d00010005030101000b0d0200016304000000016905000005040100000006060104000001630b070100016304010006060105000001690b0701000169050100",
-    ),
-    (IMPORTS, "NotBuilt"),
-    (RESOURCE, "NotBuilt"),
 ];
 
 /// An answer in the words of a row.
@@ -107,20 +82,6 @@ fn from_file(alloc: Global, call: u64, name: &str, path: &str) -> Result<String,
     let mut files = files_for(alloc, path, call)?;
     let answer = Component::from_file(alloc, &mut files, name, path);
     answer_text(alloc, &answer)
-}
-
-/// The link of a component, in hexadecimal digits, or why it is not linked.
-fn link_text(alloc: Global, component: &Component<'_>) -> Result<String, Fail> {
-    match link_root(alloc, component) {
-        Ok(linked) => Ok(hex::encode(alloc, &linked)?),
-        Err(error) => Ok(format!(in alloc; "{error:?}")?),
-    }
-}
-
-/// The link of these bytes, in hexadecimal digits, or why they are not linked.
-fn linked(alloc: Global, bytes: &[u8]) -> Result<String, Fail> {
-    let component = Component::from_bytes(alloc, "a", bytes)?;
-    link_text(alloc, &component)
 }
 
 /// Fails at the first bytes of which taking them answers something else.
@@ -173,20 +134,4 @@ fn a_component_shows_what_it_exports(rt: HostRuntime) -> Result<(), Fail> {
     let text = export_text(rt.alloc(), &component)?;
     assert_eq!(rt; text.as_str(), "Some((\"t\", Ty, 0))");
     Ok(())
-}
-
-/// Fails at the first bytes whose link, or why they are not linked, is something else.
-fn are_linked(alloc: Global, rows: &[(&[u8], &str)]) -> Result<(), Fail> {
-    for (bytes, want) in rows {
-        let text = linked(alloc, bytes)?;
-        if text.as_str() != *want {
-            return Err(Fail::new(format_args!("{text} in place of {want}")));
-        }
-    }
-    Ok(())
-}
-
-#[test]
-fn links_nest_the_component_and_export_what_it_exports(rt: HostRuntime) -> Result<(), Fail> {
-    are_linked(rt.alloc(), LINKS)
 }

@@ -22,6 +22,10 @@ const IMPORTS: &[u8] = b"\0asm\r\0\x01\0\x07\x03\x01\x41\0\x0a\x06\x01\0\x01c\x0
 /// A component that exports a resource as `r`.
 const RESOURCE: &[u8] = b"\0asm\r\0\x01\0\x07\x04\x01\x3f\x7f\0\x0b\x07\x01\0\x01r\x03\0\0";
 
+/// A component that makes a resource, and imports an instance `n` that exports this resource as `r`.
+const BOUND: &[u8] =
+    b"\0asm\r\0\x01\0\x07\x12\x02\x3f\x7f\0\x42\x02\x02\x03\x02\x01\0\x04\0\x01r\x03\0\0\x0a\x06\x01\0\x01n\x05\x01";
+
 /// What links [`EMPTY`]: it is nested, and has one instance.
 const EMPTY_LINKED: &[u8] = b"\0asm\r\0\x01\0\x04\x08\0asm\r\0\x01\0\x05\x04\x01\0\0\0";
 
@@ -33,7 +37,15 @@ const TUPLE_LINKED: &[u8] =
 const CUSTOM_LINKED: &[u8] =
     b"\0asm\r\0\x01\0\x04\x0e\0asm\r\0\x01\0\0\x04\x01xxx\x05\x04\x01\0\0\0";
 
-/// The lines of these three.
+/// What links [`IMPORTS`]: `c` is imported, and given to the instance of what is nested.
+const IMPORTS_LINKED: &[u8] =
+    b"\0asm\r\0\x01\0\x07\x03\x01\x41\0\x0a\x06\x01\0\x01c\x04\0\x04\x15\0asm\r\0\x01\0\x07\x03\x01\x41\0\x0a\x06\x01\0\x01c\x04\0\x05\x08\x01\0\x01\x01\x01c\x04\0";
+
+/// What links [`RESOURCE`]: it is nested, has one instance, and `r` of that is exported again.
+const RESOURCE_LINKED: &[u8] =
+    b"\0asm\r\0\x01\0\x04\x17\0asm\r\0\x01\0\x07\x04\x01\x3f\x7f\0\x0b\x07\x01\0\x01r\x03\0\0\x05\x04\x01\0\0\0\x06\x06\x01\x03\0\0\x01r\x0b\x07\x01\0\x01r\x03\0\0";
+
+/// The lines of these five.
 const EMPTY_LINE: &str =
     "bytes 24 251c41b4a061e17112655e1ae12d851da9dbdef7499d0bd5b11cb933ca4fa8cd\n";
 
@@ -42,6 +54,12 @@ const TUPLE_LINE: &str =
 
 const CUSTOM_LINE: &str =
     "bytes 30 6698ba91dd3f88a69b6b2992e9723daddd355c1864c6f07c9f8f4119bc42fb4e\n";
+
+const IMPORTS_LINE: &str =
+    "bytes 54 67fe70aaa3058ee522d94471beb5fce9b34a0ab8d05f65212076216aa598b5c3\n";
+
+const RESOURCE_LINE: &str =
+    "bytes 56 06fda475ede42663551e476fe9653a740c812c38d87b50cc7911baee1486aff6\n";
 
 /// How a run ended: its status, what it printed, and the bytes of `out.wasm`, where there is such a file.
 #[derive(Drop)]
@@ -121,11 +139,15 @@ fn ends(
 }
 
 #[test]
-fn a_component_is_nested_and_exports_again_what_it_exports(rt: HostRuntime) -> Result<(), Fail> {
+fn a_component_is_nested_and_given_what_it_imports_and_exports_what_it_exports(
+    rt: HostRuntime,
+) -> Result<(), Fail> {
     let rows = [
         (EMPTY, EMPTY_LINE, EMPTY_LINKED),
         (TUPLE, TUPLE_LINE, TUPLE_LINKED),
         (CUSTOM, CUSTOM_LINE, CUSTOM_LINKED),
+        (IMPORTS, IMPORTS_LINE, IMPORTS_LINKED),
+        (RESOURCE, RESOURCE_LINE, RESOURCE_LINKED),
     ];
     for (root, line, written) in rows {
         assert!(rt;
@@ -137,15 +159,20 @@ fn a_component_is_nested_and_exports_again_what_it_exports(rt: HostRuntime) -> R
 }
 
 #[test]
-fn what_is_no_component_or_is_not_linked_yet_is_refused(rt: HostRuntime) -> Result<(), Fail> {
-    let rows: [(&str, &[u8], &str); 3] = [
+fn what_is_no_component_or_imports_a_resource_of_its_own_is_refused(
+    rt: HostRuntime,
+) -> Result<(), Fail> {
+    let rows: [(&str, &[u8], &str); 2] = [
         (
             "a core module",
             b"\0asm\x01\0\0\0",
             "refused BadComponent\n",
         ),
-        ("an import", IMPORTS, "refused NotBuilt\n"),
-        ("a resource", RESOURCE, "refused NotBuilt\n"),
+        (
+            "an import of its own resource",
+            BOUND,
+            "refused Incompatible\n",
+        ),
     ];
     for (name, root, line) in rows {
         assert!(rt; ends(rt.alloc(), of_root(root), 6, line, None)?, "{name}");

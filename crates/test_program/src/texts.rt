@@ -5,7 +5,7 @@ use std::alloc::Global;
 use std::rt::HostRuntime;
 use std::test::Fail;
 use warg_base::Text;
-use warg_program::{Access, Form, Stop};
+use warg_program::{Access, Form, Stop, Why};
 
 /// Fails where the text of a stop begins otherwise, or says no more.
 fn says(alloc: Global, stop: Stop<'_>, front: &str) -> Result<(), Fail> {
@@ -32,10 +32,11 @@ fn a_stop_names_the_file_and_says_what_to_do(rt: HostRuntime) -> Result<(), Fail
         "a.wasm: the file could not be written",
     )?;
     says(alloc, Stop::Fault(Access::Printed), "standard output: ")?;
+    let why = Why::NeedsUnbrought(Text::copy_of(alloc, "n")?);
     says(
         alloc,
-        Stop::NotBuilt { path },
-        "a.wasm: a component that imports something",
+        Stop::Incompatible { path, why },
+        "a.wasm: the import `n` mentions a type",
     )
 }
 

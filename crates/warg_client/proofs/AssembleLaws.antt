@@ -29,7 +29,9 @@ use Rattle.warg_compose.specs.Read.{IsComponent}
 use Rattle.comp_shape.specs.Refusal.{IsRefused}
 use Rattle.comp_shape.specs.declared.error.ShapeError.{ShapeError}
 use Rattle.warg_compose.specs.Linked.{IsComposeFault, IsLinkable}
+use Rattle.warg_compose.specs.Wired.{AreWired}
 use Rattle.warg_compose.specs.declared.error.ComposeError.{ComposeError}
+use Rattle.warg_compose.specs.declared.error.ComposeError.TheVariants as compose
 use Rattle.warg_complete.specs.ExchangeLaws.{exchanges_both}
 use Rattle.warg_complete.specs.Sessions.{ProvesSession}
 use Rattle.warg_complete.specs.Undisturbed.{IsUndisturbed, IsUnreplied}
@@ -169,9 +171,14 @@ module _ {T D : Type 0} (Steps : T → Asked → T → Type 0) (old new : Seen T
   Found = (accepts : Accepts) (asker : Registry → Asker) (w : Wanted) (known : Known) (parts : List Part) (es other : List Entry) (old new : Seen T D) → ProvesSession Steps accepts asker w known nothing_known parts es old
       → (found : Finds w (IsLearnt Steps IsComponent) old new other) → (other ≡ es) × (found.parts ≡ parts)
 
-  pub compose_short : Found → ((es : List Entry) (e : ComposeError) → IsLinkable es → IsComposeFault e es → compose_refusal e ≡ told.Memory) → (es : List Entry) (e : ComposeError) → Finds (wanted s) (IsLearnt Steps IsComponent) old new es
-      → IsComposeFault e es → (v : IsValidCall Steps old new text) → s ≡ v.settings → compose_refusal e ≡ told.Memory
-  compose_short law linked es e finds fault v same =
+  -- that a plan which can be linked is refused for want of memory alone
+  abbrev pub Linked : Type 0
+  Linked = (disallow : Bool) (es : List Entry) (e : ComposeError) → AreWired es → IsLinkable disallow es → IsComposeFault disallow e es → e ≡ compose.Memory
+
+  pub compose_short : Found → Linked → (es : List Entry) (e : ComposeError) → AreWired es → Finds (wanted s) (IsLearnt Steps IsComponent) old new es
+      → IsComposeFault s.disallow_imports e es → (v : IsValidCall Steps old new text) → s ≡ v.settings → compose_refusal e ≡ told.Memory
+  compose_short law linked es e wired finds fault v same =
       let here = subst (λ (t : Settings). Finds (wanted t) (IsLearnt Steps IsComponent) old new es) same finds in
       let is : es ≡ v.entries = (law old.accepts old.asker (wanted v.settings) v.known v.parts v.entries es old new v.proves here).0 in
-      linked v.entries e v.linkable (subst (IsComposeFault e) is fault)
+      let held : IsComposeFault v.settings.disallow_imports e v.entries = subst (λ (t : Settings). IsComposeFault t.disallow_imports e v.entries) same (subst (IsComposeFault s.disallow_imports e) is fault) in
+      ap compose_refusal (linked v.settings.disallow_imports v.entries e (subst AreWired is wired) v.linkable held)

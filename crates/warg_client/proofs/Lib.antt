@@ -1,1 +1,2 @@
 pub mod AssembleLaws
+pub mod FoundLaws

@@ -19,6 +19,7 @@ use Rattle.warg_learn.specs.Seen.{Seen, IsKnown}
 use Rattle.warg_learn.specs.Unlearnt.{IsUnlearnt}
 use Rattle.warg_learn.specs.declared.error.LearnError.{LearnError}
 use Rattle.warg_compose.specs.Linked.{IsComposeFault}
+use Rattle.warg_compose.specs.Open.{IsAllowed}
 use Rattle.warg_compose.specs.Read.{IsComponent}
 use Rattle.warg_compose.specs.declared.error.ComposeError.{ComposeError}
 use Rattle.warg_complete.specs.Plans.{compose_refusal, search_refusal}
@@ -33,6 +34,10 @@ wanted settings = record { settings = settings; root = Named (codes "root"); dep
 -- a client at the beginning of a call: no package was updated in it yet, and as many pages may be asked for as are set
 abbrev pub beginning : {T D : Type 0} → Settings → Seen T D → Seen T D
 beginning settings s = record s { updated = []; pages_left = settings.round_limit }
+
+-- where the settings of a text disallow imports, its plan leaves none open
+abbrev pub LeavesWhatIsAllowed : List ℕ → List Entry → Type 0
+LeavesWhatIsAllowed text es = (settings : PlanSettings) → IsPlanText text settings → IsAllowed settings.disallow_imports es
 
 module _ {T D : Type 0} (Steps : T → Asked → T → Type 0) (old new : Seen T D) where
   -- Since a moment, these entries were found to be the plan of a text's settings, by what was known then: the exchanges
@@ -67,7 +72,7 @@ module _ {T D : Type 0} (Steps : T → Asked → T → Type 0) (old new : Seen T
     pub finds : Finds (wanted settings) (IsLearnt Steps IsComponent) old new entries
     pub refusal : ComposeError
     pub told : e ≡ compose_refusal refusal
-    pub cause : IsComposeFault refusal entries
+    pub cause : IsComposeFault settings.disallow_imports refusal entries
 
   -- the search of the text's plan finds none, by what may be said where a decision is asked
   pub record IsSearchRefused (said : D → D → Bool → Bool) (e : ClientError) (settings : PlanSettings) : Type 0 where

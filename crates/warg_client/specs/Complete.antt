@@ -25,4 +25,4 @@ module _ {T D : Type 0} (Steps : T → Asked → T → Type 0) (old new : Seen T
     pub entries : List Entry
     pub proves : ProvesSession Steps old.accepts old.asker (wanted settings) known nothing_known parts entries old
     pub undisturbed : IsUndisturbed parts old new
-    pub linkable : IsLinkable entries
+    pub linkable : IsLinkable settings.disallow_imports entries

@@ -1,5 +1,5 @@
 -- What a client shows.
-use Rattle.std.specs.Prelude.{ℕ, Option}
+use Rattle.std.specs.Prelude.{ℕ, List, Option, option_map}
 use Rattle.warg_log.specs.Rules.{Accepts}
 use Rattle.warg_store.specs.Contents.{Contents}
 use Rattle.warg_store.specs.Entry.{Entry}
@@ -9,6 +9,7 @@ use Rattle.warg_api.specs.declared.client.Client.{Client as Asking}
 use Rattle.warg_plan.specs.declared.plan.Plan.{Plan}
 use Rattle.warg_learn.specs.Recording.{Transcript, transcript}
 use Rattle.warg_learn.specs.Seen.{Seen, Telling, seen}
+use Rattle.warg_client.specs.declared.client.Assembly.{Assembly}
 use Rattle.warg_client.specs.declared.client.Client.{Client}
 use Rattle.warg_client.specs.declared.settings.Settings.{Settings}
 
@@ -57,9 +58,19 @@ module _ {L R C N V D : Type 0} where
   abbrev pub settings_of : Client L R C N V D → Settings
   settings_of client = client.settings
 
-  -- the plan that it found last
+  -- what it assembled last: the plan, and its lock
+  abbrev pub assembly_of : Client L R C N V D → Option Assembly
+  assembly_of client = client.last
+
   abbrev pub plan_of : Client L R C N V D → Option Plan
-  plan_of client = client.last_plan
+  plan_of client = option_map (λ (a : Assembly). a.plan) client.last
+
+  -- the bytes of the lock, and the names of the imports that it leaves open
+  abbrev pub lock_of : Client L R C N V D → Option (List ℕ)
+  lock_of client = option_map (λ (a : Assembly). a.lock.bytes.items) client.last
+
+  abbrev pub left_of : Client L R C N V D → Option (List (List ℕ))
+  left_of client = option_map (λ (a : Assembly). a.lock.left.items) client.last
 
   -- all that is seen of it, by what its parts tell
   abbrev pub seen_by : {T : Type 0} → Telling L R C N V T → Client L R C N V D → Seen T D

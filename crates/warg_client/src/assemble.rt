@@ -4,6 +4,7 @@ ghost use Rattle.std.specs.Prelude.{◌≡◌, ◌⊎◌, Some, None, IfOk, IfEr
 ghost use Rattle.compose_config.specs.View.{settings_of as plan_settings};
 ghost use Rattle.warg_plan.specs.View.{plan_view};
 ghost use Rattle.warg_plan.specs.declared.plan.Plan.{Plan as Found};
+ghost use Rattle.warg_client.specs.declared.client.Assembly.{Assembly as Made};
 ghost use Rattle.warg_assemble.specs.Known.{Known};
 ghost use Rattle.warg_learn.specs.Stored.{IsOwnStore};
 ghost use Rattle.warg_learn.specs.Search.{Finds};
@@ -13,18 +14,19 @@ ghost use Rattle.warg_compose.specs.Linked.{IsPlanLinked};
 ghost use Rattle.warg_compose.specs.Read.{IsComponent};
 ghost use Rattle.warg_complete.specs.Undisturbed.{IsUnreplied};
 ghost use Rattle.warg_complete.specs.ClientError.TheVariants.{LinkFault as HasFailed, Memory as WantsMemory};
-ghost use Rattle.warg_client.specs.Assembled.{IsAssembleFault, IsPlanOfText, IsSearchRefused, beginning, wanted};
+ghost use Rattle.warg_client.specs.Assembled.{IsAssembleFault, IsPlanOfText, IsSearchRefused, LeavesWhatIsAllowed, beginning, wanted};
 ghost use Rattle.warg_client.specs.Complete.{IsValidCall};
-ghost use Rattle.warg_client.specs.Shown.{plan_of, registry_of, seen_by, settings_of, tells, verifier_of};
+ghost use Rattle.warg_client.specs.Shown.{assembly_of, plan_of, registry_of, seen_by, settings_of, tells, verifier_of};
 
-use crate::client::Client;
+use crate::client::{Assembly, Client};
 use compose_config::Config;
 use indexmap::IndexMap;
 use std::alloc::Global;
 use warg_api::Link;
-use warg_complete::laws::{linkable_plans_are_linked, proving_sessions_are_found};
+use warg_complete::laws::proving_sessions_are_found;
 use warg_complete::{ClientError, plan_text};
 use warg_compose::compose_plan;
+use warg_compose::laws::{linkable_plans_are_linked, plans_over_components_are_wired};
 use warg_hint::Decide;
 use warg_learn::search_plan;
 use warg_log::Verifier;
@@ -48,7 +50,7 @@ impl<
     {
         self.learner.updated = IndexMap::new(alloc);
         self.learner.pages_left = self.settings.round_limit;
-        self.last_plan = None;
+        self.last = None;
     }
 
     /// The plan of a text's settings.
@@ -71,11 +73,10 @@ impl<
     ///
     /// The text is read first. Then its plan is searched: each package is updated at its first need, under the registry
     /// that has it, and kept with what the update proves; of the log that is proved a release is chosen; and its content is
-    /// loaded from the store, or downloaded and kept. In the end the plan is linked. The plan is `last_plan` from then on;
-    /// after a refusal there is none.
+    /// loaded from the store, or downloaded and kept. In the end the plan is linked. The plan is `last_plan` from then on,
+    /// its lock `last_lock`, and what it leaves open `last_left`; after a refusal there is none.
     ///
-    /// The first fault is answered. `NotBuilt` tells that a hint at another registry would be followed or reported, or that
-    /// the plan has not one entry, or that its content imports something or exports what mentions a resource.
+    /// The first fault is answered. `NotBuilt` tells that a hint at another registry would be followed or reported.
     pub fn assemble(&mut self, alloc: Global, text: &str) -> Result<Vec<u8>, ClientError>
         ensures planned { IfOk result (λ _. (plan : Found) × (plan_of self.new ≡ Some plan)
             × IsPlanOfText L.Steps
@@ -83,8 +84,10 @@ impl<
             N.told N.faults) self.old))
             (seen_by (tells V.good L.told L.faults R.told R.faults C.told C.faults N.told N.faults) self.new)
             text.now (plan_view plan)) }
-        ensures linked { IfOk result (λ bytes. (plan : Found) × (plan_of self.new ≡ Some plan)
-            × IsPlanLinked (plan_view plan) bytes.items) }
+        ensures linked { IfOk result (λ bytes. (made : Made) × (assembly_of self.new ≡ Some made)
+            × IsPlanLinked (plan_view made.plan) made.lock.left.items made.lock.bytes.items bytes.items) }
+        ensures allowed { IfOk result (λ _. (plan : Found) × (plan_of self.new ≡ Some plan)
+            × LeavesWhatIsAllowed text.now (plan_view plan)) }
         ensures no_plan { OnErr result (plan_of self.new ≡ None) }
         ensures cause { IfErr result (λ e. IsAssembleFault L.Steps
             (beginning (settings_of self.old) (seen_by (tells V.good L.told L.faults R.told R.faults C.told C.faults
@@ -113,11 +116,15 @@ impl<
     {
         proving_sessions_are_found::<L, D>();
         linkable_plans_are_linked();
+        plans_over_components_are_wired();
         self.begin(alloc);
         let config = plan_text(alloc, text)?;
         let plan = self.find_plan(alloc, &config)?;
-        let bytes = compose_plan(alloc, &plan)?;
-        self.last_plan = Some(plan);
-        Ok(bytes)
+        let linked = compose_plan(alloc, &plan, config.disallow_imports)?;
+        self.last = Some(Assembly {
+            plan,
+            lock: linked.lock,
+        });
+        Ok(linked.bytes)
     }
 }

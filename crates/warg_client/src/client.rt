@@ -1,6 +1,6 @@
 //! A client of registries.
 
-ghost use Rattle.std.specs.Prelude.{◌≡◌, ◌≢◌, ◌≤◌, [], codes, true, Some, None, Ok, Err, IfOk, IfErr, IfSome, OnErr, option_copied};
+ghost use Rattle.std.specs.Prelude.{◌≡◌, ◌≢◌, ◌≤◌, [], codes, true, Some, None, Ok, Err, IfOk, IfErr, IfSome, OnErr, option_copied, option_map};
 ghost use Rattle.url.specs.declared.error.ParseError.{ParseError as Fault};
 ghost use Rattle.url.specs.Parts.{Parts, nonempty_host};
 ghost use Rattle.warg_url.specs.declared.error.UrlError.{UrlError};
@@ -12,14 +12,14 @@ ghost use Rattle.warg_learn.specs.Fetched.{IsLookupFault};
 ghost use Rattle.warg_learn.specs.Stored.{KnowsNames, KnowsRegistries, registry_for as registry_by_names};
 ghost use Rattle.warg_complete.specs.Calls.{url_refusal};
 ghost use Rattle.warg_client.specs.Errors.{IsOfStore};
-ghost use Rattle.warg_client.specs.Shown.{asking, said_by, registry_of, content_of, names_of, verifier_of, decider_of, settings_of, plan_of};
+ghost use Rattle.warg_client.specs.Shown.{asking, said_by, registry_of, content_of, names_of, verifier_of, decider_of, settings_of, assembly_of, left_of, lock_of, plan_of};
 
 use crate::settings::Settings;
 use indexmap::IndexMap;
 use std::alloc::Global;
 use warg_api::{Client as RegistryClient, Link};
 use warg_complete::ClientError;
-use warg_compose::ComponentReader;
+use warg_compose::{ComponentReader, Lock};
 use warg_exchange::Exchange;
 use warg_learn::{Learner, Recording, registry_for};
 use warg_plan::Plan;
@@ -34,8 +34,17 @@ pub struct Client<L, R, C, N, V, D> {
     pub(crate) learner: Learner<L, R, C, N, V, D, ComponentReader>,
     /// What is set for it.
     pub(crate) settings: Settings,
-    /// The plan that it found last.
-    pub(crate) last_plan: Option<Plan>,
+    /// What it assembled last.
+    pub(crate) last: Option<Assembly>,
+}
+
+/// What a component was assembled of.
+#[derive(Debug, Drop)]
+pub struct Assembly {
+    /// The plan.
+    pub plan: Plan,
+    /// The plan's lock.
+    pub lock: Lock,
 }
 
 impl<L: Link, R: Drop, C: Drop, N: Drop, V: Drop, D: Drop> Client<L, R, C, N, V, D> {
@@ -89,7 +98,7 @@ impl<L: Link, R: Drop, C: Drop, N: Drop, V: Drop, D: Drop> Client<L, R, C, N, V,
                 updated: IndexMap::new(alloc),
             },
             settings,
-            last_plan: None,
+            last: None,
         })
     }
 
@@ -128,18 +137,42 @@ impl<L: Link, R: Drop, C: Drop, N: Drop, V: Drop, D: Drop> Client<L, R, C, N, V,
         self.learner.link.exchanges()
     }
 
-    /// The plan that was found last.
+    /// The plan of what was assembled last.
     pub fn last_plan(&self) -> Option<&Plan>
         ensures { option_copied result ≡ plan_of self.now }
     {
-        self.last_plan.as_ref()
+        match &self.last {
+            Some(made) => Some(&made.plan),
+            None => None,
+        }
     }
 
-    /// The plan that was found last, without the client.
-    pub fn into_plan(self) -> Option<Plan>
-        ensures { result ≡ plan_of self }
+    /// The lock of what was assembled last: a component that imports those of the plan's releases, each under the name of
+    /// its release.
+    pub fn last_lock(&self) -> Option<&[u8]>
+        ensures { option_map (λ bytes. bytes.now) result ≡ lock_of self.now }
     {
-        self.last_plan
+        match &self.last {
+            Some(made) => Some(&made.lock.bytes),
+            None => None,
+        }
+    }
+
+    /// The names of the imports that what was assembled last leaves open, in the order in which the lock has them.
+    pub fn last_left(&self) -> Option<&[Text]>
+        ensures { option_map (λ names. names.now) result ≡ left_of self.now }
+    {
+        match &self.last {
+            Some(made) => Some(&made.lock.left),
+            None => None,
+        }
+    }
+
+    /// What was assembled last, without the client.
+    pub fn into_assembly(self) -> Option<Assembly>
+        ensures { result ≡ assembly_of self }
+    {
+        self.last
     }
 
     /// The stores: those of registries, of contents and of the registries of namespaces.

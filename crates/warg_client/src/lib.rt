@@ -5,6 +5,7 @@ mod assemble;
 mod client;
 mod settings;
 
-pub use client::Client;
+pub use client::{Assembly, Client};
 pub use settings::Settings;
 pub use warg_complete::{ClientError, Other, PlanFault};
+pub use warg_compose::Lock;

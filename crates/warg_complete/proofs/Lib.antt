@@ -1,6 +1,5 @@
 pub mod PartLaws
 pub mod LearntLaws
 pub mod FaultLaws
-pub mod LinkLaws
 pub mod UndisturbedLaws
 pub mod SearchLaws

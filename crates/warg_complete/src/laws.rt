@@ -18,10 +18,8 @@ ghost use Rattle.warg_learn.specs.Learnt.{IsLearnt};
 ghost use Rattle.warg_learn.specs.Seen.{Seen};
 ghost use Rattle.warg_learn.specs.Unlearnt.{IsUnlearnt};
 ghost use Rattle.warg_learn.specs.declared.error.LearnError.{LearnError as Cause};
-ghost use Rattle.warg_compose.specs.Linked.{IsComposeFault, IsLinkable};
 ghost use Rattle.warg_compose.specs.Read.{IsComponent};
-ghost use Rattle.warg_compose.specs.declared.error.ComposeError.{ComposeError as Unlinked};
-ghost use Rattle.warg_error.specs.Plans.{compose_refusal, search_refusal};
+ghost use Rattle.warg_error.specs.Plans.{search_refusal};
 ghost use Rattle.warg_error.specs.declared.error.ClientError.TheVariants.{LinkFault as HasFailed, Memory as WantsMemory};
 ghost use Rattle.warg_course.specs.Replies.{GivesReplies};
 ghost use Rattle.warg_complete.specs.Sessions.{ProvesSession, IsFirstOf};
@@ -48,15 +46,6 @@ pub fn one_part<L: Link>()
     proving_replies_are_taken::<L>();
     downloading_replies_are_taken::<L>();
     one_shape();
-}
-
-/// A plan that can be linked is linked, but for want of memory.
-pub fn linkable_plans_are_linked()
-    ensures { (es : List Entry) (e : Unlinked) → IsLinkable es → IsComposeFault e es
-        → compose_refusal e ≡ WantsMemory }
-{
-    one_shape();
-    shapes_are_read();
 }
 
 /// Over a link that gives the replies of a session, what a search has learnt so far are the first parts of the session,

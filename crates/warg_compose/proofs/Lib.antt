@@ -1,1 +1,16 @@
-pub mod FaultLaws
+mod NameLaws
+mod WireLaws
+mod CircleLaws
+mod LeftLaws
+mod DigestLaws
+mod PlanLaws
+mod ComponentLaws
+mod OwnNameLaws
+mod CompositionLaws
+mod ReleaseLaws
+mod ContentLaws
+mod OpenLaws
+mod LinkLaws
+mod LockLaws
+mod StepLaws
+mod EntryLaws

@@ -1,5 +1,7 @@
 pub mod Read
+pub mod Composed
+pub mod Wired
+pub mod Open
+pub mod Left
 pub mod Linked
-pub mod Refusals
-pub use Rattle.wasm_compose.specs.Link
-pub use Rattle.wasm_compose.specs.Open
+pub mod Held

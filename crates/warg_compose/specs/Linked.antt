@@ -1,66 +1,99 @@
 -- The component that a plan makes, and why none is made.
-use Rattle.std.specs.Prelude.{◌≡◌, ◌≤◌, ◌⊎◌, ◌^◌, ℕ, List, [], ◌∷◌}
-use Rattle.comp_encoder.specs.Writing.{component_text}
-use Rattle.comp_entity.specs.Entity.{ShapeTree}
-use Rattle.wasm_compose.specs.Shape.{HasShape}
-use Rattle.wasm_compose.specs.ShapeRefusal.{IsRefused}
-use Rattle.wasm_compose.specs.Link.{IsLinked, IsOfLink, LinkFits, link_exports, link_items, singles}
-use Rattle.wasm_compose.specs.Open.{IsOpen}
+use Rattle.std.specs.Prelude.{◌≡◌, ◌⊎◌, ℕ, ◌<◌, ◌^◌, Bool, true, false, List, map, Option, Some}
+use Rattle.compose_bundle.specs.Bundled.{IsBundled}
+use Rattle.compose_bundle.specs.Refusing.{IsTooLarge}
+use Rattle.compose_bundle.specs.Whole.{IsWholeBundle}
+use Rattle.compose_check.specs.Composition.{CompositionTree}
+use Rattle.compose_check.specs.declared.error.CheckError.TheVariants as check
+use Rattle.compose_encode.specs.Encoded.{IsOfWritten}
+use Rattle.compose_encode.specs.Whole.{CanBeEncoded, IsRefusedBy, IsTooLargeIn, IsWhole}
+use Rattle.compose_order.specs.Needs.{LeftTree}
 use Rattle.warg_plan.specs.Walk.{Entry}
+use Rattle.warg_compose.specs.Composed.{IsComposed, content_of, root_of}
+use Rattle.warg_compose.specs.Open.{IsAllowed, first_open}
+use Rattle.warg_compose.specs.Wired.{AreWired}
+use Rattle.warg_compose.specs.declared.lock.Lock.{Lock}
 use Rattle.warg_compose.specs.declared.error.ComposeError.{ComposeError}
 use Rattle.warg_compose.specs.declared.error.ComposeError.TheVariants as error
 
--- a plan has this entry alone, whose content is a component of this shape
-pub record IsSingle (es : List Entry) (e : Entry) (tree : ShapeTree) : Type 0 where
-  pub only : es ≡ e ∷ []
-  pub has_shape : HasShape e.content tree
+-- The lock is a plan's: its composition with its components imported. The wires fit, and what is left open agrees. The names
+-- are those of what is left open, in the order in which the lock imports it. The bytes are the lock, bundled with the contents
+-- of the releases. Both have exactly one reading, whose link image is the composition's, with what the root exports: that of
+-- the lock with the components imported, that of the bytes with them defined.
+pub record IsPlanLinked (es : List Entry) (left : List (List ℕ)) (lock bytes : List ℕ) : Type 0 where
+  pub composition : CompositionTree
+  pub composed : IsComposed es composition
+  pub locked : IsWhole composition false (root_of es) lock
+  pub open_names : left ≡ map (λ (l : LeftTree). l.name) locked.lefts
+  pub bundled : IsBundled (content_of es) lock bytes
+  pub whole : IsWholeBundle composition (root_of es) locked.order bytes
 
--- The bytes have exactly one reading, whose image is that of the plan: it nests the content of the plan's one entry, makes
--- one instance of it, without arguments and imports, and exports what that exports. The bytes are the shortest text of
--- these items.
-pub record IsPlanLinked (es : List Entry) (bytes : List ℕ) : Type 0 where
-  pub entry : Entry
-  pub tree : ShapeTree
-  pub single : IsSingle es entry tree
-  pub not_open : IsOpen tree → ⊥
-  pub is_linked : IsLinked entry.content (link_exports tree) bytes
-  pub text : bytes ≡ component_text (singles (link_items entry.content (link_exports tree)))
+-- A plan that can be linked: no import is left open that is disallowed, its composition can be encoded with its components
+-- imported, each number of that is below 2 ^ 32, and so is each number of what it is bundled as.
+pub record IsLinkable (disallow : Bool) (es : List Entry) : Type 0 where
+  pub allowed : IsAllowed disallow es
+  pub composition : CompositionTree
+  pub composed : IsComposed es composition
+  pub order : List ℕ
+  pub lefts : List LeftTree
+  pub possible : CanBeEncoded composition false (root_of es) order lefts
+  pub small : (n : ℕ) → IsOfWritten n composition false (root_of es) order lefts → n < 2 ^ 32
+  pub bundle_small : (lock : List ℕ) (n : ℕ) → IsWhole composition false (root_of es) lock
+      → IsTooLarge n (content_of es) lock → ⊥
 
--- a plan that can be linked: its one entry's content is a component that imports nothing and exports nothing that mentions
--- a resource, and what is linked can be written
-pub record IsLinkable (es : List Entry) : Type 0 where
-  pub entry : Entry
-  pub tree : ShapeTree
-  pub single : IsSingle es entry tree
-  pub not_open : IsOpen tree → ⊥
-  pub fits : LinkFits entry.content (link_exports tree)
+-- ---- by the composition
 
--- a plan that is not linked yet: it has not one entry; or its entry's content imports something, or exports what mentions
--- a resource
-abbrev pub IsNotBuilt : List Entry → Type 0
-IsNotBuilt (e ∷ []) = (tree : ShapeTree) × HasShape e.content tree × IsOpen tree
-IsNotBuilt es = Unit {0}
+-- a composition is that of a plan whose root is this instance
+pub record IsOfPlan (c : CompositionTree) (root : Option ℕ) : Type 0 where
+  pub entries : List Entry
+  pub wired : AreWired entries
+  pub composed : IsComposed entries c
+  pub rooted : root ≡ root_of entries
 
--- the number is a length or a count of what is linked, and can't be written
-pub record IsTooLarge (es : List Entry) (number : ℕ) : Type 0 where
-  pub entry : Entry
-  pub tree : ShapeTree
-  pub single : IsSingle es entry tree
-  pub not_open : IsOpen tree → ⊥
-  pub above : 2 ^ 32 ≤ number
-  pub which : IsOfLink number entry.content (link_exports tree)
-  pub does_not_fit : LinkFits entry.content (link_exports tree) → ⊥
+-- the lock of a composition, with the names of what is left open
+pub record IsLock (c : CompositionTree) (root : Option ℕ) (lock : Lock) : Type 0 where
+  pub whole : IsWhole c false root lock.bytes.items
+  pub open_names : lock.left.items ≡ map (λ (l : LeftTree). l.name) whole.lefts
 
--- why a content is not taken as a component. Want of memory says nothing
-abbrev pub IsContentFault : ComposeError → List ℕ → Type 0
-IsContentFault error.NotBuilt bytes = ⊥
-IsContentFault (error.BadComponent e) bytes = IsRefused e bytes
-IsContentFault (error.TooLarge number) bytes = ⊥
-IsContentFault error.Memory bytes = Unit {0}
+-- why there is no lock of a composition
+abbrev pub IsUnlocked : CompositionTree → Option ℕ → ComposeError → Type 0
+IsUnlocked c root (error.ImportsDisallowed name) = ⊥
+IsUnlocked c root (error.Incompatible why) = IsRefusedBy c false root (check.Incompatible why)
+IsUnlocked c root (error.TooLarge number) = IsTooLargeIn c false root number
+IsUnlocked c root error.Memory = Unit {0}
+
+-- why a lock is not bundled
+abbrev pub IsUnbundled : (List ℕ → Option (List ℕ)) → List ℕ → ComposeError → Type 0
+IsUnbundled content lock (error.ImportsDisallowed name) = ⊥
+IsUnbundled content lock (error.Incompatible why) = ⊥
+IsUnbundled content lock (error.TooLarge number) = IsTooLarge number content lock
+IsUnbundled content lock error.Memory = Unit {0}
+
+-- ---- refusals, each with what held of those before it
+
+-- an import is left open, of which this is the first, and none may be
+pub record IsDisallowed (disallow : Bool) (es : List Entry) (name : List ℕ) : Type 0 where
+  pub disallowed : disallow ≡ true
+  pub first : first_open es ≡ Some name
+
+-- a number is one of what the lock of a composition is bundled as, and can't be written
+pub record IsTooLargeBundled (es : List Entry) (c : CompositionTree) (number : ℕ) : Type 0 where
+  pub lock : List ℕ
+  pub locked : IsWhole c false (root_of es) lock
+  pub large : IsTooLarge number (content_of es) lock
+
+-- for a plan's composition, and what it leaves open may be left open
+pub record IsOfComposition (disallow : Bool) (es : List Entry) (P : CompositionTree → Type 0) : Type 0 where
+  pub allowed : IsAllowed disallow es
+  pub composition : CompositionTree
+  pub composed : IsComposed es composition
+  pub holds : P composition
 
 -- why a plan is not linked. Want of memory says nothing
-abbrev pub IsComposeFault : ComposeError → List Entry → Type 0
-IsComposeFault error.NotBuilt es = IsNotBuilt es
-IsComposeFault (error.BadComponent e) es = (entry : Entry) × (es ≡ entry ∷ []) × IsRefused e entry.content
-IsComposeFault (error.TooLarge number) es = IsTooLarge es number
-IsComposeFault error.Memory es = Unit {0}
+abbrev pub IsComposeFault : Bool → ComposeError → List Entry → Type 0
+IsComposeFault disallow (error.ImportsDisallowed name) es = IsDisallowed disallow es name
+IsComposeFault disallow (error.Incompatible why) es =
+    IsOfComposition disallow es (λ c. IsRefusedBy c false (root_of es) (check.Incompatible why))
+IsComposeFault disallow (error.TooLarge number) es =
+    IsOfComposition disallow es (λ c. IsTooLargeIn c false (root_of es) number ⊎ IsTooLargeBundled es c number)
+IsComposeFault disallow error.Memory es = Unit {0}

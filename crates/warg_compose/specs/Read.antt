@@ -1,7 +1,7 @@
 -- Contents that are components.
 use Rattle.std.specs.Prelude.{◌≡◌, ℕ, List, map}
 use Rattle.comp_entity.specs.Entity.{EntityTree, ShapeTree}
-use Rattle.wasm_compose.specs.Shape.{HasShape}
+use Rattle.comp_shape.specs.Shape.{HasShape}
 use Rattle.warg_plan.specs.Walk.{Content}
 
 -- the names of what a component imports or exports

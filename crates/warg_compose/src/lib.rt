@@ -2,10 +2,17 @@
 #![tactic(auto)]
 
 mod error;
-mod plan;
+pub mod laws;
+mod link;
+mod lock;
+mod open;
 mod reader;
+mod releases;
+mod wires;
 
+pub use comp_shape::ShapeError;
+pub use compose_check::Why;
 pub use error::ComposeError;
-pub use plan::compose_plan;
+pub use link::{Linked, compose_plan};
+pub use lock::Lock;
 pub use reader::ComponentReader;
-pub use wasm_compose::ShapeError;

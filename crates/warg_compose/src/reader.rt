@@ -2,14 +2,15 @@
 
 ghost use Rattle.std.specs.Prelude.{◌≡◌, IfOk, IfErr, map};
 ghost use Rattle.comp_entity.specs.Views.{named_entities};
-ghost use Rattle.wasm_compose.specs.ShapeRefusal.{IsRefused};
+ghost use Rattle.comp_shape.specs.Refusal.{IsRefused};
 ghost use Rattle.warg_compose.specs.Read.{IsComponent, names_in};
 
+use comp_entity::Entity;
+use comp_shape::{ShapeError, read_shape};
 use std::alloc::Global;
 use warg_assemble::ContentReader;
 use warg_plan::Content;
 use warg_values::{Memory, Text};
-use wasm_compose::{Entity, ShapeError, read_shape};
 
 /// Reads contents as WebAssembly components.
 #[derive(Clone, Copy, Debug, PartialEq, Eq, Drop)]

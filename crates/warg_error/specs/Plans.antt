@@ -47,7 +47,7 @@ search_refusal search.Memory = error.Memory
 
 -- that a plan is not linked
 abbrev pub compose_refusal : ComposeError → ClientError
-compose_refusal compose.NotBuilt = error.NotBuilt
-compose_refusal (compose.BadComponent e) = shape_refusal e
+compose_refusal (compose.ImportsDisallowed name) = error.ImportsDisallowed name
+compose_refusal (compose.Incompatible why) = error.Incompatible why
 compose_refusal (compose.TooLarge number) = error.TooLarge number
 compose_refusal compose.Memory = error.Memory

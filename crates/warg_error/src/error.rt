@@ -3,6 +3,7 @@
 use comp_shape::ShapeError;
 use thiserror::Error;
 use warg_api::ClientError as CallError;
+use warg_compose::Why;
 use warg_hash::{AnyHash, KeyId, LogId, PackageName};
 use warg_log::ValidationError;
 use warg_plan::PlanKey;
@@ -83,8 +84,14 @@ pub enum ClientError {
     /// An instance needs itself.
     #[error("an instance needs itself: take out an argument or an import on the way back to it")]
     DependencyCycle(PlanKey),
+    /// The import of this name is left open, and the text disallows imports.
+    #[error("`{0}` is left open, and the plan disallows imports: give it an argument, or allow imports")]
+    ImportsDisallowed(Text),
+    /// What is wired, or left open, does not go together.
+    #[error("the plan: {0}")]
+    Incompatible(Why),
     /// What is asked for is not built yet.
-    #[error("hints at other registries, and plans of several packages, with open imports or with resources in exports, are not supported yet")]
+    #[error("hints at other registries are not supported yet: ask the registry that has the package")]
     NotBuilt,
     /// The registry has no such package.
     #[error("the registry has no package {name}: check the package's name and the registry")]

@@ -72,8 +72,8 @@ impl From<ComposeError> for ClientError {
 
     fn from(error: ComposeError) -> ClientError {
         match error {
-            ComposeError::NotBuilt => ClientError::NotBuilt,
-            ComposeError::BadComponent(error) => ClientError::from(error),
+            ComposeError::ImportsDisallowed(name) => ClientError::ImportsDisallowed(name),
+            ComposeError::Incompatible(why) => ClientError::Incompatible(why),
             ComposeError::TooLarge(number) => ClientError::TooLarge(number),
             ComposeError::Memory => ClientError::Memory,
         }

@@ -126,6 +126,7 @@ module _ {T D : Type 0} (Steps : T → Asked → T → Type 0) (old new : Seen T
         registries = record { held = all.registries.held; tells = taught.rest.registries ∙ all.registries.tells; operators = all.registries.operators; checkpoints = all.registries.checkpoints };
         names = subst (λ o. IfSome o CanBeRead) (sym taught.rest.names) all.names;
       };
+      content = record { digest = ap sha256 same ∙ taught.digest_is; reads = reads };
       right = λ known k.
           let f = taught.fetched known k.contents in
           let xs = since_is old.transcript new.transcript f.exchanges f.kept.exchanges in

@@ -139,6 +139,7 @@ module _ {T D : Type 0} (Steps : T → Asked → T → Type 0) (old new : Seen T
       same = taught.way.same;
       never_falls = taught.way.never_falls;
       reads = λ all. record { registries = reads all.registries; names = subst (λ o. IfSome o CanBeRead) (sym taught.way.names) all.names };
+      content = record {};
       right = λ known k.
           let f = taught.fetched known k.stores in
           let xs = since_is old.transcript new.transcript f.0 f.1.kept.exchanges in

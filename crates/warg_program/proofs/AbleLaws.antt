@@ -1,5 +1,5 @@
 -- Where a command can do what it is for, only memory can be short.
-use Rattle.std.proofs.Common.{◌≡◌, ◌∙◌, inl, inr, ap, sym, subst, ℕ, List, None, Result, Ok, Err, IfSome}
+use Rattle.std.proofs.Common.{◌≡◌, ◌∙◌, inl, inr, ap, refl, sym, subst, ℕ, List, None, Result, Ok, Err, IfSome}
 use Rattle.std.specs.List.Sorted.{IsPermutation}
 use Rattle.warg_values.specs.Faults.{Rose}
 use Rattle.warg_base.specs.Files.{file_at}
@@ -20,7 +20,7 @@ use Rattle.warg_program.specs.declared.stop.Form.TheVariants as form
 use Rattle.warg_program.specs.declared.stop.Stop.{Stop}
 use Rattle.warg_program.specs.declared.stop.Stop.TheVariants as stop
 use Rattle.warg_program.proofs.CommandLaws.{is_assemble}
-use Rattle.warg_program.proofs.StopLaws.{no_some, short_of_memory, there_is, undelivered_short}
+use Rattle.warg_program.proofs.StopLaws.{Unwritten, link_short, no_some, there_is, undelivered_short}
 
 ok_is : {A E : Type 0} (x y : A) → ◌≡◌ {A = Result A E} (Ok x) (Ok y) → x ≡ y
 ok_is x y e = cc e
@@ -81,7 +81,6 @@ assembles_short s words before after can calm (inr c) =
     by other last sources (inl r) = assembly_short words before.files after.files can calm.files s (subst (λ o. IsAssemblyCause s o before.files after.files) (sym sources) r.cause)
     by other last sources (inr u) = undelivered_short s last u.bytes u.lines before after calm.files calm.output u.undelivered
 
-pub able_short : ((bytes : List ℕ) (a b : ShapeTree) → HasShape bytes a → HasShape bytes b → a ≡ b) → (s : Stop) (words : List (List ℕ)) (before after : World) → IsAble words before.files → IsUnfailing before after → IsStopped s words before after → IsShortOfMemory s
-able_short one s words before after (inl can) calm stopped =
-    short_of_memory one can.has.held can.bytes can.tree can.has_shape can.not_open can.fits s words can.root can.out before after can.command can.has.told can.has.there calm.files calm.output stopped
-able_short one s words before after (inr can) calm stopped = assembles_short s words before after can calm stopped
+pub able_short : ((bytes : List ℕ) (a b : ShapeTree) → HasShape bytes a → HasShape bytes b → a ≡ b) → Unwritten → (s : Stop) (words : List (List ℕ)) (before after : World) → IsAble words before.files → IsUnfailing before after → IsStopped s words before after → IsShortOfMemory s
+able_short one unwritten s words before after (inl can) calm stopped = link_short one unwritten words before.files can s before after refl calm stopped
+able_short one unwritten s words before after (inr can) calm stopped = assembles_short s words before after can calm stopped

@@ -2,3 +2,4 @@ mod AbleLaws
 mod CommandLaws
 mod SourceLaws
 mod StopLaws
+mod RootLaws

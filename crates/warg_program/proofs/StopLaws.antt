@@ -1,16 +1,26 @@
 -- What a stop means for the files, and when nothing but memory can be short.
-use Rattle.std.proofs.Common.{◌≡◌, ◌∙◌, ◌≤◌, ◌⊎◌, inl, inr, refl, ap, sym, subst, arith, ℕ, List, Some, None, Option, IfSome}
+use Rattle.std.proofs.Common.{◌≡◌, ◌∙◌, ◌≤◌, ◌<◌, ◌^◌, ◌⊎◌, inl, inr, false, refl, ap, sym, subst, arith, ℕ, List, Some, None, Option, IfSome}
 use Rattle.std.proofs.lemmas.Option.{same_Some}
 use Rattle.warg_values.specs.Faults.{Rose}
 use Rattle.warg_base.specs.Files.{FileMap, LeavesPartlyWritten, file_at, with_file}
 use Rattle.comp_entity.specs.Entity.{ShapeTree}
 use Rattle.comp_shape.specs.Shape.{HasShape}
-use Rattle.wasm_compose.specs.Link.{LinkFits, link_exports}
-use Rattle.wasm_compose.specs.Open.{IsOpen}
-use Rattle.warg_program.specs.World.{SeenFiles, SeenOutput, World, HasFile, SameFiles, Writes, WritesPartly}
-use Rattle.warg_program.specs.Command.{Asked, Link, IsCommand, out_of}
+use Rattle.compose_check.specs.declared.error.CheckError.TheVariants as check
+use Rattle.compose_complete.specs.Unwritten.{IsExported, IsUnwrittenGraph}
+use Rattle.compose_encode.specs.Whole.{CanBeEncoded}
+use Rattle.compose_graph.specs.Composed.{composed}
+use Rattle.compose_graph.specs.Encoding.{IsComposeRefusal, export_place}
+use Rattle.compose_graph.specs.Graph.{GraphTree}
+use Rattle.compose_graph.specs.Kept.{IsGraph}
+use Rattle.compose_graph.specs.declared.compose_error.ComposeError.{ComposeError}
+use Rattle.compose_graph.specs.declared.compose_error.ComposeError.TheVariants as compose
+use Rattle.compose_graph.specs.declared.options.EncodeOptions.{EncodeOptions}
+use Rattle.compose_order.specs.Needs.{LeftTree}
+use Rattle.warg_program.specs.Able.{CanLink}
+use Rattle.warg_program.specs.World.{SeenFiles, SeenOutput, World, HasFile, IsUnfailing, SameFiles, Writes, WritesPartly}
+use Rattle.warg_program.specs.Command.{Asked, Link, out_of}
 use Rattle.warg_program.specs.Delivery.{HoldsMade, IsWriteCause, IsPrintCause, IsUndelivered}
-use Rattle.warg_program.specs.Link.{IsLinkCause}
+use Rattle.warg_program.specs.Link.{IsLinkCause, IsRoot, IsUnencoded, root_graph, root_options}
 use Rattle.warg_program.specs.Run.{Holds, Makes, Stops, IsDone, IsStopped, IsShortOfMemory, MayHold}
 use Rattle.warg_program.specs.Stop.{status_of}
 use Rattle.warg_program.specs.declared.stop.Stop.{Stop}
@@ -65,41 +75,57 @@ pub undelivered_short : (s : Stop) (out bytes lines : List ℕ) (before after : 
 undelivered_short s out bytes lines before after files output (inl o) = write_short s out before.files after.files files o.cause
 undelivered_short s out bytes lines before after files output (inr l) = print_short s before.output after.output output l.cause
 
--- A component that is there, has a shape that is not open, and fits: so only memory was short, where no call of the files
+-- A component that is there, and of which one instance can be encoded: so only memory was short, where no call of the files
 -- failed.
-module _ (one_shape : (bytes : List ℕ) (a b : ShapeTree) → HasShape bytes a → HasShape bytes b → a ≡ b) (held : FileMap) (bytes : List ℕ) (tree : ShapeTree) (x : HasShape bytes tree) (not_open : IsOpen tree → ⊥) (fits : LinkFits bytes (link_exports tree)) where
+abbrev pub Unwritten : Type 0
+Unwritten = (g : GraphTree) (o : EncodeOptions) (order : List ℕ) (lefts : List LeftTree) (e : ComposeError) → IsGraph g → IsExported g o → o.validate ≡ false
+    → CanBeEncoded (composed g) o.define_components (export_place g o) order lefts → IsComposeRefusal g o e → IsUnwrittenGraph g o order lefts e
+
+root_is_graph : (bytes : List ℕ) (tree : ShapeTree) → IsGraph (root_graph bytes tree)
+root_is_graph bytes tree = record {
+  component_ids = (omega arith, omega arith);
+  instance_ids = (omega arith, omega arith);
+  names = (refl, tt);
+  made = (refl, tt);
+  joined = tt;
+  apart = tt;
+}
+
+module _ (one_shape : (bytes : List ℕ) (a b : ShapeTree) → HasShape bytes a → HasShape bytes b → a ≡ b) (unwritten : Unwritten) (words : List (List ℕ)) (files : SeenFiles) (can : CanLink words files) where
   -- the shape of what is there
-  shape_there : (others : List ℕ) (other : ShapeTree) → others ≡ bytes → HasShape others other → other ≡ tree
-  shape_there others other same h = one_shape bytes other tree (subst (λ found. HasShape found other) same h) x
+  root_is : (P : List ℕ → ShapeTree → Type 0) (root bytes : List ℕ) (tree : ShapeTree) → root ≡ can.root → IsRoot files root bytes tree → P bytes tree → P can.bytes can.tree
+  root_is P root bytes tree same is holds =
+      let found : bytes ≡ can.bytes = there_is files can.has.held root can.bytes bytes can.has.told (ap (file_at can.has.held) same ∙ can.has.there) is.there in
+      let shapes : tree ≡ can.tree = one_shape can.bytes tree can.tree (subst (λ bs. HasShape bs tree) found is.has_shape) can.has_shape in
+      subst (P can.bytes) shapes (subst (λ bs. P bs tree) found holds)
 
-  cause_short : (s : Stop) (root out : List ℕ) (before after : SeenFiles) → before.held ≡ Some held → file_at held root ≡ Some bytes → (Rose before.faults after.faults → ⊥) → IsLinkCause s root out before after → IsShortOfMemory s
-  cause_short (stop.Missing path) root out before after e is none h =
-      absurd (no_some (file_at held root) bytes (subst (λ t. IfSome t (λ files. file_at files root ≡ None)) e h.1) is)
-  cause_short (stop.Fault (access.Read path)) root out before after e is none h = absurd (none h.1)
-  cause_short (stop.BadComponent path error) root out before after e is none h =
-      absurd (h.1.no_shape tree (subst (λ others. HasShape others tree) (sym (there_is before held root bytes h.1.bytes e is h.1.there)) x))
-  cause_short (stop.NotBuilt path) root out before after e is none h =
-      let same = there_is before held root bytes h.1.bytes e is h.1.is_root.there in
-      absurd (not_open (subst IsOpen (shape_there h.1.bytes h.1.tree same h.1.is_root.has_shape) h.1.is_open))
-  cause_short (stop.TooLarge path number) root out before after e is none h =
-      let same = there_is before held root bytes h.1.bytes e is h.1.is_root.there in
-      let shape = shape_there h.1.bytes h.1.tree same h.1.is_root.has_shape in
-      absurd (h.1.does_not_fit (subst (λ others. LinkFits others (link_exports h.1.tree)) (sym same) (subst (λ other. LinkFits bytes (link_exports other)) (sym shape) fits)))
-  cause_short stop.Memory root out before after e is none h = tt
-  cause_short _ root out before after e is none h = absurd h
+  refused : (P : Type 0) (e : ComposeError) → IsComposeRefusal (root_graph can.bytes can.tree) root_options e → (IsUnwrittenGraph (root_graph can.bytes can.tree) root_options can.order can.lefts e → P) → P
+  refused P e r then = then (unwritten (root_graph can.bytes can.tree) root_options can.order can.lefts e (root_is_graph can.bytes can.tree) refl refl can.possible r)
 
-  stops_short : (s : Stop) (root out : List ℕ) (before after : World) → before.files.held ≡ Some held → file_at held root ≡ Some bytes → (Rose before.files.faults after.files.faults → ⊥) → (Rose before.output.faults after.output.faults → ⊥) → Stops s (Link root out) before after → IsShortOfMemory s
-  stops_short s root out before after e is files output (inl r) = cause_short s root out before.files after.files e is files r.cause
-  stops_short s root out before after e is files output (inr u) = undelivered_short s out u.bytes u.lines before after files output u.undelivered
+  cause_short : (s : Stop) (root out : List ℕ) (after : SeenFiles) → root ≡ can.root → (Rose files.faults after.faults → ⊥) → IsLinkCause s root out files after → IsShortOfMemory s
+  cause_short (stop.Missing path) root out after same none h =
+      absurd (no_some (file_at can.has.held root) can.bytes (subst (λ t. IfSome t (λ held. file_at held root ≡ None)) can.has.told h.1) (ap (file_at can.has.held) same ∙ can.has.there))
+  cause_short (stop.Fault (access.Read path)) root out after same none h = absurd (none h.1)
+  cause_short (stop.BadComponent path error) root out after same none h =
+      absurd (h.1.no_shape can.tree (subst (λ others. HasShape others can.tree) (sym (there_is files can.has.held root can.bytes h.1.bytes can.has.told (ap (file_at can.has.held) same ∙ can.has.there) h.1.there)) can.has_shape))
+  cause_short (stop.Incompatible path w) root out after same none h =
+      let at = root_is (IsUnencoded (stop.Incompatible path w) root out) root h.bytes h.tree same h.is_root h.holds in
+      refused (IsShortOfMemory (stop.Incompatible path w)) (compose.Check (check.Incompatible w)) at.1 (λ bad. absurd bad)
+  cause_short (stop.TooLarge path number) root out after same none h =
+      let at = root_is (IsUnencoded (stop.TooLarge path number) root out) root h.bytes h.tree same h.is_root h.holds in
+      refused (IsShortOfMemory (stop.TooLarge path number)) (compose.TooLarge number) at.1 (λ number_is. let below : number < 2 ^ 32 = can.small number number_is.among in let above : 2 ^ 32 ≤ number = number_is.large in absurd (omega (arith, below, above)))
+  cause_short stop.Memory root out after same none h = tt
+  cause_short _ root out after same none h = absurd h
 
-  command_short : (s : Stop) (words : List (List ℕ)) (c : Asked) (root out : List ℕ) (before after : World) → IsCommand words c → IsCommand words (Link root out) → before.files.held ≡ Some held → file_at held root ≡ Some bytes → (Rose before.files.faults after.files.faults → ⊥) → (Rose before.output.faults after.output.faults → ⊥) → Stops s c before after → IsShortOfMemory s
-  command_short s words c root out before after is_command asked e is files output h =
-      is_link words root out c asked is_command (λ other last same roots.
-      stops_short s other last before after e (ap (file_at held) (sym roots) ∙ is) files output (subst (λ d. Stops s d before after) same h))
+  stops_short : (s : Stop) (root out : List ℕ) (before after : World) → before.files ≡ files → root ≡ can.root → IsUnfailing before after → Stops s (Link root out) before after → IsShortOfMemory s
+  stops_short s root out before after is same calm (inl r) =
+      cause_short s root out after.files same (subst (λ f. Rose f.faults after.files.faults → ⊥) is calm.files) (subst (λ f. IsLinkCause s root out f after.files) is r.cause)
+  stops_short s root out before after is same calm (inr u) = undelivered_short s out u.bytes u.lines before after calm.files calm.output u.undelivered
 
-  pub short_of_memory : (s : Stop) (words : List (List ℕ)) (root out : List ℕ) (before after : World) → IsCommand words (Link root out) → before.files.held ≡ Some held → file_at held root ≡ Some bytes → (Rose before.files.faults after.files.faults → ⊥) → (Rose before.output.faults after.output.faults → ⊥) → IsStopped s words before after → IsShortOfMemory s
-  short_of_memory s words root out before after asked e is files output (inl r) = absurd (r.no_command (Link root out) asked)
-  short_of_memory s words root out before after asked e is files output (inr c) = command_short s words c.command root out before after c.is_command asked e is files output c.stops
+  pub link_short : (s : Stop) (before after : World) → before.files ≡ files → IsUnfailing before after → IsStopped s words before after → IsShortOfMemory s
+  link_short s before after is calm (inl r) = absurd (r.no_command (Link can.root can.out) can.command)
+  link_short s before after is calm (inr c) =
+      is_link words can.root can.out c.command can.command c.is_command (λ other last same roots. stops_short s other last before after is (sym roots) calm (subst (λ d. Stops s d before after) same c.stops))
 
 -- a count that rose stays risen
 pub rose_later : (old mid new : ℕ) → mid ≤ new → Rose old mid → Rose old new
@@ -121,7 +147,7 @@ never_zero (stop.Missing path) e = cc
 never_zero (stop.Fault access) e = cc
 never_zero (stop.Bad path form) e = cc
 never_zero (stop.BadComponent path error) e = cc
-never_zero (stop.NotBuilt path) e = cc
+never_zero (stop.Incompatible path w) e = cc
 never_zero (stop.TooLarge path number) e = cc
 never_zero (stop.Refused error) e = cc
 never_zero stop.Memory e = cc

@@ -1,16 +1,20 @@
 -- Words that name a command which files let do what it is for.
-use Rattle.std.specs.Prelude.{◌≡◌, ◌⊎◌, ℕ, List, Some, Ok, IsUtf8}
+use Rattle.std.specs.Prelude.{◌≡◌, ◌⊎◌, ℕ, ◌<◌, ◌^◌, true, List, Some, Ok, IsUtf8}
 use Rattle.std.specs.List.Sorted.{IsPermutation}
 use Rattle.comp_entity.specs.Entity.{ShapeTree}
 use Rattle.comp_shape.specs.Shape.{HasShape}
-use Rattle.wasm_compose.specs.Link.{LinkFits, link_exports}
-use Rattle.wasm_compose.specs.Open.{IsOpen}
+use Rattle.compose_encode.specs.Encoded.{IsOfWritten}
+use Rattle.compose_encode.specs.Whole.{CanBeEncoded}
+use Rattle.compose_graph.specs.Composed.{composed}
+use Rattle.compose_graph.specs.Encoding.{export_place}
+use Rattle.compose_order.specs.Needs.{LeftTree}
 use Rattle.warg_base.specs.Files.{FileMap, file_at}
 use Rattle.warg_exchange.specs.declared.exchange.Reply.{Reply}
 use Rattle.warg_recorded.specs.Files.{replies_in, signatures_in}
 use Rattle.warg_replay.specs.Replay.{IsReplayable, accepts_listed}
 use Rattle.warg_program.specs.Assembly.{Listed}
 use Rattle.warg_program.specs.Command.{Assemble, Link, Sources, IsCommand}
+use Rattle.warg_program.specs.Link.{root_graph, root_options}
 use Rattle.warg_program.specs.World.{SeenFiles}
 
 -- files tell what they hold, and a path has these bytes
@@ -19,7 +23,8 @@ pub record Has (files : SeenFiles) (path bytes : List ℕ) : Type 0 where
   pub told : files.held ≡ Some held
   pub there : file_at held path ≡ Some bytes
 
--- ROOT is a component that is not open, and its link can be written
+-- ROOT is a component; what it imports and exports agrees, as its one instance imports and exports it; and each number that
+-- would be written is below 2 ^ 32
 pub record CanLink (words : List (List ℕ)) (files : SeenFiles) : Type 0 where
   pub root : List ℕ
   pub out : List ℕ
@@ -28,8 +33,12 @@ pub record CanLink (words : List (List ℕ)) (files : SeenFiles) : Type 0 where
   pub has : Has files root bytes
   pub tree : ShapeTree
   pub has_shape : HasShape bytes tree
-  pub not_open : IsOpen tree → ⊥
-  pub fits : LinkFits bytes (link_exports tree)
+  pub order : List ℕ
+  pub lefts : List LeftTree
+  pub possible : CanBeEncoded (composed (root_graph bytes tree)) true (export_place (root_graph bytes tree) root_options)
+      order lefts
+  pub small : (n : ℕ) → IsOfWritten n (composed (root_graph bytes tree)) true
+      (export_place (root_graph bytes tree) root_options) order lefts → n < 2 ^ 32
 
 -- PLAN is a text, REPLIES are replies and CHECKED signatures, by which, in whatever order they are taken, the text can be
 -- replayed

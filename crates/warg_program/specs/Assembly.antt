@@ -48,15 +48,17 @@ pub record HasSources (files : SeenFiles) (sources : Sources) (text : List ℕ) 
   pub checked : HasChecked files sources.checked listed
 
 -- By the first of the replies, and the signatures that were checked, these are the component of the plan of PLAN's text,
--- and the lines that tell of its entries and of it.
+-- and the lines that tell of its entries, of what it leaves open, of its lock and of it.
 pub record IsAssembly (sources : Sources) (files : SeenFiles) (bytes lines : List ℕ) : Type 0 where
   pub text : List ℕ
   pub replies : List Reply
   pub listed : List Listed
   pub has : HasSources files sources text replies listed
   pub entries : List Entry
-  pub replayed : IsReplayed (accepts_listed listed) replies text entries bytes
-  pub lines_are : lines ≡ assembly_lines entries bytes
+  pub left : List (List ℕ)
+  pub lock : List ℕ
+  pub replayed : IsReplayed (accepts_listed listed) replies text entries left lock bytes
+  pub lines_are : lines ≡ assembly_lines entries left lock bytes
 
 -- ---- refusals
 

@@ -43,6 +43,13 @@ entry_line e =
     codes "entry " ++ e.name ++ codes " " ++ parts_text e.version ++ codes " " ++ hash_text e.digest ++ codes " "
     ++ key_text e.key ++ codes "\n"
 
--- the lines of an assembly: one for each entry of its plan, and that of the component
-abbrev pub assembly_lines : List Entry → List ℕ → List ℕ
-assembly_lines entries bundle = flat_map entry_line entries ++ codes "bundle " ++ digest_of bundle
+-- the line of an import that is left open
+abbrev pub left_line : List ℕ → List ℕ
+left_line name = codes "left " ++ name ++ codes "\n"
+
+-- the lines of an assembly: one for each entry of its plan, one for each import that is left open, and those of the lock and
+-- of the component
+abbrev pub assembly_lines : List Entry → List (List ℕ) → List ℕ → List ℕ → List ℕ
+assembly_lines entries left lock bundle =
+    flat_map entry_line entries ++ flat_map left_line left ++ codes "lock " ++ digest_of lock ++ codes "bundle "
+    ++ digest_of bundle

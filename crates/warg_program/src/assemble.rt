@@ -45,7 +45,7 @@ pub fn assembled<'a, F: Files>(
         Ok(replayed) => replayed,
         Err(error) => return Err(refusal(error)),
     };
-    match assembly_lines(alloc, &replayed.plan, &replayed.bytes) {
+    match assembly_lines(alloc, &replayed.plan, &replayed.lock, &replayed.bytes) {
         Ok(lines) => Ok(Made {
             bytes: replayed.bytes,
             lines,

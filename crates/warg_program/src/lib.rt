@@ -19,3 +19,4 @@ pub use lines::refuse;
 pub use program::{outcome, run};
 pub use stop::{Access, Form, Stop};
 pub use warg_replay::ClientError;
+pub use wasm_compose::Why;

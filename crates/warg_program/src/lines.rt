@@ -1,6 +1,6 @@
 //! What the program prints.
 
-ghost use Rattle.std.specs.Prelude.{◌≡◌, ◌≤◌, IfOk, map, string_bytes};
+ghost use Rattle.std.specs.Prelude.{◌≡◌, ◌≤◌, ◌++◌, IfOk, codes, map, string_bytes};
 ghost use Rattle.std.specs.List.{flat_map};
 ghost use Rattle.warg_base.specs.Out.{LeavesPartlyAdded};
 ghost use Rattle.warg_names.specs.View.{import_tree};
@@ -16,6 +16,7 @@ use std::alloc::{AllocError, Global};
 use warg_base::Out;
 use warg_names::{Import, ImportKind, versioned_package};
 use warg_plan::{Plan, PlanEntry, PlanKey};
+use warg_replay::Lock;
 use warg_values::Text;
 
 /// How many bytes there are, and their SHA-256.
@@ -91,14 +92,55 @@ fn entry_lines(alloc: Global, entries: &[PlanEntry]) -> Result<String, AllocErro
     Ok(lines)
 }
 
-/// The lines of an assembly: one for each entry of its plan, and that of the component.
-pub fn assembly_lines(alloc: Global, plan: &Plan, bundle: &[u8]) -> Result<String, AllocError>
-    ensures { IfOk result (λ lines. string_bytes lines ≡ spec.assembly_lines (plan_view plan.now) bundle.now) }
+/// The line of an import that is left open.
+fn left_line(alloc: Global, name: &Text) -> Result<String, AllocError>
+    ensures { IfOk result (λ line. string_bytes line ≡ spec.left_line name.now) }
+{
+    format!(in alloc; "left {name}\n")
+}
+
+/// The lines of what is left open, one for each name.
+fn left_lines(alloc: Global, names: &[Text]) -> Result<String, AllocError>
+    ensures { IfOk result (λ lines. string_bytes lines ≡ flat_map spec.left_line names.now) }
+{
+    let mut lines = String::new(alloc);
+    for name in names {
+        let line = left_line(alloc, name)?;
+        lines.push_str(&line)?;
+    }
+    Ok(lines)
+}
+
+/// The lines of a lock and of a component.
+fn made_lines(alloc: Global, lock: &[u8], bundle: &[u8]) -> Result<String, AllocError>
+    ensures { IfOk result (λ lines. string_bytes lines
+        ≡ codes "lock " ++ spec.digest_of lock.now ++ codes "bundle " ++ spec.digest_of bundle.now) }
+{
+    let locked = digest_of(alloc, lock)?;
+    let bundled = digest_of(alloc, bundle)?;
+    let mut lines = String::from_str(alloc, "lock ")?;
+    lines.push_str(&locked)?;
+    lines.push_str("bundle ")?;
+    lines.push_str(&bundled)?;
+    Ok(lines)
+}
+
+/// The lines of an assembly: one for each entry of its plan, one for each import that is left open, and those of the lock
+/// and of the component.
+pub fn assembly_lines(
+    alloc: Global,
+    plan: &Plan,
+    lock: &Lock,
+    bundle: &[u8],
+) -> Result<String, AllocError>
+    ensures { IfOk result (λ lines. string_bytes lines
+        ≡ spec.assembly_lines (plan_view plan.now) lock.now.left.items lock.now.bytes.items bundle.now) }
 {
     let mut lines = entry_lines(alloc, plan.entries.as_slice())?;
-    let digest = digest_of(alloc, bundle)?;
-    lines.push_str("bundle ")?;
-    lines.push_str(&digest)?;
+    let left = left_lines(alloc, lock.left.as_slice())?;
+    let made = made_lines(alloc, lock.bytes.as_slice(), bundle)?;
+    lines.push_str(&left)?;
+    lines.push_str(&made)?;
     Ok(lines)
 }
 
@@ -112,7 +154,7 @@ fn line_of(alloc: Global, stop: &Stop<'_>) -> Result<String, AllocError>
         Stop::Fault(_) => String::from_str(alloc, "fault\n"),
         Stop::Bad { path, .. } => format!(in alloc; "bad {path}\n"),
         Stop::BadComponent { .. } => String::from_str(alloc, "refused BadComponent\n"),
-        Stop::NotBuilt { .. } => String::from_str(alloc, "refused NotBuilt\n"),
+        Stop::Incompatible { .. } => String::from_str(alloc, "refused Incompatible\n"),
         Stop::TooLarge { .. } => String::from_str(alloc, "refused TooLarge\n"),
         Stop::Refused(error) => {
             let name = variant(error);

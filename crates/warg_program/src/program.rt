@@ -15,6 +15,7 @@ use crate::lines::refuse;
 use crate::link::linked;
 use crate::stop::Stop;
 use comp_shape::laws::one_shape;
+use compose_complete::laws::graphs_that_can_be_encoded_are_refused_for_their_numbers;
 use std::alloc::Global;
 use warg_base::{Files, Out};
 
@@ -88,6 +89,7 @@ pub fn outcome<'a, F: Files, O: Out>(
         Ok(()) => Ok(()),
         Err(stop) => {
             one_shape();
+            graphs_that_can_be_encoded_are_refused_for_their_numbers();
             refuse(alloc, out, &stop);
             Err(stop)
         }
@@ -110,7 +112,7 @@ pub fn outcome<'a, F: Files, O: Out>(
 /// | 4 | `fault` | the files failed, or the output did at the lines of status 0 |
 /// | 5 | `bad PATH` | PLAN is no UTF-8 text, or REPLIES or CHECKED has another form |
 /// | 6 | `refused BadComponent` | ROOT is no component, or has no shape |
-/// | 6 | `refused NotBuilt` | ROOT imports something, or an export of it mentions a resource |
+/// | 6 | `refused Incompatible` | what ROOT imports and exports does not go together |
 /// | 6 | `refused TooLarge` | a length, a count or an index of OUT would be above 2^32 - 1 |
 /// | 6 | `refused VARIANT` | the plan is not assembled: the variant of the client's error |
 /// | 7 | `memory` | no memory was left, or more than 200 scopes, or a thousand types, of a component lie in each other |

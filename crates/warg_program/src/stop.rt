@@ -8,7 +8,7 @@ use std::fmt;
 use warg_base::FileError;
 use warg_recorded::FormError;
 use warg_replay::ClientError;
-use wasm_compose::ComposeError;
+use wasm_compose::Why;
 
 /// What was asked of the outside when it failed.
 #[derive(Clone, Copy, Debug)]
@@ -47,8 +47,8 @@ pub enum Stop<'a> {
     Bad { path: &'a str, form: Form },
     /// The file at this path is no component that is carried: status 6.
     BadComponent { path: &'a str, error: ShapeError },
-    /// The component at this path imports something, or an export of it mentions a resource: status 6.
-    NotBuilt { path: &'a str },
+    /// What the component at this path imports and exports does not go together: status 6.
+    Incompatible { path: &'a str, why: Why },
     /// This length, count or index of what was to be written to this path is above 2^32 - 1: status 6.
     TooLarge { path: &'a str, number: u64 },
     /// The plan is not assembled: status 6.
@@ -68,7 +68,7 @@ impl Stop<'_> {
             Stop::Fault(_) => 4,
             Stop::Bad { .. } => 5,
             Stop::BadComponent { .. } => 6,
-            Stop::NotBuilt { .. } => 6,
+            Stop::Incompatible { .. } => 6,
             Stop::TooLarge { .. } => 6,
             Stop::Refused(_) => 6,
             Stop::Memory => 7,
@@ -120,7 +120,7 @@ impl fmt::Display for Stop<'_> {
             Stop::Fault(access) => write!(f, "{access}"),
             Stop::Bad { path, form } => write!(f, "{path}: {form}"),
             Stop::BadComponent { path, error } => write!(f, "{path}: {error}"),
-            Stop::NotBuilt { path } => write!(f, "{path}: {}", ComposeError::NotBuilt),
+            Stop::Incompatible { path, why } => write!(f, "{path}: {why}"),
             Stop::TooLarge { path, number } => write!(
                 f,
                 "{path}: {number} is more than a component can count: make the component smaller"

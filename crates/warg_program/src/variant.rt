@@ -56,6 +56,8 @@ pub fn variant(error: &ClientError) -> &'static str
         ClientError::BadComponent(..) => "BadComponent",
         ClientError::BadImportName(..) => "BadImportName",
         ClientError::DependencyCycle(..) => "DependencyCycle",
+        ClientError::ImportsDisallowed(..) => "ImportsDisallowed",
+        ClientError::Incompatible(..) => "Incompatible",
         ClientError::NotBuilt => "NotBuilt",
         ClientError::PackageDoesNotExist { .. } => "PackageDoesNotExist",
         ClientError::PackageVersionRequirementDoesNotExist { .. } =>

@@ -23,6 +23,7 @@ use Rattle.warg_store.specs.Held.{Held, Info, Registry, SameHeld}
 use Rattle.warg_store.specs.Held as held
 use Rattle.warg_assemble.specs.Parts.{exchanges_in}
 use Rattle.warg_assemble.specs.Session.{IsSession, IsPlanOf}
+use Rattle.warg_client.specs.declared.client.Assembly.{Assembly}
 use Rattle.warg_client.specs.Stored.{CanBeRead, log_in, value_in, IsOwn}
 use Rattle.warg_client.specs.Seen.{Seen, IsKnown, ReadsStores}
 use Rattle.warg_compose.specs.Linked.{IsPlanLinked}
@@ -31,7 +32,7 @@ use Rattle.warg_client.specs.ClientError.{ClientError}
 use Rattle.warg_client.specs.ClientError.TheVariants as told
 use Rattle.warg_client.specs.Undisturbed.{IsUnreplied, pages_of_parts, registry_in}
 use Rattle.warg_client.specs.Complete.{IsValidCall}
-use Rattle.warg_client.specs.Assembled.{wanted, IsAssembleFault, IsPlanOfText}
+use Rattle.warg_client.specs.Assembled.{LeavesWhatIsAllowed, wanted, IsAssembleFault, IsPlanOfText}
 use Rattle.warg_replay.specs.Replay.{HaveNotFailed, AsksHome, IsAnew, IsRefused, IsReplayable, IsReplayed, nothing, page_limit, says}
 
 absent_whole : {P : Type 0} (info : Info) → Absent ≡ Whole info → P
@@ -75,9 +76,9 @@ replies_of [] old new same = sym (ap (λ r. r.left) same)
 replies_of (x ∷ xs) old new h = h.1.1 ∙ ap (λ rest. x.reply ∷ rest) (replies_of xs h.0 new h.2)
 
 -- what such a client assembles
-pub anew : (accepts : Accepts) (replies : List Reply) (text bytes : List ℕ) (old new : Seen Recorded AlwaysDecide) (es : List Entry) → IsAnew accepts replies old
-    → IsPlanOfText IsRecordedStep old new text es → IsPlanLinked es bytes → IsReplayed accepts replies text es bytes
-anew accepts replies text bytes old new es is found linked =
+pub anew : (accepts : Accepts) (replies : List Reply) (text lock bytes : List ℕ) (left : List (List ℕ)) (old new : Seen Recorded AlwaysDecide) (es : List Entry) → IsAnew accepts replies old
+    → IsPlanOfText IsRecordedStep old new text es → IsPlanLinked es left lock bytes → LeavesWhatIsAllowed text es → IsReplayed accepts replies text es left lock bytes
+anew accepts replies text lock bytes left old new es is found linked allowed =
     let planned = found.planned nothing is.knows in
     let xs = flat_map exchanges_in planned.parts in
     record {
@@ -92,6 +93,7 @@ anew accepts replies text bytes old new es is found linked =
       plan = subst (λ a. IsPlanOf a old.asker IsComponent nothing xs (wanted found.settings) es) is.accepts_so planned.plan;
       digests = planned.digests;
       linked = linked;
+      allowed = allowed found.settings found.reads;
     }
 
 -- why such a client assembles nothing
@@ -180,3 +182,6 @@ module _ (accepts : Accepts) (replies : List Reply) (text : List ℕ) (old new :
 -- the plan is one
 pub same_plan : (p q : Plan) → Some p ≡ Some q → p ≡ q
 same_plan p q e = cc
+
+pub same_assembly : (a b : Assembly) → Some a ≡ Some b → a ≡ b
+same_assembly a b e = cc

@@ -28,6 +28,7 @@ use Rattle.warg_assemble.specs.Parts.{Part, exchanges_in, learnt_by}
 use Rattle.warg_assemble.specs.Session.{walked, AreOnce, IsSession, IsPlanOf}
 use Rattle.warg_client.specs.Seen.{Faults, Seen, IsKnown, ReadsStores}
 use Rattle.warg_compose.specs.Linked.{IsLinkable, IsPlanLinked}
+use Rattle.warg_compose.specs.Open.{IsAllowed}
 use Rattle.warg_compose.specs.Read.{IsComponent}
 use Rattle.warg_client.specs.Undisturbed.{pages_of_parts, registry_in}
 use Rattle.warg_client.specs.Text.{IsPlanText}
@@ -59,9 +60,10 @@ pub record AsksHome (asks : Registry → Asker) : Type 0 where
 
 -- The first replies are those to a session of the plan of a text, from nothing that was known, which updates each package
 -- once. The entries are the plan over the logs that these exchanges alone prove; each content has its digest; and the bytes
--- have exactly one reading, whose image is that of the plan.
+-- have exactly one reading, whose image is that of the plan. So has the lock, which leaves imports of these names open; and
+-- none is left open where the text disallows it.
 pub record IsReplayed (accepts : Accepts) (replies : List Reply) (text : List ℕ) (entries : List Entry)
-    (bytes : List ℕ) : Type 0 where
+    (left : List (List ℕ)) (lock bytes : List ℕ) : Type 0 where
   pub settings : Settings
   pub reads : IsPlanText text settings
   pub asks : Registry → Asker
@@ -72,7 +74,8 @@ pub record IsReplayed (accepts : Accepts) (replies : List Reply) (text : List �
   pub replied : AreRepliesOf (flat_map exchanges_in parts) replies
   pub plan : IsPlanOf accepts asks IsComponent nothing (flat_map exchanges_in parts) (wanted settings) entries
   pub digests : AllByRecursion (λ e. sha256 e.content ≡ e.digest) entries
-  pub linked : IsPlanLinked entries bytes
+  pub linked : IsPlanLinked entries left lock bytes
+  pub allowed : IsAllowed settings.disallow_imports entries
 
 -- how many pages may be asked for
 abbrev pub page_limit : ℕ
@@ -93,7 +96,7 @@ pub record IsReplayable (accepts : Accepts) (replies : List Reply) (text : List 
   pub replied : AreRepliesOf (flat_map exchanges_in parts) replies
   pub can_ask : AllByRecursion (λ p. CanAsk (asks (registry_in p))) parts
   pub pages : pages_of_parts asks parts ≤ page_limit
-  pub linkable : IsLinkable entries
+  pub linkable : IsLinkable settings.disallow_imports entries
 
 -- ---- the client
 

@@ -4,4 +4,4 @@
 mod replayed;
 
 pub use replayed::{Replayed, replay};
-pub use warg_client::{ClientError, Other};
+pub use warg_client::{ClientError, Lock, Other};

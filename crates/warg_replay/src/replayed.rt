@@ -9,7 +9,7 @@ ghost use Rattle.warg_replay.specs.Replay.{HaveNotFailed, IsAnew, IsReplayFault,
 
 use std::alloc::Global;
 use warg_api::RecordedLink;
-use warg_client::{Client, ClientError, Settings};
+use warg_client::{Client, ClientError, Lock, Settings};
 use warg_course::laws::recorded_replies_are_given;
 use warg_exchange::Reply;
 use warg_hint::AlwaysDecide;
@@ -30,11 +30,13 @@ type RecordedClient = Client<
     AlwaysDecide,
 >;
 
-/// A plan, and the component that it is linked into.
+/// A plan, its lock, and the component that it is linked into.
 #[derive(Debug, Drop)]
 pub struct Replayed {
     /// The plan.
     pub plan: Plan,
+    /// Its lock.
+    pub lock: Lock,
     /// The component.
     pub bytes: Vec<u8>,
 }
@@ -110,7 +112,8 @@ pub fn replay(
     checked: ListedVerifier,
 ) -> Result<Replayed, ClientError>
     ensures replayed { IfOk result (λ made.
-        IsReplayed (accepts_listed checked) replies.items text.now (plan_view made.plan) made.bytes.items) }
+        IsReplayed (accepts_listed checked) replies.items text.now (plan_view made.plan) made.lock.left.items
+        made.lock.bytes.items made.bytes.items) }
     ensures cause { IfErr result (λ e. IsReplayFault (accepts_listed checked) replies.items e text.now) }
     // Over the replies of a session whose plan can be linked, a component is assembled, or memory runs out.
     ensures complete { IfErr result (λ e. IsReplayable (accepts_listed checked) replies.items text.now
@@ -122,8 +125,12 @@ pub fn replay(
         Ok(bytes) => bytes,
         Err(error) => return Err(told_error(&client, error)),
     };
-    match client.into_plan() {
-        Some(plan) => Ok(Replayed { plan, bytes }),
+    match client.into_assembly() {
+        Some(made) => Ok(Replayed {
+            plan: made.plan,
+            lock: made.lock,
+            bytes,
+        }),
         // A component is that of a plan.
         None => unreachable!(),
     }

@@ -1,14 +1,13 @@
-//! Linking components: a component with its exports, and a component that makes and exports one instance of it.
+//! Linking components: components, instances of them and the connections between these as a graph, which is encoded as one
+//! component; and the configuration of a composition.
+//!
+//! The crate hands on what `compose_graph`, `compose_component` and `compose_config` have, under the paths of the Rust crate.
 #![tactic(auto)]
 
 pub mod config;
-mod error;
-mod link;
-mod mentions;
+pub mod graph;
 
+pub use compose_check::{CheckError, Why};
 pub use compose_component::{
-    Component, ComponentError, ComponentExport, ComponentImport, Entity, ExportIndex, Exports,
-    FileError, Files, ImportIndex, Imports, Shape, ShapeError, Sort, Text, TypeRef, read_shape,
+    ComponentError, Entity, FileError, Files, Shape, ShapeError, Sort, Text, TypeRef, read_shape,
 };
-pub use error::ComposeError;
-pub use link::link_root;

@@ -1,8 +1,9 @@
-use Rattle.std.proofs.Common.{Err, ◌≤◌, ◌^◌, ◌∙◌, ap, refl, subst, sym}
+use Rattle.std.proofs.Common.{Err, ◌∙◌, ap, refl, subst, sym}
 use Rattle.comp_shape.specs.Refusal.{IsRefused}
 use Rattle.compose_component.specs.declared.error.ComponentError.TheVariants.{BadComponent}
 use Rattle.compose_component.specs.Component.{bytes_of, shape_of}
-use Rattle.wasm_compose.specs.Link.{IsOfLink, link_exports}
+use Rattle.warg_program.specs.Lines.{bytes_line}
+use Rattle.warg_program.proofs.RootLaws.{unencoded_cause}
 use Rattle.warg_program.proofs.link.linked.Goals as goal
 
 pub returns-in-Err-BadComponent-clause-stopped : goal.returns-in-Err-BadComponent-clause-stopped
@@ -18,19 +19,20 @@ returns-in-Err-BadComponent-clause-stopped g c =
       },
     )
 
-pub returns-in-Err-TooLarge-clause-stopped : goal.returns-in-Err-TooLarge-clause-stopped
-returns-in-Err-TooLarge-clause-stopped g c =
-    let at = c.in-Err-TooLarge in
+pub returns-in-Err-encoded-clause-stopped : goal.returns-in-Err-encoded-clause-stopped
+returns-in-Err-encoded-clause-stopped g c =
     let root = c.in-Ok.component in
-    let large = at.ensures.too_large at.number (ap (λ e. Err e) at.field-0-is) in
-    let number = at.ensures.number at.number (ap (λ e. Err e) at.field-0-is) in (
-      refl,
-      record {
-        bytes = bytes_of root;
-        tree = shape_of root;
-        is_root = record { there = c.in-Ok.ensures.found; has_shape = c.in-Ok.ensures.read.shown.has_shape };
-        above = subst (λ n. 2 ^ 32 ≤ n) (sym at.number-is) large.0;
-        which = subst (λ n. IsOfLink n (bytes_of root) (link_exports (shape_of root))) (sym at.number-is) number;
-        does_not_fit = large.1;
-      },
-    )
+    unencoded_cause c.in-Err-encoded.stop c.args.root.now c.args.out.now _ _ (bytes_of root) (shape_of root)
+    (record { there = c.in-Ok.ensures.found; has_shape = c.in-Ok.ensures.read.shown.has_shape })
+    (c.in-Err-encoded.ensures.stopped (bytes_of root) (shape_of root) c.in-Ok-root_graph.ensures)
+
+pub returns-in-Ok-bytes_line-clause-made : goal.returns-in-Ok-bytes_line-clause-made
+returns-in-Ok-bytes_line-clause-made g c =
+    let root = c.in-Ok.component in
+    record {
+      bytes = bytes_of root;
+      tree = shape_of root;
+      is_root = record { there = c.in-Ok.ensures.found; has_shape = c.in-Ok.ensures.read.shown.has_shape };
+      encoded = c.in-Ok-encoded.ensures.encoded (bytes_of root) (shape_of root) c.in-Ok-root_graph.ensures;
+      line_is = c.in-Ok-bytes_line.ensures ∙ ap bytes_line c.deref.ensures.value;
+    }

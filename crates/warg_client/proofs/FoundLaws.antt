@@ -1,0 +1,72 @@
+-- What a search finds is a plan over components.
+use Rattle.std.proofs.Common.{◌≡◌, ◌∙◌, sym, subst, refl, ℕ, Bool, true, false, cond, List, [], ◌∷◌, Some, bytes_eq}
+use Rattle.std.specs.List.{AllByRecursion}
+use Rattle.std.specs.Map.{lookup}
+use Rattle.std.proofs.lemmas.Slice.Eq.{bytes_eq-Decides}
+use Rattle.indexmap.specs.IndexMap.{insert_entry}
+use Rattle.sha2.specs.Sha256.{sha256}
+use Rattle.compose_config.specs.Plan.{Settings}
+use Rattle.warg_api.specs.Link.{Asked}
+use Rattle.warg_plan.specs.Keys.{Key}
+use Rattle.warg_plan.specs.Plan.{IsPlan}
+use Rattle.warg_plan.specs.PlanLaws.{walk_is_plan}
+use Rattle.warg_plan.specs.Walk.{Content, Entry, Facts, nothing_known}
+use Rattle.warg_assemble.specs.Parts.{Loaded, Part, Updated, learnt, learnt_by}
+use Rattle.warg_learn.specs.Learnt.{IsLearnt, IsReadPart}
+use Rattle.warg_learn.specs.Search.{AreLearnt, Finds}
+use Rattle.warg_learn.specs.Seen.{Seen}
+use Rattle.warg_compose.specs.Read.{IsComponent}
+use Rattle.warg_compose.specs.Wired.{AreOfComponents, AreWired}
+use Rattle.warg_client.specs.Assembled.{wanted}
+
+-- a content under its digest is a component
+record IsContent (e : List ℕ × Content) : Type 0 where
+  digest : sha256 e.1.bytes ≡ e.0
+  component : IsComponent e.1
+
+abbrev AreContents : Facts → Type 0
+AreContents f = AllByRecursion IsContent f.contents
+
+same_bytes : (a b : List ℕ) → bytes_eq a b ≡ true → a ≡ b
+same_bytes a b h = (bytes_eq-Decides a b).0 h
+
+contents_with : (es : List (List ℕ × Content)) (d : List ℕ) (c : Content) → AllByRecursion IsContent es → IsContent (d, c) → AllByRecursion IsContent (insert_entry bytes_eq es d c)
+contents_with [] d c all one = (one, tt)
+contents_with (e ∷ es) d c all one = by (bytes_eq d e.0) refl (contents_with es d c all.1 one)
+  where
+    by : (b : Bool) → bytes_eq d e.0 ≡ b → AllByRecursion IsContent (insert_entry bytes_eq es d c) → AllByRecursion IsContent (cond b ((e.0, c) ∷ es) (e ∷ insert_entry bytes_eq es d c))
+    by true is later = (record { digest = one.digest ∙ same_bytes d e.0 is; component = one.component }, all.1)
+    by false is later = (all.0, later)
+
+learnt_one : (f : Facts) (p : Part) → AreContents f → IsReadPart IsComponent p → AreContents (learnt f p)
+learnt_one f (Updated u) all read = all
+learnt_one f (Loaded l) all read = contents_with f.contents l.digest l.content all (record { digest = read.digest; component = read.reads })
+
+looked_up : (es : List (List ℕ × Content)) (d : List ℕ) (c : Content) → AllByRecursion IsContent es → lookup (λ k. bytes_eq d k) es ≡ Some c → IsContent (d, c)
+looked_up [] d c all e = absurd cc
+looked_up (x ∷ es) d c all e = by (bytes_eq d x.0) refl e (looked_up es d c all.1)
+  where
+    one : Some x.1 ≡ Some c → x.1 ≡ c
+    one h = cc
+
+    by : (b : Bool) → bytes_eq d x.0 ≡ b → cond b (Some x.1) (lookup (λ k. bytes_eq d k) es) ≡ Some c → (lookup (λ k. bytes_eq d k) es ≡ Some c → IsContent (d, c)) → IsContent (d, c)
+    by true is h later = subst (λ y. IsContent (d, y)) (one h) (record { digest = all.0.digest ∙ sym (same_bytes d x.0 is); component = all.0.component })
+    by false is h later = later h
+
+-- a plan over components is wired
+abbrev pub Wires : Type 0
+Wires = (s : Settings) (f : Facts) (root : Key) (es : List Entry) → IsPlan s f root es → AreOfComponents f → AreWired es
+
+module _ {T D : Type 0} (Steps : T → Asked → T → Type 0) (s : Settings) where
+  learnt_all : (f : Facts) (old new : Seen T D) (parts : List Part) → AreContents f → AreLearnt (wanted s) (IsLearnt Steps IsComponent) f old parts new → AreContents (learnt_by f parts)
+  unfolding AreLearnt
+  learnt_all f old new [] all are = all
+  learnt_all f old new (p ∷ ps) all are = learnt_all (learnt f p) are.0 new ps (learnt_one f p all are.1.learns.content) are.2
+
+  pub found_wired : Wires → (old new : Seen T D) (es : List Entry) → Finds (wanted s) (IsLearnt Steps IsComponent) old new es → AreWired es
+  found_wired law old new es found =
+      let w = wanted s in
+      let all = learnt_all nothing_known old new found.parts tt found.are in
+      let f = learnt_by nothing_known found.parts in
+      law s f w.root es (walk_is_plan s f w.depth w.root es found.finds)
+      (record { digests = λ d c known. (looked_up f.contents d c all known).digest; components = λ d c known. (looked_up f.contents d c all known).component })

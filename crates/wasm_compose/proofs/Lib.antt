@@ -1,3 +1,0 @@
-mod MentionLaws
-mod LinkLaws
-mod ImageLaws
