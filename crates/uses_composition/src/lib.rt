@@ -5,6 +5,7 @@
 mod bundle;
 mod check;
 mod encode;
+mod files;
 mod graph;
 mod naming;
 mod needs;
@@ -14,6 +15,7 @@ mod types;
 pub use bundle::imported_and_bundled;
 pub use check::written_order;
 pub use encode::bundled;
+pub use files::composed_by_file;
 pub use graph::{linked, reconnect};
 pub use naming::nameless;
 pub use needs::can_be_imported;

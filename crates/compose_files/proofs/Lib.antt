@@ -1,0 +1,12 @@
+mod MapLaws
+mod Cuts
+mod ArgumentSteps
+mod FitLaws
+mod PlaceSteps
+mod RefusalSteps
+mod OwnFits
+mod ChoiceLaws
+mod Searches
+mod Offers
+mod Added
+mod Growth

@@ -1,0 +1,9 @@
+pub mod Paths
+pub mod Choice
+pub mod Built
+pub mod Needs
+pub mod Composed
+pub mod View
+pub mod Refusals
+pub mod Refused
+pub mod Read

@@ -1,0 +1,24 @@
+//! Compositions from a configuration and files: the components that a root needs are found among files, and wired.
+#![tactic(auto)]
+
+mod arguments;
+mod builder;
+mod choice;
+mod composer;
+mod config_error;
+mod define;
+mod error;
+mod find;
+mod from_file;
+mod need;
+mod offer;
+mod paths;
+mod serve;
+
+pub use compose_config::Config;
+pub use compose_graph::{ComposeError, GraphError};
+pub use composer::{ComponentComposer, ROOT_COMPONENT_NAME};
+pub use config_error::ConfigError;
+pub use error::ComposerError;
+pub use from_file::FromFile;
+pub use warg_base::{FileError, Files, Text};

@@ -1,0 +1,5 @@
+//! Tests of `compose_files`.
+#![tactic(auto)]
+
+#[cfg(test)]
+mod compositions;
