@@ -10,3 +10,5 @@ mod Searches
 mod Offers
 mod Added
 mod Growth
+mod OneStep
+mod OneGraph

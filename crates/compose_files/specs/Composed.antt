@@ -1,6 +1,6 @@
 -- The graph of a configuration and files, and the component that is composed of it.
-use Rattle.std.specs.Prelude.{◌≡◌, ◌<◌, ℕ, List, [], map, true, codes, length, not, Some, None, is_some, slice_get}
-use Rattle.comp_entity.specs.Entity.{EntityTree, ShapeTree}
+use Rattle.std.specs.Prelude.{◌≡◌, ◌<◌, ℕ, List, [], true, codes, length, not, Some, None, is_some, slice_get}
+use Rattle.comp_entity.specs.Entity.{ShapeTree}
 use Rattle.compose_config.specs.Plan.{Settings}
 use Rattle.compose_graph.specs.Encoding.{IsEncoding}
 use Rattle.compose_graph.specs.Graph.{ComponentEntry, GraphTree, component_of, no_graph}
@@ -71,3 +71,10 @@ pub record IsComposed (root : List ℕ) (s : Sources) (bytes : List ℕ) : Type 
   pub is_built : IsBuilt root s built
   pub several : is_some (component_of built.graph 1) ≡ true
   pub encoded : IsEncoding built.graph (options_of s.settings) bytes
+
+-- Two components are encodings of the one graph of a configuration and files.
+pub record HaveOneGraph (root : List ℕ) (s : Sources) (a b : List ℕ) : Type 0 where
+  pub built : Built
+  pub is_built : IsBuilt root s built
+  pub one : IsEncoding built.graph (options_of s.settings) a
+  pub other : IsEncoding built.graph (options_of s.settings) b

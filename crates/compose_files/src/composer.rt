@@ -1,6 +1,6 @@
 //! Composing a component of others, which are found among files.
 
-ghost use Rattle.std.specs.Prelude.{◌≡◌, ◌≤◌, true, false, is_some, IfErr, IfOk, OnOk, Some};
+ghost use Rattle.std.specs.Prelude.{◌≡◌, ◌≤◌, [], true, false, is_some, length, IfErr, IfOk, OnOk, Some};
 ghost use Rattle.warg_values.specs.Faults.{Rose};
 ghost use Rattle.warg_base.specs.Files.{FileMap};
 ghost use Rattle.comp_entity.specs.Entity.{ShapeTree};
@@ -9,7 +9,7 @@ ghost use Rattle.compose_config.specs.View.{settings_of};
 ghost use Rattle.compose_graph.specs.Encoding.{IsEncoding};
 ghost use Rattle.compose_graph.specs.Graph.{component_of, no_graph};
 ghost use Rattle.compose_graph.specs.Listed.{graph_of};
-ghost use Rattle.compose_files.specs.Composed.{ImportsSome, IsBuilt, IsStarted, begun, options_of};
+ghost use Rattle.compose_files.specs.Composed.{HasDefined, ImportsSome, IsBuilt, IsStarted, begun, options_of};
 ghost use Rattle.compose_files.specs.Refusals.{is_failure};
 ghost use Rattle.compose_files.specs.Refused.{IsBuildRefusal, IsEndRefusal, IsImportsRefusal, IsStartRefusal};
 ghost use Rattle.compose_files.specs.View.{built_of, sources};
@@ -22,7 +22,7 @@ use crate::error::ComposerError;
 use crate::find::{add, read_file};
 use crate::serve::{make_named, take_turn};
 use compose_config::Config;
-use compose_graph::{ComposeError, CompositionGraph, EncodeOptions, InstanceId};
+use compose_graph::{ComponentId, ComposeError, CompositionGraph, EncodeOptions, InstanceId};
 use std::alloc::Global;
 use warg_base::{Files, Text};
 
@@ -52,6 +52,33 @@ fn check_imports(graph: &CompositionGraph<'_>, id: InstanceId) -> Result<(), Com
     }
 }
 
+/// Adds the root, and then the definitions; the number of the root.
+fn add_root_and_definitions<F: Files>(
+    builder: &mut Builder<'_>,
+    alloc: Global,
+    files: &mut F,
+    config: &Config,
+    root: &str,
+) -> Result<ComponentId, ComposerError>
+    requires { built_of builder.old ≡ begun no_graph }
+    ensures id { IfOk result (λ id. id.0 ≡ 0) }
+    ensures never_falls { F.faults files.old ≤ F.faults files.new }
+    ensures kept { F.told files.new ≡ F.told files.old }
+    ensures defined { OnOk result ((held : FileMap) → F.told files.old ≡ Some held
+        → HasDefined root.now (sources config.now held) (length (settings_of config.now).definitions)
+        (built_of builder.new)) }
+    ensures unnamed { OnOk result ((built_of builder.new).named ≡ []) }
+    ensures refused { IfErr result (λ e. (held : FileMap) → F.told files.old ≡ Some held
+        → IsStartRefusal root.now (sources config.now held) e) }
+    ensures failed { IfErr result
+        (λ e. is_failure e ≡ true → Rose (F.faults files.old) (F.faults files.new)) }
+{
+    let component = read_file(alloc, files, ROOT_COMPONENT_NAME, root)?;
+    let id = add(&mut builder.graph, alloc, component)?;
+    define_all(builder, alloc, files, config)?;
+    Ok(id)
+}
+
 /// The start of a composition: its root and the definitions are added, and an instance of the root is made.
 fn start<F: Files>(
     builder: &mut Builder<'_>,
@@ -70,9 +97,7 @@ fn start<F: Files>(
     ensures failed { IfErr result
         (λ e. is_failure e ≡ true → Rose (F.faults files.old) (F.faults files.new)) }
 {
-    let component = read_file(alloc, files, ROOT_COMPONENT_NAME, root)?;
-    let id = add(&mut builder.graph, alloc, component)?;
-    define_all(builder, alloc, files, config)?;
+    let id = add_root_and_definitions(builder, alloc, files, config, root)?;
     let instance = make_named(builder, alloc, ROOT_COMPONENT_NAME, id)?;
     let name = Text::copy_of(alloc, ROOT_COMPONENT_NAME)?;
     check_arguments(alloc, &builder.graph, config, &name, instance)?;

@@ -10,6 +10,7 @@ mod define;
 mod error;
 mod find;
 mod from_file;
+pub mod laws;
 mod need;
 mod offer;
 mod paths;

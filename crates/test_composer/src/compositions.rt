@@ -1,72 +1,47 @@
-//! What is composed of small folders, and by what others are refused. The components were written out by hand from the
-//! binary format.
+//! What is composed of small folders, and by what others are refused.
 
-use compose_component::Component;
+use crate::world::{
+    CALLS_D, CALLS_E, EMPTY, FUNCTION, GIVES, GIVES_BOTH, GIVES_X, OF_DEFINITION, OF_EXPORT,
+    OF_FITTING, OF_FOUR, OF_ONE, OF_WHOLE, TAKES, TAKES_E, TAKES_ROOT, TAKES_TWO,
+};
 use compose_files::{ComponentComposer, Config, Files, FromFile};
+use hex::{decode, encode};
 use std::alloc::Global;
 use std::test::Fail;
 use test_check::is_row;
 use warg_base::MemoryFiles;
 
-/// A component without items.
-const EMPTY: &[u8] = b"\0asm\r\0\x01\0";
-
-/// One that imports an instance of a function `f` as `b`, and exports it as `b`.
-const TAKES: &[u8] =
-    b"\0asm\r\0\x01\0\x07\x0e\x01\x42\x02\x01\x40\0\x01\0\x04\0\x01f\x01\0\x0a\x06\x01\0\x01b\x05\0\x0b\x07\x01\0\x01b\x05\0\0";
-
-/// One that imports an instance of a function `f` as `root`.
-const TAKES_ROOT: &[u8] =
-    b"\0asm\r\0\x01\0\x07\x0e\x01\x42\x02\x01\x40\0\x01\0\x04\0\x01f\x01\0\x0a\x09\x01\0\x04root\x05\0";
-
-/// One that imports a function `g`, and exports it as `f`.
-const GIVES: &[u8] =
-    b"\0asm\r\0\x01\0\x07\x05\x01\x40\0\x01\0\x0a\x06\x01\0\x01g\x01\0\x0b\x07\x01\0\x01f\x01\0\0";
-
-/// One that imports a function `x`.
-const FUNCTION: &[u8] = b"\0asm\r\0\x01\0\x07\x05\x01\x40\0\x01\0\x0a\x06\x01\0\x01x\x01\0";
-
-/// Files below the folder `d` beside the configuration `d/c`, of which `root` is the root; the configuration's text; and
-/// what comes of it: what the composed component imports and exports, or the error.
+/// Files below the folder `d` beside the configuration `d/c`, of which `root` is the root, each in hex; the configuration's
+/// text; and what comes of it: the composed component in hex, or the error.
 type Row = (
-    &'static [(&'static str, &'static [u8])],
+    &'static [(&'static str, &'static str)],
     &'static str,
     &'static str,
 );
 
-/// The names of what a component imports, and behind a bar of what it exports.
-fn shown(alloc: Global, bytes: &[u8]) -> Result<String, Fail> {
-    let component = Component::from_bytes(alloc, "output", bytes)?;
-    let mut text = String::new(alloc);
-    for import in component.imports() {
-        text.push_str(import.name.as_str())?;
-        text.push_str(" ")?;
+/// The files of a row, with its configuration.
+fn files_of(alloc: Global, files: &[(&str, &str)], text: &str) -> Result<MemoryFiles, Fail> {
+    let mut held = MemoryFiles::new(alloc);
+    for (path, digits) in files {
+        held.write(alloc, path, &decode(alloc, *digits)?)?;
     }
-    text.push_str("|")?;
-    for export in component.exports() {
-        text.push_str(" ")?;
-        text.push_str(export.name.as_str())?;
-    }
-    Ok(text)
+    held.write(alloc, "d/c", text.as_bytes())?;
+    Ok(held)
 }
 
 /// What comes of a row.
 fn outcome(
     alloc: Global,
-    files: &[(&'static str, &'static [u8])],
+    files: &[(&'static str, &'static str)],
     text: &str,
 ) -> Result<String, Fail> {
-    let mut held = MemoryFiles::new(alloc);
-    for (path, bytes) in files {
-        held.write(alloc, path, bytes)?;
-    }
-    held.write(alloc, "d/c", text.as_bytes())?;
+    let mut held = files_of(alloc, files, text)?;
     let config = match Config::from_file(alloc, &mut held, "d/c") {
         Ok(config) => config,
         Err(error) => return Ok(format!(in alloc; "{error}")?),
     };
     match ComponentComposer::new("d/root", &config).compose(alloc, &mut held) {
-        Ok(bytes) => shown(alloc, &bytes),
+        Ok(bytes) => Ok(encode(alloc, &bytes)?),
         Err(error) => Ok(format!(in alloc; "{error}")?),
     }
 }
@@ -80,18 +55,18 @@ fn come_out(alloc: Global, rows: &[Row]) -> Result<(), Fail> {
     Ok(())
 }
 
-/// The root takes the instance `b`, whose component stands beside the configuration, in a search path, where the
-/// configuration says, or under another name; and of a definition.
-const COMPOSED: &[Row] = &[
+/// The component of the instance `b` that the root takes stands beside the configuration, in a search path, where the
+/// configuration says, or under another name.
+const FOUND: &[Row] = &[
     (
         &[("d/root", TAKES), ("d/b.wasm", GIVES)],
         "search-paths: []\n",
-        "g | b",
+        OF_ONE,
     ),
     (
         &[("d/root", TAKES), ("d/s/b.wasm", GIVES)],
         "search-paths: [r, s]\n",
-        "g | b",
+        OF_ONE,
     ),
     (
         &[
@@ -100,43 +75,77 @@ const COMPOSED: &[Row] = &[
             ("d/b.wasm", GIVES),
         ],
         "search-paths: [s]\n",
-        "g | b",
+        OF_ONE,
     ),
     (
         &[("d/root", TAKES), ("d/x", GIVES)],
         "dependencies: {b: x}\n",
-        "g | b",
+        OF_ONE,
     ),
     (
         &[("d/root", TAKES), ("d/o.wasm", GIVES)],
         "instantiations: {b: {dependency: o}}\n",
-        "g | b",
+        OF_ONE,
     ),
     (
         &[("d/root", TAKES), ("d/o.wasm", GIVES)],
         "instantiations: {root: {arguments: {b: o}}}\n",
-        "g | b",
+        OF_ONE,
     ),
     (
         &[("d/root", TAKES), ("/o.wasm", GIVES)],
         "instantiations: {root: {arguments: {b: /o}}}\n",
-        "g | b",
-    ),
-    (
-        &[("d/root", TAKES), ("d/defs/o.w", TAKES)],
-        "definitions: [defs/o.w]\n",
-        "b | b",
-    ),
-    (
-        &[("d/root", TAKES), ("d/b.wasm", TAKES), ("d/o.wasm", GIVES)],
-        "instantiations: {root: {arguments: {b: {instance: b, export: b}}}, b: {arguments: {b: o}}}\n",
-        "g | b",
+        OF_ONE,
     ),
 ];
 
 #[test]
-fn composes_what_is_found(rt: HostRuntime) -> Result<(), Fail> {
-    come_out(rt.alloc(), COMPOSED)
+fn a_component_is_found_by_the_rules_in_their_order(rt: HostRuntime) -> Result<(), Fail> {
+    come_out(rt.alloc(), FOUND)
+}
+
+/// What of an instance is given to an import, and in which order imports are served.
+const SERVED: &[Row] = &[
+    (
+        &[
+            ("d/root", TAKES),
+            ("d/defs/o.w", TAKES),
+            ("d/p.wasm", TAKES_E),
+        ],
+        "definitions: [defs/o.w, p.wasm]\n",
+        OF_DEFINITION,
+    ),
+    (
+        &[("d/root", TAKES), ("d/b.wasm", TAKES), ("d/o.wasm", GIVES)],
+        "instantiations: {root: {arguments: {b: {instance: b, export: b}}}, b: {arguments: {b: o}}}\n",
+        OF_EXPORT,
+    ),
+    (
+        &[
+            ("d/root", TAKES_TWO),
+            ("d/b.wasm", CALLS_D),
+            ("d/c.wasm", CALLS_E),
+            ("d/d.wasm", GIVES),
+            ("d/e.wasm", GIVES),
+        ],
+        "{}\n",
+        OF_FOUR,
+    ),
+    (
+        &[("d/root", TAKES), ("d/b.wasm", GIVES_BOTH)],
+        "skip-validation: true\n",
+        OF_WHOLE,
+    ),
+    (
+        &[("d/root", TAKES), ("d/b.wasm", GIVES_X)],
+        "{}\n",
+        OF_FITTING,
+    ),
+];
+
+#[test]
+fn an_import_is_given_what_the_rules_choose_in_their_order(rt: HostRuntime) -> Result<(), Fail> {
+    come_out(rt.alloc(), SERVED)
 }
 
 /// Each refusal of the composer.

@@ -3,3 +3,5 @@
 
 #[cfg(test)]
 mod compositions;
+#[cfg(test)]
+mod world;
