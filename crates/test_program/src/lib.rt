@@ -2,10 +2,14 @@
 #![tactic(auto)]
 
 #[cfg(test)]
+mod compose;
+#[cfg(test)]
 mod files;
 #[cfg(test)]
 mod host;
 #[cfg(test)]
 mod link;
+#[cfg(test)]
+mod runs;
 #[cfg(test)]
 mod texts;

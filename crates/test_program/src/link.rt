@@ -1,11 +1,11 @@
 //! `link ROOT OUT` over files and an output in memory. The expected bytes are written out by hand from the binary
 //! format, and the hashes are those of `sha256sum`.
 
+use crate::runs::end_of;
 use std::alloc::Global;
 use std::rt::HostRuntime;
 use std::test::Fail;
-use warg_base::{Files, MemoryFiles, MemoryOut};
-use warg_program::run;
+use warg_base::{Files, MemoryFiles};
 
 /// The header of a component.
 const EMPTY: &[u8] = b"\0asm\r\0\x01\0";
@@ -61,14 +61,6 @@ const IMPORTS_LINE: &str =
 const RESOURCE_LINE: &str =
     "bytes 56 06fda475ede42663551e476fe9653a740c812c38d87b50cc7911baee1486aff6\n";
 
-/// How a run ended: its status, what it printed, and the bytes of `out.wasm`, where there is such a file.
-#[derive(Drop)]
-struct End {
-    status: u8,
-    printed: String,
-    written: Option<Vec<u8>>,
-}
-
 /// What a run is given.
 #[derive(Clone, Copy)]
 struct Given<'a> {
@@ -92,36 +84,8 @@ fn of_root(root: &[u8]) -> Given<'_> {
     }
 }
 
-/// Runs what is given. The file `root.wasm` is written by the first call of the files.
-fn end_of(alloc: Global, given: Given<'_>) -> Result<End, Fail> {
-    let mut files = MemoryFiles::new(alloc);
-    if let Some(root) = given.root {
-        files.write(alloc, "root.wasm", root)?;
-    }
-    if let Some(call) = given.failing_file {
-        files.fail_at(call)?;
-    }
-    let mut out = MemoryOut::new(alloc);
-    if let Some(call) = given.failing_line {
-        out.fail_at(call)?;
-    }
-    let mut words = Vec::new(alloc);
-    for word in given.words {
-        words.push(String::from_str(alloc, word)?)?;
-    }
-    let status = run(alloc, &words, &mut files, &mut out);
-    let written = match files.read(alloc, "out.wasm") {
-        Ok(bytes) => Some(bytes),
-        Err(_) => None,
-    };
-    Ok(End {
-        status,
-        printed: String::from_utf8_lossy(alloc, out.bytes())?,
-        written,
-    })
-}
-
-/// Whether a run ends with this status and this line, and leaves these bytes in OUT, or no OUT.
+/// Whether a run ends with this status and this line, and leaves these bytes in OUT, or no OUT. The file `root.wasm` is
+/// written by the first call of the files.
 fn ends(
     alloc: Global,
     given: Given<'_>,
@@ -129,13 +93,15 @@ fn ends(
     line: &str,
     written: Option<&[u8]>,
 ) -> Result<bool, Fail> {
-    let end = end_of(alloc, given)?;
-    let is_written = match (&end.written, written) {
-        (None, None) => true,
-        (Some(bytes), Some(expected)) => bytes.as_slice() == expected,
-        _ => false,
-    };
-    Ok(end.status == status && end.printed.as_str() == line && is_written)
+    let mut files = MemoryFiles::new(alloc);
+    if let Some(root) = given.root {
+        files.write(alloc, "root.wasm", root)?;
+    }
+    if let Some(call) = given.failing_file {
+        files.fail_at(call)?;
+    }
+    let end = end_of(alloc, given.words, files, given.failing_line)?;
+    Ok(end.is(status, line, written))
 }
 
 #[test]

@@ -4,8 +4,8 @@ use comp_shape::ShapeError;
 use std::alloc::Global;
 use std::rt::HostRuntime;
 use std::test::Fail;
-use warg_base::Text;
-use warg_program::{Access, Form, Stop, Why};
+use warg_base::{FileError, Text};
+use warg_program::{Access, ComposerError, ConfigError, Form, Stop, Why};
 
 /// Fails where the text of a stop begins otherwise, or says no more.
 fn says(alloc: Global, stop: Stop<'_>, front: &str) -> Result<(), Fail> {
@@ -60,6 +60,29 @@ fn a_stop_of_a_form_or_a_number_says_which(rt: HostRuntime) -> Result<(), Fail> 
     )?;
     says(alloc, Stop::Usage, "these words are no command")?;
     says(alloc, Stop::Memory, "out of memory")
+}
+
+#[test]
+fn a_stop_of_a_composition_says_what_stands_in_the_way(rt: HostRuntime) -> Result<(), Fail> {
+    let alloc = rt.alloc();
+    let path = "c.yaml";
+    let error = ConfigError::NotUtf8;
+    says(
+        alloc,
+        Stop::BadConfig { path, error },
+        "c.yaml: the configuration is no UTF-8 text",
+    )?;
+    says(
+        alloc,
+        Stop::NotComposed(ComposerError::NoDependencies),
+        "no component is found for what the root imports",
+    )?;
+    let error = ComposerError::File(Text::copy_of(alloc, "b.wasm")?, FileError::Failed);
+    says(
+        alloc,
+        Stop::Unread(error),
+        "`b.wasm`: the file could not be read",
+    )
 }
 
 #[test]

@@ -1,5 +1,6 @@
 mod AbleLaws
 mod CommandLaws
+mod ComposeLaws
 mod SourceLaws
 mod StopLaws
 mod RootLaws

@@ -14,12 +14,15 @@ pub record Sources : Type 0 where
 pub data Asked : Type 0 where
   -- the path of the component, and that of the result
   Link : (root out : List ℕ) → Asked
+  -- the paths of the component and of the configuration, and that of the result
+  Compose : (root config out : List ℕ) → Asked
   -- the paths of what is read, and that of the result
   Assemble : (sources : Sources) → (out : List ℕ) → Asked
 
 -- the words of a command, without the program's own name
 abbrev pub words_of : Asked → List (List ℕ)
 words_of (Link root out) = codes "link" ∷ root ∷ out ∷ []
+words_of (Compose root config out) = codes "compose" ∷ root ∷ config ∷ out ∷ []
 words_of (Assemble sources out) = codes "assemble" ∷ sources.plan ∷ sources.replies ∷ sources.checked ∷ out ∷ []
 
 abbrev pub IsCommand : List (List ℕ) → Asked → Type 0
@@ -32,6 +35,7 @@ IsNoCommand words = (a : Asked) → IsCommand words a → ⊥
 -- the path of the result
 abbrev pub out_of : Asked → List ℕ
 out_of (Link root out) = out
+out_of (Compose root config out) = out
 out_of (Assemble sources out) = out
 
 -- the paths as the program holds them
@@ -41,4 +45,5 @@ named s = record { plan = s.plan.now; replies = s.replies.now; checked = s.check
 -- a command as the program holds it
 abbrev pub asked : Command → Asked
 asked (command.Link root out) = Link root.now out.now
+asked (command.Compose root config out) = Compose root.now config.now out.now
 asked (command.Assemble sources out) = Assemble (named sources) out.now

@@ -1,10 +1,12 @@
 pub mod World
 pub mod Command
 pub mod Variants
+pub mod ComposerVariants
 pub mod Lines
 pub mod Stop
 pub mod Link
 pub mod Assembly
+pub mod Compose
 pub mod Delivery
 pub mod Run
 pub mod Able

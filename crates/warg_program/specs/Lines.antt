@@ -15,7 +15,7 @@ use Rattle.warg_plan.specs.Walk.{Entry}
 abbrev pub digest_of : List ℕ → List ℕ
 digest_of bytes = decimal (length bytes) ++ codes " " ++ encode_lower (sha256 bytes) ++ codes "\n"
 
--- the line of a link
+-- the line of a link or of a composition
 abbrev pub bytes_line : List ℕ → List ℕ
 bytes_line linked = codes "bytes " ++ digest_of linked
 

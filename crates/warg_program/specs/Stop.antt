@@ -1,5 +1,6 @@
 -- The statuses that the program ends with, and the lines that it prints, where it stops.
 use Rattle.std.specs.Prelude.{ℕ, List, ◌++◌, codes}
+use Rattle.warg_program.specs.ComposerVariants.{composer_variant, config_variant}
 use Rattle.warg_program.specs.Variants.{variant}
 use Rattle.warg_program.specs.declared.stop.Stop.{Stop}
 use Rattle.warg_program.specs.declared.stop.Stop.TheVariants as stop
@@ -12,6 +13,9 @@ status_of (stop.Bad path form) = 5
 status_of (stop.BadComponent path error) = 6
 status_of (stop.Incompatible path why) = 6
 status_of (stop.TooLarge path number) = 6
+status_of (stop.BadConfig path error) = 6
+status_of (stop.NotComposed error) = 6
+status_of (stop.Unread error) = 4
 status_of (stop.Refused error) = 6
 status_of stop.Memory = 7
 
@@ -23,5 +27,8 @@ line_of (stop.Bad path form) = codes "bad " ++ path.now ++ codes "\n"
 line_of (stop.BadComponent path error) = codes "refused BadComponent\n"
 line_of (stop.Incompatible path why) = codes "refused Incompatible\n"
 line_of (stop.TooLarge path number) = codes "refused TooLarge\n"
+line_of (stop.BadConfig path error) = codes "refused " ++ config_variant error ++ codes "\n"
+line_of (stop.NotComposed error) = codes "refused " ++ composer_variant error ++ codes "\n"
+line_of (stop.Unread error) = codes "fault\n"
 line_of (stop.Refused error) = codes "refused " ++ variant error ++ codes "\n"
 line_of stop.Memory = codes "memory\n"

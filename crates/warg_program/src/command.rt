@@ -18,9 +18,22 @@ pub struct Sources<'a> {
 #[derive(Clone, Copy, Debug)]
 pub enum Command<'a> {
     /// `link ROOT OUT`: links the component in the file `root` into the file `out`.
-    Link { root: &'a str, out: &'a str },
+    Link {
+        root: &'a str,
+        out: &'a str,
+    },
+    /// `compose ROOT CONFIG OUT`: composes the component in the file `root` by the configuration in the file `config` into the
+    /// file `out`.
+    Compose {
+        root: &'a str,
+        config: &'a str,
+        out: &'a str,
+    },
     /// `assemble PLAN REPLIES CHECKED OUT`: assembles the component of a plan into the file `out`.
-    Assemble { sources: Sources<'a>, out: &'a str },
+    Assemble {
+        sources: Sources<'a>,
+        out: &'a str,
+    },
 }
 
 impl<'a> Command<'a> {
@@ -30,6 +43,7 @@ impl<'a> Command<'a> {
     {
         match self {
             Command::Link { out, .. } => out,
+            Command::Compose { out, .. } => out,
             Command::Assemble { out, .. } => out,
         }
     }
@@ -42,6 +56,11 @@ pub fn command_of(words: &[String]) -> Option<Command<'_>>
     match words {
         [command, root, out] if command.as_str() == "link" => Some(Command::Link {
             root: root.as_str(),
+            out: out.as_str(),
+        }),
+        [command, root, config, out] if command.as_str() == "compose" => Some(Command::Compose {
+            root: root.as_str(),
+            config: config.as_str(),
             out: out.as_str(),
         }),
         [command, plan, replies, checked, out] if command.as_str() == "assemble" => {

@@ -1,4 +1,5 @@
-//! The program's commands, over any files and any output: `link ROOT OUT` and `assemble PLAN REPLIES CHECKED OUT`.
+//! The program's commands, over any files and any output: `link ROOT OUT`, `compose ROOT CONFIG OUT` and `assemble PLAN
+//! REPLIES CHECKED OUT`.
 //!
 //! [`run`] gives the exit status, and [`outcome`] the cause beside it. The program `warg` hands them the host's words,
 //! files and output.
@@ -6,6 +7,8 @@
 
 mod assemble;
 mod command;
+mod compose;
+mod composer_variant;
 mod delivery;
 mod lines;
 mod link;
@@ -20,3 +23,4 @@ pub use program::{outcome, run};
 pub use stop::{Access, Form, Stop};
 pub use warg_replay::ClientError;
 pub use wasm_compose::Why;
+pub use wasm_compose::composer::{ComposerError, ConfigError};

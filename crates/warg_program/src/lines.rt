@@ -8,6 +8,7 @@ ghost use Rattle.warg_plan.specs.View.{entry_view, key_view, plan_view};
 ghost use Rattle.warg_program.specs.Lines as spec;
 ghost use Rattle.warg_program.specs.Stop.{line_of};
 
+use crate::composer_variant::{composer_variant, config_variant};
 use crate::stop::Stop;
 use crate::variant::variant;
 use hex::encode;
@@ -30,7 +31,7 @@ fn digest_of(alloc: Global, bytes: &[u8]) -> Result<String, AllocError>
     Ok(text)
 }
 
-/// The line of bytes that were linked.
+/// The line of bytes that were linked or composed.
 pub fn bytes_line(alloc: Global, linked: &[u8]) -> Result<String, AllocError>
     ensures { IfOk result (λ line. string_bytes line ≡ spec.bytes_line linked.now) }
 {
@@ -156,6 +157,15 @@ fn line_of(alloc: Global, stop: &Stop<'_>) -> Result<String, AllocError>
         Stop::BadComponent { .. } => String::from_str(alloc, "refused BadComponent\n"),
         Stop::Incompatible { .. } => String::from_str(alloc, "refused Incompatible\n"),
         Stop::TooLarge { .. } => String::from_str(alloc, "refused TooLarge\n"),
+        Stop::BadConfig { error, .. } => {
+            let name = config_variant(error);
+            format!(in alloc; "refused {name}\n")
+        }
+        Stop::NotComposed(error) => {
+            let name = composer_variant(error);
+            format!(in alloc; "refused {name}\n")
+        }
+        Stop::Unread(_) => String::from_str(alloc, "fault\n"),
         Stop::Refused(error) => {
             let name = variant(error);
             format!(in alloc; "refused {name}\n")

@@ -10,6 +10,7 @@ ghost use Rattle.warg_program.specs.declared.stop.Stop.{Stop as AnyStop};
 
 use crate::assemble::assembled;
 use crate::command::{Command, command_of};
+use crate::compose::composed;
 use crate::delivery::{Made, deliver};
 use crate::lines::refuse;
 use crate::link::linked;
@@ -30,6 +31,7 @@ fn make<'a, F: Files>(alloc: Global, command: &Command<'a>, files: &mut F) -> Re
 {
     match *command {
         Command::Link { root, out } => linked(alloc, files, root, out),
+        Command::Compose { root, config, .. } => composed(alloc, files, root, config),
         Command::Assemble { sources, .. } => assembled(alloc, files, sources),
     }
 }
@@ -99,21 +101,25 @@ pub fn outcome<'a, F: Files, O: Out>(
 /// Runs the command that the words are, and gives the exit status of the program.
 ///
 /// `link ROOT OUT` reads the component in the file ROOT and writes, into the file OUT, the component that nests it, makes
-/// one instance of it and exports that instance's exports. `assemble PLAN REPLIES CHECKED OUT` reads the text of a plan, a
+/// one instance of it and exports that instance's exports. `compose ROOT CONFIG OUT` writes the component that is composed of
+/// the one in the file ROOT, by the configuration in the file CONFIG, of components that this names or that are found in its
+/// folders. `assemble PLAN REPLIES CHECKED OUT` reads the text of a plan, a
 /// registry's replies and the signatures that were checked, and writes, into the file OUT, the component of the plan, as a
 /// client assembles it that has kept nothing. All other words are none of the commands.
 ///
 /// | status | line | cause |
 /// |---|---|---|
-/// | 0 | `bytes LENGTH HEX` | OUT is written by `link`: how many bytes it has, and their SHA-256 in lower case |
+/// | 0 | `bytes LENGTH HEX` | OUT is written by `link` or `compose`: how many bytes it has, and their SHA-256 in lower case |
 /// | 0 | `entry PACKAGE VERSION DIGEST KEY`, `bundle LENGTH HEX` | OUT is written by `assemble`: a line for each entry of the plan, and that of OUT |
 /// | 2 | `usage` | the words are no command |
-/// | 3 | `missing PATH` | there is no file at PATH, which is to be read |
+/// | 3 | `missing PATH` | there is no file at PATH, which the words name |
 /// | 4 | `fault` | the files failed, or the output did at the lines of status 0 |
 /// | 5 | `bad PATH` | PLAN is no UTF-8 text, or REPLIES or CHECKED has another form |
 /// | 6 | `refused BadComponent` | ROOT is no component, or has no shape |
 /// | 6 | `refused Incompatible` | what ROOT imports and exports does not go together |
 /// | 6 | `refused TooLarge` | a length, a count or an index of OUT would be above 2^32 - 1 |
+/// | 6 | `refused VARIANT` | CONFIG holds no configuration: `NotUtf8` or `Yaml` |
+/// | 6 | `refused VARIANT` | ROOT is not composed: the variant of the composer's error, or of the graph's within it |
 /// | 6 | `refused VARIANT` | the plan is not assembled: the variant of the client's error |
 /// | 7 | `memory` | no memory was left, or more than 200 scopes, or a thousand types, of a component lie in each other |
 ///

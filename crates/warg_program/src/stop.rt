@@ -9,6 +9,7 @@ use warg_base::FileError;
 use warg_recorded::FormError;
 use warg_replay::ClientError;
 use wasm_compose::Why;
+use wasm_compose::composer::{ComposerError, ConfigError};
 
 /// What was asked of the outside when it failed.
 #[derive(Clone, Copy, Debug)]
@@ -51,6 +52,12 @@ pub enum Stop<'a> {
     Incompatible { path: &'a str, why: Why },
     /// This length, count or index of what was to be written to this path is above 2^32 - 1: status 6.
     TooLarge { path: &'a str, number: u64 },
+    /// The file at this path holds no configuration: status 6.
+    BadConfig { path: &'a str, error: ConfigError },
+    /// The component is not composed: status 6.
+    NotComposed(ComposerError),
+    /// A file that a composition asks for could not be read or looked for: status 4.
+    Unread(ComposerError),
     /// The plan is not assembled: status 6.
     Refused(ClientError),
     /// No memory was left: status 7.
@@ -70,6 +77,9 @@ impl Stop<'_> {
             Stop::BadComponent { .. } => 6,
             Stop::Incompatible { .. } => 6,
             Stop::TooLarge { .. } => 6,
+            Stop::BadConfig { .. } => 6,
+            Stop::NotComposed(_) => 6,
+            Stop::Unread(_) => 4,
             Stop::Refused(_) => 6,
             Stop::Memory => 7,
         }
@@ -114,7 +124,7 @@ impl fmt::Display for Stop<'_> {
         match self {
             Stop::Usage => write!(
                 f,
-                "these words are no command: write `warg link ROOT OUT` or `warg assemble PLAN REPLIES CHECKED OUT`"
+                "these words are no command: write `warg link ROOT OUT`, `warg compose ROOT CONFIG OUT` or `warg assemble PLAN REPLIES CHECKED OUT`"
             ),
             Stop::Missing { path } => write!(f, "{path}: {}", FileError::Missing),
             Stop::Fault(access) => write!(f, "{access}"),
@@ -125,6 +135,9 @@ impl fmt::Display for Stop<'_> {
                 f,
                 "{path}: {number} is more than a component can count: make the component smaller"
             ),
+            Stop::BadConfig { path, error } => write!(f, "{path}: {error}"),
+            Stop::NotComposed(error) => write!(f, "{error}"),
+            Stop::Unread(error) => write!(f, "{error}"),
             Stop::Refused(error) => write!(f, "{error}"),
             Stop::Memory => write!(
                 f,

@@ -1,9 +1,11 @@
 //! Linking components: components, instances of them and the connections between these as a graph, which is encoded as one
-//! component; and the configuration of a composition.
+//! component; the configuration of a composition; and its composer.
 //!
-//! The crate hands on what `compose_graph`, `compose_component` and `compose_config` have, under the paths of the Rust crate.
+//! The crate hands on what `compose_graph`, `compose_component`, `compose_config` and `compose_files` have, under the paths of
+//! the Rust crate.
 #![tactic(auto)]
 
+pub mod composer;
 pub mod config;
 pub mod graph;
 

@@ -1,0 +1,5 @@
+//! Composing from a configuration and files: what `compose_files` has, under the path of the Rust crate.
+
+pub use compose_files::{
+    ComponentComposer, ComposerError, ConfigError, FromFile, ROOT_COMPONENT_NAME,
+};
