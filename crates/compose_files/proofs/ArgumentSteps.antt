@@ -1,5 +1,5 @@
 -- Steps of the search for an argument that names no import.
-use Rattle.std.proofs.Common.{◌≡◌, ℕ, Bool, true, false, ◌||◌, cond, List, [], ◌∷◌, ◌++◌, drop, map, slice_get, suc, zero, take, Option, Some, None, refl, sym, ap, ◌∙◌, bytes_eq, ◌+◌}
+use Rattle.std.proofs.Common.{◌≡◌, ℕ, Bool, true, false, ◌||◌, cond, List, [], ◌∷◌, ◌++◌, drop, map, slice_get, Some, refl, sym, ap, ◌∙◌, bytes_eq, ◌+◌}
 use Rattle.std.specs.List.{list_any}
 use Rattle.std.specs.Borrow.{Bor}
 use Rattle.std.proofs.lemmas.List.Folds.{list_any-append}

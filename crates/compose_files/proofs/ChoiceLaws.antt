@@ -5,13 +5,14 @@ use Rattle.comp_entity.specs.Entity.{EntityTree, ShapeTree}
 use Rattle.comp_entity.specs.Fits.{fits_loosely}
 use Rattle.comp_entity.specs.Views.{entity_tree, named_entities}
 use Rattle.comp_entity.specs.declared.entity.Entity.{Entity}
+use Rattle.compose_fit.specs.Wires.{Export, given_of}
 use Rattle.compose_graph.specs.Graph.{ComponentEntry, GraphTree, SelfConnection, component_of, connect_fault}
 use Rattle.compose_graph.specs.Refusal.{IsConnectRefusal}
 use Rattle.compose_graph.specs.declared.error.GraphError.{GraphError}
 use Rattle.compose_graph.specs.declared.error.GraphError.TheVariants as refusal
 use Rattle.compose_files.specs.Built.{IsChosen, IsJudged, Need, connection}
-use Rattle.compose_files.specs.Choice.{fitting_export, if_fits, instance_export, is_instance, is_instance_for}
-use Rattle.compose_files.specs.Refusals.{CannotBeJudged, HasNothingFitting, IsChoiceRefusal, IsFitRefusal, IsJudgeRefusal, IsNeedRefusal, LacksExport, fault_apart}
+use Rattle.compose_files.specs.Choice.{fitting_export, if_fits, instance_export, is_instance, is_instance_for, is_instance_named}
+use Rattle.compose_files.specs.Refusals.{HasNothingFitting, IsChoiceRefusal, IsFitRefusal, IsJudgeRefusal, IsNeedRefusal, IsUnjudged, LacksExport, fault_apart}
 use Rattle.compose_files.specs.declared.error.ComposerError.{ComposerError}
 use Rattle.compose_files.proofs.FitLaws.{chosen_first, judged_entry}
 use Rattle.compose_files.proofs.OwnFits.{entry_there}
@@ -34,18 +35,64 @@ apart g source export need true _ not_self h = absurd h
 
 -- whether something fits is asked in vain
 pub unjudged : (g : GraphTree) (source : ℕ) (export : Option ℕ) (need : Need) (e : GraphError) → (e ≡ refusal.NotCompatible → ⊥) → (e ≡ refusal.SelfConnection → ⊥)
-    → IsConnectRefusal (connect_fault g (connection source export need)) e → (told : ComposerError) → IsNeedRefusal need (λ f. f ≡ e) told → IsJudgeRefusal g source need told
+    → IsConnectRefusal (connect_fault g (connection source export need)) e → (told : ComposerError) → IsNeedRefusal need (λ f. f ≡ e) told → IsJudgeRefusal g source export need told
 unjudged g source export need e not_unfit not_self h told says =
-    let judge : CannotBeJudged g source need e = record {
-      export = export;
-      refused = apart g source export need (eqb source need.target) e not_self h;
-      not_unfit = not_unfit;
-    } in
-    inr (need_weaker need (λ f. f ≡ e) (CannotBeJudged g source need) (λ f is. subst (CannotBeJudged g source need) (sym is) judge) told says)
+    let judge : IsUnjudged g source export need e = (apart g source export need (eqb source need.target) e not_self h, not_unfit) in
+    inr (need_weaker need (λ f. f ≡ e) (IsUnjudged g source export need) (λ f is. subst (IsUnjudged g source export need) (sym is) judge) told says)
 
-pub judge_choice : (g : GraphTree) (source : ℕ) (need : Need) (name : Option (List ℕ)) (e : ComposerError) → IsJudgeRefusal g source need e → IsChoiceRefusal g source need name e
-judge_choice g source need name e (inl h) = inl h
-judge_choice g source need name e (inr h) = inr (inr (need_weaker need (CannotBeJudged g source need) (IsFitRefusal g source need name) (λ f j. inr j) e h))
+judge_choice : (g : GraphTree) (source : ℕ) (export : Option ℕ) (need : Need) (name : Option (List ℕ)) → ((component : ComponentEntry) → component_of g source ≡ Some component → is_some (given_of component.shape export) ≡ true)
+    → (e : ComposerError) → IsJudgeRefusal g source export need e → IsChoiceRefusal g source need name e
+judge_choice g source export need name there e (inl h) = inl h
+judge_choice g source export need name there e (inr h) =
+    inr (inr (need_weaker need (IsUnjudged g source export need) (IsFitRefusal g source need name) (λ f j. inr (record { export = export; there = there; unjudged = j })) e h))
+
+-- of the whole of an instance
+pub judge_whole : (g : GraphTree) (source : ℕ) (need : Need) (name : Option (List ℕ)) (e : ComposerError) → IsJudgeRefusal g source None need e → IsChoiceRefusal g source need name e
+judge_whole g source need name e h = judge_choice g source None need name (λ c is. refl) e h
+
+-- of an export that it has
+pub judge_export : (g : GraphTree) (source place : ℕ) (need : Need) (name : Option (List ℕ)) (s : ShapeTree) → option_map (λ (e : ComponentEntry). e.shape) (component_of g source) ≡ Some s → is_some (slice_get s.exports place) ≡ true
+    → (e : ComposerError) → IsJudgeRefusal g source (Some place) need e → IsChoiceRefusal g source need name e
+judge_export g source place need name s made there e h = judge_choice g source (Some place) need name by e h
+  where
+    given : (o : Option (List ℕ × EntityTree)) → is_some o ≡ true → is_some (option_map (λ (x : List ℕ × EntityTree). Export x.0 x.1) o) ≡ true
+    given None h = h
+    given (Some x) h = refl
+
+    by : (component : ComponentEntry) → component_of g source ≡ Some component → is_some (given_of component.shape (Some place)) ≡ true
+    by component is =
+        let same : Some component.shape ≡ Some s = ap (option_map (λ (e : ComponentEntry). e.shape)) (sym is) ∙ made in
+        let shape : component.shape ≡ s = cc in
+        ap (λ (t : ShapeTree). is_some (given_of t (Some place))) shape ∙ given (slice_get s.exports place) there
+
+-- what a search finds is there
+found_there : {A : Type 0} (p : A → Bool) (xs : List A) (from i : ℕ) → position_from p from xs ≡ Some i → (n : ℕ) × (i ≡ n + from) × (is_some (slice_get xs n) ≡ true)
+found_there p [] from i h = absurd cc
+found_there {A} p (x ∷ xs) from i h = by (p x) h (λ later. found_there p xs (from + 1) i later)
+  where
+    by : (b : Bool) → cond b (Some from) (position_from p (from + 1) xs) ≡ Some i → (position_from p (from + 1) xs ≡ Some i → (n : ℕ) × (i ≡ n + (from + 1)) × (is_some (slice_get xs n) ≡ true))
+        → (n : ℕ) × (i ≡ n + from) × (is_some (slice_get (x ∷ xs) n) ≡ true)
+    by true h later = let is : from ≡ i = cc in (0, omega (arith, is), refl)
+    by false h later = let rest = later h in (suc rest.0, omega (arith, rest.1), rest.2)
+
+pub named_there : (s : ShapeTree) (name : List ℕ) (place : ℕ) → instance_export s name ≡ Some place → is_some (slice_get s.exports place) ≡ true
+named_there s name place h =
+    let found = found_there (is_instance_named name) s.exports 0 place h in
+    let same : place ≡ found.0 = omega (arith, found.1) in
+    ap (λ i. is_some (slice_get s.exports i)) same ∙ found.2
+
+-- an entry of a list that is seen in another way
+pub map_at : {X Y : Type 0} (f : X → Y) (xs : List X) (i : ℕ) (x : X) → i < length xs → x ≡ get_or xs i x → slice_get (map f xs) i ≡ Some (f x)
+map_at f [] i x less is = absurd (omega arith)
+map_at f (y ∷ xs) zero x less is = ap (λ z. Some (f z)) (sym is)
+map_at f (y ∷ xs) (suc i) x less is = map_at f xs i x (omega arith) is
+
+abbrev pub seen : List ℕ × Entity → List ℕ × EntityTree
+seen e = (e.0, entity_tree e.1)
+
+-- the entry of a place that a list has is there in what it is seen as
+pub place_there : (s : ShapeTree) (xs : List (List ℕ × Entity)) (x : List ℕ × Entity) (place : ℕ) → s.exports ≡ named_entities xs → place < length xs → x ≡ get_or xs place x → is_some (slice_get s.exports place) ≡ true
+place_there s xs x place exports less is = ap (λ es. is_some (slice_get es place)) exports ∙ ap is_some (map_at seen xs place x less is)
 
 pub unfit_choice : (g : GraphTree) (source : ℕ) (need : Need) (name : Option (List ℕ)) (e : GraphError) → HasNothingFitting g source need name e
     → (told : ComposerError) → IsNeedRefusal need (λ f. f ≡ e) told → IsChoiceRefusal g source need name told
@@ -84,16 +131,7 @@ nothing_first g source need j none = record {
   says = refl;
 }
 
--- an entry of a list that is seen in another way
-pub map_at : {X Y : Type 0} (f : X → Y) (xs : List X) (i : ℕ) (x : X) → i < length xs → x ≡ get_or xs i x → slice_get (map f xs) i ≡ Some (f x)
-map_at f [] i x less is = absurd (omega arith)
-map_at f (y ∷ xs) zero x less is = ap (λ z. Some (f z)) (sym is)
-map_at f (y ∷ xs) (suc i) x less is = map_at f xs i x (omega arith) is
-
 -- ---- the search for the first export that is an instance and fits
-
-abbrev pub seen : List ℕ × Entity → List ℕ × EntityTree
-seen e = (e.0, entity_tree e.1)
 
 -- the exports of the component that is judged
 exports_are : (g : GraphTree) (source : ℕ) (need : Need) (j : IsJudged g source None need false) (s : ShapeTree) → option_map (λ (e : ComponentEntry). e.shape) (component_of g source) ≡ Some s → j.component.shape ≡ s

@@ -4,7 +4,7 @@ use Rattle.comp_entity.specs.Entity.{EntityTree, ShapeTree}
 use Rattle.comp_entity.specs.Fits.{fits_loosely}
 use Rattle.compose_fit.specs.Wires.{Given, Export, given_of}
 use Rattle.compose_graph.specs.Graph.{ComponentEntry, ConnectFault, GraphTree, NotCompatible, SelfConnection, component_of, connect_fault, connection_into, fault_between, fault_of_import, fault_of_offer, given_entity}
-use Rattle.compose_files.specs.Built.{IsChosen, IsJudged, Need, asked_by, connection}
+use Rattle.compose_files.specs.Built.{IsChosen, IsJudged, Need, connection}
 use Rattle.compose_files.specs.Choice.{fits_at, fitting_export, given_fits, if_fits, instance_export}
 
 abbrev pub judgement : Bool → Option ConnectFault

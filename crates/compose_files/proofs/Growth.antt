@@ -1,5 +1,5 @@
 -- Instances that have names stay, and more are added behind them.
-use Rattle.std.proofs.Common.{◌≡◌, ◌≤◌, ℕ, suc, zero, Bool, true, false, cond, List, [], ◌∷◌, ◌++◌, length, Option, Some, None, is_some, MatchOption, refl, sym, ap, ◌∙◌, bytes_eq, arith, length-append}
+use Rattle.std.proofs.Common.{◌≡◌, ◌≤◌, ℕ, suc, zero, Bool, true, false, cond, List, [], ◌∷◌, length, Option, Some, None, is_some, MatchOption, refl, ap, ◌∙◌, bytes_eq, arith, length-append}
 use Rattle.std.specs.Map.{lookup}
 use Rattle.compose_config.specs.Plan.{Argument}
 use Rattle.compose_graph.specs.Graph.{GraphTree}

@@ -12,3 +12,10 @@ mod Added
 mod Growth
 mod OneStep
 mod OneGraph
+mod ReadLaws
+mod Extended
+mod NotRefused
+mod ChoiceOutside
+mod ServesOutside
+mod BuildOutside
+mod CompleteLaws

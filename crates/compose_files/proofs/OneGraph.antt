@@ -16,17 +16,17 @@ use Rattle.compose_files.specs.Paths.{joined, stem}
 use Rattle.compose_files.specs.declared.offer.Offer.{Offer}
 use Rattle.compose_files.proofs.OneStep.{AtMostOne, one_after, one_by, one_end, one_found, one_pair, one_through}
 
-abbrev OneShape : Type 0
+abbrev pub OneShape : Type 0
 OneShape = (bytes : List ℕ) (a b : ShapeTree) → HasShape bytes a → HasShape bytes b → a ≡ b
 
 -- what of an instance is given to an import
-one_chosen : (g : GraphTree) (source : ℕ) (need : Need) (name : Option (List ℕ)) → AtMostOne (IsChosen g source need name)
+pub one_chosen : (g : GraphTree) (source : ℕ) (need : Need) (name : Option (List ℕ)) → AtMostOne (IsChosen g source need name)
 one_chosen g source need name a b p q =
     let component = one_found (component_of g source) p.component q.component p.made_from q.made_from in
     let asked = one_found (asked_by g need) p.asked q.asked p.asks q.asks in
     one_found (choice q.component.shape q.asked name) a b (sym (λ k. choice (component k).shape (asked k) name) ∙ p.chosen) q.chosen
 
-one_connected : (source : ℕ) (export : Option ℕ) (need : Need) (old : Built) → AtMostOne (IsConnected source export need old)
+pub one_connected : (source : ℕ) (export : Option ℕ) (need : Need) (old : Built) → AtMostOne (IsConnected source export need old)
 one_connected source export need old a b p q = p.connected ∙ sym q.connected
 
 one_taken : (s : Sources) (need : Need) (a : Argument) (is_new : Bool) (source : ℕ) (old : Built) → AtMostOne (IsTaken s need a is_new source old)
@@ -45,7 +45,7 @@ one_made b name (Some component) = one_pair (Some b.graph.next_instance) (with_n
 module _ (one_shape : OneShape) where
   -- ---- components
 
-  one_added : (files : FileMap) (path name : List ℕ) (old : GraphTree) → AtMostOne (λ (r : ShapeTree × GraphTree). IsAdded files path name r.0 old r.1)
+  pub one_added : (files : FileMap) (path name : List ℕ) (old : GraphTree) → AtMostOne (λ (r : ShapeTree × GraphTree). IsAdded files path name r.0 old r.1)
   one_added files path name old a b p q =
       let bytes = one_found (file_at files path) p.bytes q.bytes p.found q.found in
       let shape = one_shape q.bytes a.0 b.0 (subst (λ l. HasShape l a.0) bytes p.shaped) q.shaped in
@@ -59,7 +59,7 @@ module _ (one_shape : OneShape) where
       λ k. ((p.0 ∙ sym q.0) k, (added k).1)
 
   module _ (s : Sources) where
-    one_component : (name : List ℕ) (old : GraphTree) → AtMostOne (λ (r : Option ℕ × GraphTree). IsComponentFor s name old r.0 r.1)
+    pub one_component : (name : List ℕ) (old : GraphTree) → AtMostOne (λ (r : Option ℕ × GraphTree). IsComponentFor s name old r.0 r.1)
     one_component name old =
         one_by (component_named old.components name) (λ (r : Option ℕ × GraphTree). IsRead s name old (file_for s name) r.0 r.1) (λ (c : ComponentEntry) (r : Option ℕ × GraphTree). (r.0 ≡ Some c.id) × (r.1 ≡ old))
         (one_read s name old (file_for s name)) (λ c. one_pair (Some c.id) old)
@@ -77,7 +77,7 @@ module _ (one_shape : OneShape) where
           offers = λ name. (p.offers name ∙ (λ k. option_or (old.offers name) (offer old.graph.next_component (added k).0 name)) ∙ sym (q.offers name)) k;
         }
 
-    one_defined_at : (n : ℕ) (old : Built) → AtMostOne (DefinesAt s n old)
+    pub one_defined_at : (n : ℕ) (old : Built) → AtMostOne (DefinesAt s n old)
     one_defined_at n old a b p q =
         one_through (λ path. slice_get s.settings.definitions n ≡ Some path) (λ path new. IsDefined s path old new) (one_found (slice_get s.settings.definitions n)) (λ path. one_defined path old)
         p.path q.path a b p.there q.there p.defined q.defined
@@ -89,7 +89,7 @@ module _ (one_shape : OneShape) where
         one_through (λ (r : Option ℕ × GraphTree). IsComponentFor s (dependency_name s.settings name) old.graph r.0 r.1) (λ r (m : Option ℕ × Built). IsMade (with_graph old r.1) name r.0 m.0 m.1)
         (one_component (dependency_name s.settings name) old.graph) (λ r. one_made (with_graph old r.1) name r.0) (p.component, p.graph) (q.component, q.graph) a b p.found q.found p.made q.made
 
-    one_instance : (name : List ℕ) (old : Built) → AtMostOne (λ (r : Option ℕ × Built). IsInstanceFor s name old r.0 r.1)
+    pub one_instance : (name : List ℕ) (old : Built) → AtMostOne (λ (r : Option ℕ × Built). IsInstanceFor s name old r.0 r.1)
     one_instance name old =
         one_by (lookup (λ k. bytes_eq name k) old.named) (λ (r : Option ℕ × Built). IsNew s name old r.0 r.1) (λ (id : ℕ) (r : Option ℕ × Built). (r.0 ≡ Some id) × (r.1 ≡ old))
         (one_new name old) (λ id. one_pair (Some id) old)
@@ -106,7 +106,7 @@ module _ (one_shape : OneShape) where
 
     -- ---- turns
 
-    one_serves_at : (instance : List ℕ) (target : ℕ) (names : List (List ℕ)) (n : ℕ) (old : Built) → AtMostOne (ServesAt s instance target names n old)
+    pub one_serves_at : (instance : List ℕ) (target : ℕ) (names : List (List ℕ)) (n : ℕ) (old : Built) → AtMostOne (ServesAt s instance target names n old)
     one_serves_at instance target names n old a b p q =
         one_through (λ name. slice_get names n ≡ Some name) (λ name new. Serves s (record { instance = instance; target = target; place = n; name = name }) old new)
         (one_found (slice_get names n)) (λ name. one_serves (record { instance = instance; target = target; place = n; name = name }) old) p.name q.name a b p.there q.there p.serves q.serves
@@ -114,7 +114,7 @@ module _ (one_shape : OneShape) where
     abbrev ServesAll : Built → List ℕ × ℕ → ComponentEntry → Built → Type 0
     ServesAll old i c new = AfterSteps (ServesAt s i.0 i.1 (import_names c.shape)) old (length c.shape.imports) new
 
-    one_turn : (k : ℕ) (old : Built) → AtMostOne (HasTurn s k old)
+    pub one_turn : (k : ℕ) (old : Built) → AtMostOne (HasTurn s k old)
     one_turn k old a b p q =
         let there = one_found (slice_get old.named k) (p.name, p.id) (q.name, q.id) p.there q.there in
         one_through (λ c. component_of old.graph q.id ≡ Some c) (ServesAll old (q.name, q.id)) (one_found (component_of old.graph q.id)) (λ c. one_after (ServesAt s q.name q.id (import_names c.shape)) (one_serves_at q.name q.id (import_names c.shape)) old (length c.shape.imports))
@@ -123,12 +123,12 @@ module _ (one_shape : OneShape) where
     -- ---- all of it
 
     module _ (root : List ℕ) where
-      one_all_defined : (n : ℕ) → AtMostOne (HasDefined root s n)
+      pub one_all_defined : (n : ℕ) → AtMostOne (HasDefined root s n)
       one_all_defined n a b p q =
           one_through (λ (r : ShapeTree × GraphTree). IsAdded s.files root root_name r.0 no_graph r.1) (λ r b. AfterSteps (DefinesAt s) (begun r.1) n b)
           (one_added s.files root root_name no_graph) (λ r. one_after (DefinesAt s) one_defined_at (begun r.1) n) (p.shape, p.graph) (q.shape, q.graph) a b p.rooted q.rooted p.defines q.defines
 
-      one_start : AtMostOne (IsStarted root s)
+      pub one_start : AtMostOne (IsStarted root s)
       one_start a b p q =
           one_through (HasDefined root s (length s.settings.definitions)) (λ d b. b ≡ with_named d root_name 0) (one_all_defined (length s.settings.definitions)) (λ d a b p q. p ∙ sym q)
           p.defined q.defined a b p.has_defined q.has_defined p.instantiated q.instantiated

@@ -25,7 +25,7 @@ one_through P Q one each x y a b px py qa qb = each y a b (subst (λ z. Q z a) (
 
 module _ {S : Type 0} (Step : ℕ → S → S → Type 0) where
   -- a step past some number of steps is the next one of a state that is reached
-  step_after : (start : S) (n m : ℕ) (end : S) → n < m → AfterSteps Step start m end → (old : S) × (new : S) × AfterSteps Step start n old × Step n old new
+  pub step_after : (start : S) (n m : ℕ) (end : S) → n < m → AfterSteps Step start m end → (old : S) × (new : S) × AfterSteps Step start n old × Step n old new
   step_after start n zero end less h = absurd (omega arith)
   step_after start n (suc m) end less h = by (cases_order n m) (λ below. step_after start n m h.0 below h.1)
     where

@@ -4,7 +4,6 @@ use Rattle.comp_entity.specs.Entity.{EntityTree, ShapeTree}
 use Rattle.compose_fit.specs.Wires.{Given, given_of}
 use Rattle.compose_graph.specs.Graph.{ComponentEntry, ConnectFault, GraphTree, NotCompatible, component_of, connect_fault, fault_of_import, fault_of_offer, no_graph, with_component, with_instance}
 use Rattle.compose_graph.specs.Refusal.{IsConnectRefusal}
-use Rattle.compose_graph.specs.declared.connection.Connection.{Connection}
 use Rattle.compose_graph.specs.declared.error.GraphError.{GraphError}
 use Rattle.compose_graph.specs.declared.error.GraphError.TheVariants as refusal
 use Rattle.compose_files.specs.Built.{IsJudged, Need}
@@ -72,7 +71,7 @@ offer_good : (asked : EntityTree) (given : Option Given) → given_fits asked gi
 offer_good asked None h = absurd cc
 offer_good asked (Some given) h = ap (λ b. cond b None (Some NotCompatible)) h
 
-none_refused : (e : GraphError) → (e ≡ refusal.Memory → ⊥) → IsConnectRefusal None e → ⊥
+pub none_refused : (e : GraphError) → (e ≡ refusal.Memory → ⊥) → IsConnectRefusal None e → ⊥
 none_refused refusal.SelfConnection not_memory h = cc
 none_refused refusal.NoSource not_memory h = cc
 none_refused refusal.NoTarget not_memory h = cc

@@ -1,5 +1,5 @@
 -- The search for the first of some entries, from a place on.
-use Rattle.std.proofs.Common.{◌≡◌, ℕ, ◌+◌, ◌<◌, suc, Bool, true, false, cond, List, [], ◌∷◌, length, drop, drop-cons, map, get_or, Option, Some, None, refl, sym, ap, ◌∙◌, add-one}
+use Rattle.std.proofs.Common.{◌≡◌, ℕ, ◌+◌, ◌<◌, suc, Bool, true, false, cond, List, ◌∷◌, length, drop, drop-cons, map, get_or, Some, None, sym, ap, ◌∙◌, add-one}
 use Rattle.std.specs.List.{position_from}
 use Rattle.std.proofs.Math.Seq.{drop-length}
 

@@ -1,5 +1,5 @@
 -- Searches through lists, from the front.
-use Rattle.std.proofs.Common.{◌≡◌, ◌<◌, ℕ, suc, zero, Bool, true, false, cond, List, [], ◌∷◌, length, map, take, find, get_or, Option, Some, None, option_map, slice_get, refl, sym, ap, ◌∙◌, arith}
+use Rattle.std.proofs.Common.{◌≡◌, ◌<◌, ℕ, suc, zero, Bool, true, false, cond, List, [], ◌∷◌, length, map, take, find, get_or, Some, None, option_map, slice_get, refl, sym, ap, ◌∙◌, arith}
 use Rattle.compose_files.specs.Built.{Sources}
 use Rattle.compose_files.specs.Paths.{joined, wasm_in}
 use Rattle.compose_files.specs.Refusals.{candidates}

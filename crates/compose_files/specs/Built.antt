@@ -7,7 +7,7 @@ use Rattle.warg_base.specs.Files.{FileMap, file_at}
 use Rattle.comp_entity.specs.Entity.{EntityTree, ShapeTree}
 use Rattle.comp_shape.specs.Shape.{HasShape}
 use Rattle.compose_config.specs.Plan.{Argument, Instance, Settings, dependency_name, instance_named}
-use Rattle.compose_graph.specs.Graph.{ComponentEntry, GraphTree, component_named, component_of, connect_fault, no_graph, with_component, with_connection, with_instance}
+use Rattle.compose_graph.specs.Graph.{ComponentEntry, GraphTree, component_named, component_of, connect_fault, with_component, with_connection, with_instance}
 use Rattle.compose_graph.specs.declared.connection.Connection.{Connection}
 use Rattle.compose_files.specs.Choice.{choice, fits_at, instance_export}
 use Rattle.compose_files.specs.Paths.{is_empty, joined, stem, wasm_in}

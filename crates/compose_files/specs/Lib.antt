@@ -7,3 +7,4 @@ pub mod View
 pub mod Refusals
 pub mod Refused
 pub mod Read
+pub mod Composable

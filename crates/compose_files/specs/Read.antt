@@ -35,12 +35,23 @@ pub record HoldsNoSettings (files : FileMap) (path : List ℕ) (e : DeError) : T
   pub refused : ReadFails e (whole_at settings_at text)
   pub not_for_memory : e ≢ yaml.Memory
 
+-- the refusal of a text
+abbrev pub refusal_of : DeError → ConfigError
+refusal_of yaml.Memory = error.Memory
+refusal_of e = error.Yaml e
+
 -- why no configuration is read from the file at a path; want of memory has no cause here
 abbrev pub IsConfigRefusal : FileMap → List ℕ → ConfigError → Type 0
 IsConfigRefusal files path (error.File e) = IsFileFault files path e
 IsConfigRefusal files path error.NotUtf8 = IsNoText files path
 IsConfigRefusal files path (error.Yaml e) = HoldsNoSettings files path e
 IsConfigRefusal files path error.Memory = Unit {0}
+
+-- want of memory, or a failure of the outside
+abbrev pub IsConfigShort : ConfigError → Type 0
+IsConfigShort (error.File file.Failed) = Unit {0}
+IsConfigShort error.Memory = Unit {0}
+IsConfigShort _ = ⊥
 
 -- the outside failed
 abbrev pub is_outside : ConfigError → Bool

@@ -11,6 +11,7 @@ use Rattle.comp_shape.specs.Shape.{HasShape}
 use Rattle.comp_shape.specs.declared.error.ShapeError.{ShapeError}
 use Rattle.comp_shape.specs.declared.error.ShapeError.TheVariants as shape
 use Rattle.compose_config.specs.Plan.{Argument, Settings, dependency_name}
+use Rattle.compose_fit.specs.Wires.{given_of}
 use Rattle.compose_graph.specs.Graph.{ComponentEntry, ConnectFault, GraphTree, component_named, component_of, connect_fault, connection_into, fault_between}
 use Rattle.compose_graph.specs.Refusal.{IsAddRefusal, IsConnectRefusal, IsInstantiateRefusal}
 use Rattle.compose_graph.specs.declared.connection.Connection.{Connection}
@@ -181,15 +182,21 @@ pub record HasNothingFitting (g : GraphTree) (source : ℕ) (need : Need) (name 
   pub none : choice component.shape asked name ≡ None
   pub says : e ≡ graph.NotCompatible
 
--- whether something fits is asked in vain
+-- whether the whole of an instance, or an export of it, fits is asked in vain, whether it has that export or not
+abbrev pub IsUnjudged : GraphTree → ℕ → Option ℕ → Need → GraphError → Type 0
+IsUnjudged g source export need e =
+    IsConnectRefusal (fault_apart g (connection source export need)) e × (e ≢ graph.NotCompatible)
+
+abbrev pub IsJudgeRefusal : GraphTree → ℕ → Option ℕ → Need → ComposerError → Type 0
+IsJudgeRefusal g source export need e =
+    IsGraphRefusal (LacksInstance g source) e ⊎ IsNeedRefusal need (IsUnjudged g source export need) e
+
+-- likewise of the whole, or of an export that the instance has, where it is there
 pub record CannotBeJudged (g : GraphTree) (source : ℕ) (need : Need) (e : GraphError) : Type 0 where
   pub export : Option ℕ
-  pub refused : IsConnectRefusal (fault_apart g (connection source export need)) e
-  pub not_unfit : e ≢ graph.NotCompatible
-
-abbrev pub IsJudgeRefusal : GraphTree → ℕ → Need → ComposerError → Type 0
-IsJudgeRefusal g source need e =
-    IsGraphRefusal (LacksInstance g source) e ⊎ IsNeedRefusal need (CannotBeJudged g source need) e
+  pub there : (component : ComponentEntry) → component_of g source ≡ Some component
+      → is_some (given_of component.shape export) ≡ true
+  pub unjudged : IsUnjudged g source export need e
 
 abbrev pub IsFitRefusal : GraphTree → ℕ → Need → Option (List ℕ) → GraphError → Type 0
 IsFitRefusal g source need name e = HasNothingFitting g source need name e ⊎ CannotBeJudged g source need e

@@ -1,11 +1,11 @@
 -- Why nothing is composed: the start is refused, or an import of an instance that takes its turn, or what is built in the end.
 -- Each is refused in a state that is reached.
-use Rattle.std.specs.Prelude.{◌≡◌, ◌≢◌, ◌⊎◌, ℕ, true, List, [], length, Some, None, is_some, slice_get}
+use Rattle.std.specs.Prelude.{◌≡◌, ◌≢◌, ◌≤◌, ◌⊎◌, ℕ, true, List, [], length, Some, None, is_some, slice_get}
 use Rattle.compose_config.specs.Plan.{Settings}
 use Rattle.compose_graph.specs.Encoding.{IsComposeRefusal}
 use Rattle.comp_entity.specs.Entity.{ShapeTree}
 use Rattle.compose_graph.specs.Graph.{ComponentEntry, GraphTree, component_of, no_graph}
-use Rattle.compose_graph.specs.Refusal.{IsInstantiateRefusal}
+use Rattle.compose_graph.specs.Refusal.{IsInstantiateRefusal, last_id}
 use Rattle.compose_graph.specs.declared.compose_error.ComposeError.TheVariants as encoding
 use Rattle.compose_files.specs.Built.{AfterSteps, Built, DefinesAt, HasGoodArguments, IsAdded, Sources, import_names, with_named}
 use Rattle.compose_files.specs.Composed.{HasDefined, HasTurn, IsBuilt, IsStarted, ServesAt, begun, options_of, root_name}
@@ -121,3 +121,20 @@ pub record StopsAtEnd (root : List ℕ) (s : Sources) (e : ComposerError) : Type
 
 abbrev pub IsRefused : List ℕ → Sources → ComposerError → Type 0
 IsRefused root s e = IsBuildRefusal root s e ⊎ StopsAtEnd root s e
+
+-- The numbers that a graph gave are such as a `usize` holds, of which the largest is given to nothing.
+pub record HasNumbers (g : GraphTree) : Type 0 where
+  pub components : g.next_component ≤ last_id
+  pub instances : g.next_instance ≤ last_id
+
+-- All that is to be written is built: there is an instance beside the root's, and the numbers are in bounds.
+pub record IsComplete (root : List ℕ) (s : Sources) (b : Built) : Type 0 where
+  pub is_built : IsBuilt root s b
+  pub several : is_some (component_of b.graph 1) ≡ true
+  pub numbers : HasNumbers b.graph
+
+-- a graph is not written
+abbrev pub IsEncodeRefusal : Settings → GraphTree → ComposerError → Type 0
+IsEncodeRefusal s g (error.Encode e) = IsComposeRefusal g (options_of s) e × (e ≢ encoding.Memory)
+IsEncodeRefusal s g error.Memory = Unit {0}
+IsEncodeRefusal s g _ = ⊥

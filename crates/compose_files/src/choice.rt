@@ -112,7 +112,8 @@ fn fits_own(
     requires { source.0 ≡ (need_of need.now).target }
     ensures judged { IfOk result
         (IsJudged (graph_of graph.now) source.0 (option_map (λ e. e.0) export) (need_of need.now)) }
-    ensures refused { IfErr result (IsJudgeRefusal (graph_of graph.now) source.0 (need_of need.now)) }
+    ensures refused { IfErr result
+        (IsJudgeRefusal (graph_of graph.now) source.0 (option_map (λ e. e.0) export) (need_of need.now)) }
 {
     let component = component_of(graph, source)?;
     if need.place.0 >= component.types().imports.len() {
@@ -131,7 +132,8 @@ fn fits(
 ) -> Result<bool, ComposerError>
     ensures judged { IfOk result
         (IsJudged (graph_of graph.now) source.0 (option_map (λ e. e.0) export) (need_of need.now)) }
-    ensures refused { IfErr result (IsJudgeRefusal (graph_of graph.now) source.0 (need_of need.now)) }
+    ensures refused { IfErr result
+        (IsJudgeRefusal (graph_of graph.now) source.0 (option_map (λ e. e.0) export) (need_of need.now)) }
 {
     match graph.validate_connection(alloc, source, export, need.target, need.place) {
         Ok(()) => Ok(true),

@@ -20,7 +20,9 @@ use crate::choice::component_of;
 use crate::define::define_all;
 use crate::error::ComposerError;
 use crate::find::{add, read_file};
+use crate::laws::what_can_be_built_is_refused_in_the_end;
 use crate::serve::{make_named, take_turn};
+use compose_complete::laws::graphs_that_can_be_encoded_are_refused_for_their_numbers;
 use compose_config::Config;
 use compose_graph::{ComponentId, ComposeError, CompositionGraph, EncodeOptions, InstanceId};
 use std::alloc::Global;
@@ -162,8 +164,10 @@ fn written(
 }
 
 impl<'a> ComponentComposer<'a> {
+    ghost use Rattle.compose_files.specs.Built.{Built};
+    ghost use Rattle.compose_files.specs.Composable.{IsComposable, IsShortOfMemory};
     ghost use Rattle.compose_files.specs.Composed.{IsComposed};
-    ghost use Rattle.compose_files.specs.Refused.{IsRefused};
+    ghost use Rattle.compose_files.specs.Refused.{IsComplete, IsEncodeRefusal, IsRefused};
     ghost use Rattle.compose_files.specs.View.{config_of, root_of};
 
     /// A composer of the root in the file at a path.
@@ -183,8 +187,9 @@ impl<'a> ComponentComposer<'a> {
     /// is named by `dependencies`, or it is the first of `NAME.wasm` in the configuration's folder and in those of
     /// `search-paths`. Where there is none the import is left open.
     ///
-    /// The error is the first that comes in this order; each variant says what its cause is. Whatever is answered, the
-    /// files hold what they held.
+    /// The error is the first that comes in this order; each variant says what its cause is. Where an instance beside
+    /// the root's is built of the files, and the outside does not fail, it is `Encode` or `Memory`; and `Memory` where what
+    /// is built can be encoded and is not read again. Whatever is answered, the files hold what they held.
     pub fn compose<F: Files>(&self, alloc: Global, files: &mut F) -> Result<Vec<u8>, ComposerError>
         ensures never_falls { F.faults files.old ≤ F.faults files.new }
         ensures kept { F.told files.new ≡ F.told files.old }
@@ -194,9 +199,18 @@ impl<'a> ComponentComposer<'a> {
             → IfOk result (λ bytes. (s : ShapeTree) × HasShape bytes.items s) }
         ensures refused { IfErr result (λ e. (held : FileMap) → F.told files.old ≡ Some held
             → IsRefused (root_of self.now) (sources (config_of self.now) held) e) }
+        ensures complete { IfErr result (λ e. (held : FileMap) (b : Built) → F.told files.old ≡ Some held
+            → IsComplete (root_of self.now) (sources (config_of self.now) held) b
+            → (Rose (F.faults files.old) (F.faults files.new) → ⊥)
+            → IsEncodeRefusal (settings_of (config_of self.now)) b.graph e) }
+        ensures able { IfErr result (λ e. (held : FileMap) → F.told files.old ≡ Some held
+            → IsComposable (root_of self.now) (sources (config_of self.now) held)
+            → is_failure e ≡ false → IsShortOfMemory e) }
         ensures failed { IfErr result
             (λ e. is_failure e ≡ true → Rose (F.faults files.old) (F.faults files.new)) }
     {
+        graphs_that_can_be_encoded_are_refused_for_their_numbers();
+        what_can_be_built_is_refused_in_the_end();
         let mut builder = Builder::new(alloc);
         build(&mut builder, alloc, files, self.config, self.component)?;
         written(alloc, &builder.graph, self.config)

@@ -3,9 +3,10 @@
 ghost use Rattle.std.specs.Prelude.{◌≡◌, ◌≤◌, true, IfErr, IfOk, Some};
 ghost use Rattle.warg_values.specs.Faults.{Rose};
 ghost use Rattle.warg_base.specs.Files.{FileMap};
+ghost use Rattle.compose_config.specs.Plan.{Settings};
 ghost use Rattle.compose_config.specs.View.{settings_of};
 ghost use Rattle.compose_files.specs.Paths.{folder};
-ghost use Rattle.compose_files.specs.Read.{HoldsSettings, IsConfigRefusal, is_outside};
+ghost use Rattle.compose_files.specs.Read.{HoldsSettings, IsConfigRefusal, IsConfigShort, is_outside, refusal_of};
 
 use crate::config_error::ConfigError;
 use crate::paths::folder;
@@ -13,6 +14,16 @@ use compose_config::Config;
 use std::alloc::Global;
 use warg_base::{FileError, Files, Text};
 use yaml_read::DeError;
+
+/// The refusal of a text.
+fn refusal(error: DeError) -> ConfigError
+    ensures { result ≡ refusal_of error }
+{
+    if let DeError::Memory = &error {
+        return ConfigError::Memory;
+    }
+    ConfigError::Yaml(error)
+}
 
 /// What can be read from a file.
 pub trait FromFile: Sized {
@@ -38,6 +49,9 @@ impl FromFile for Config {
             → IsConfigRefusal held path.now e) }
         ensures failed { IfErr result
             (λ e. is_outside e ≡ true → Rose (F.faults files.old) (F.faults files.new)) }
+        // A configuration that is there is read, unless memory runs out or the outside fails.
+        ensures only { IfErr result (λ e. (held : FileMap) → F.told files.old ≡ Some held
+            → (settings : Settings) → HoldsSettings held path.now settings → IsConfigShort e) }
     {
         let bytes = match files.read(alloc, path) {
             Ok(bytes) => bytes,
@@ -49,8 +63,7 @@ impl FromFile for Config {
         };
         let mut config = match Config::from_text(alloc, text) {
             Ok(config) => config,
-            Err(DeError::Memory) => return Err(ConfigError::Memory),
-            Err(error) => return Err(ConfigError::Yaml(error)),
+            Err(error) => return Err(refusal(error)),
         };
         config.dir = Text::copy_of(alloc, folder(path))?;
         Ok(config)

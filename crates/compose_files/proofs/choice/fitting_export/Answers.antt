@@ -1,12 +1,21 @@
-use Rattle.std.proofs.Common.{ap, sym, ◌∙◌, subst, arith, Some}
+use Rattle.std.proofs.Common.{ap, sym, ◌∙◌, subst, arith, None, Some}
 use Rattle.comp_entity.specs.Entity.{ShapeTree}
 use Rattle.compose_component.specs.Component.{shape_of}
 use Rattle.compose_graph.specs.Listed.{graph_of}
 use Rattle.compose_files.specs.Built.{IsJudged}
 use Rattle.compose_files.specs.Needs.{need_of}
-use Rattle.compose_files.proofs.ChoiceLaws.{first_found, unfit_passed, other_passed}
+use Rattle.compose_files.proofs.ChoiceLaws.{first_found, judge_export, other_passed, place_there, unfit_passed}
+use Rattle.compose_files.proofs.RefusalSteps.{handed_on}
 use Rattle.compose_files.proofs.choice.fitting_export.Goals as goal
 use Rattle.compose_files.proofs.choice.fitting_export.Goals.{else-is_instance-via-then-is_instance+in_ok-fits+else-branch, else-is_instance-via-else-is_instance}
+
+pub returns-in_err-fits-clause-refused : goal.returns-in_err-fits-clause-refused
+returns-in_err-fits-clause-refused c =
+    let exports = ap (λ (t : ShapeTree). t.exports) (sym c.types.ensures.value) in
+    let shape = shape_of c.in_ok-component_of.field-0.now in
+    handed_on c.from_residual-in_err-fits.result c.in_err-fits.field-0.0 _ c.from_residual-in_err-fits.ensures.1
+    (judge_export (graph_of c.args.graph.now) c.args.source.0 c.loop-place.place (need_of c.args.need.now) None shape c.in_ok-component_of.ensures.found
+    (place_there shape c.types.result.now.exports.items c.index.result.now c.loop-place.place exports (omega arith) c.index.ensures) c.in_err-fits.field-0.0 c.in_err-fits.ensures.refused)
 
 pub returns-then-branch-clause-chosen : goal.returns-then-branch-clause-chosen
 returns-then-branch-clause-chosen c =

@@ -1,4 +1,4 @@
-use Rattle.std.proofs.Common.{◌≡◌, drop, map}
+use Rattle.std.proofs.Common.{◌≡◌, drop}
 use Rattle.std.specs.List.{position_from}
 use Rattle.comp_entity.specs.Views.{named_entities}
 use Rattle.compose_files.specs.Choice.{is_instance_named}

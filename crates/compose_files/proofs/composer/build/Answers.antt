@@ -1,4 +1,4 @@
-use Rattle.std.proofs.Common.{ℕ, ◌≤◌, length, ap, sym, ◌∙◌, subst, rules, arith, add-one, refl, inl, inr}
+use Rattle.std.proofs.Common.{ℕ, sym, ◌∙◌, subst, rules, arith, add-one, inr}
 use Rattle.compose_files.specs.Built.{AfterSteps}
 use Rattle.compose_files.specs.Composed.{HasTurn}
 use Rattle.compose_files.specs.View.{built_of, sources}

@@ -1,4 +1,4 @@
-use Rattle.std.proofs.Common.{◌≡◌, ◌≤◌, ◌-◌, ◌^◌, ℕ, length, Some}
+use Rattle.std.proofs.Common.{◌≡◌, ◌≤◌, ◌-◌, ◌^◌, length, Some}
 use Rattle.warg_base.specs.Files.{FileMap}
 use Rattle.compose_files.specs.Built.{AfterSteps, Built}
 use Rattle.compose_files.specs.Composed.{HasTurn, IsStarted}

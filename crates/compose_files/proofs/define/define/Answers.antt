@@ -1,12 +1,11 @@
-use Rattle.std.proofs.Common.{◌≡◌, ℕ, List, ap, sym, ◌∙◌, subst, inl, inr, refl, Some, None, bytes_eq}
+use Rattle.std.proofs.Common.{◌≡◌, ℕ, List, ap, sym, ◌∙◌, subst, inl, inr, refl, Some, bytes_eq}
 use Rattle.std.specs.Map.{lookup}
 use Rattle.std.specs.Option.{option_or}
 use Rattle.warg_base.specs.Files.{file_at}
-use Rattle.comp_entity.specs.Entity.{ShapeTree}
 use Rattle.compose_graph.specs.Graph.{ComponentEntry, component_named, with_component}
 use Rattle.compose_graph.specs.Refusal.{IsAddRefusal}
 use Rattle.compose_graph.specs.Listed.{entry_of, graph_of}
-use Rattle.compose_component.specs.Component.{bytes_of, name_of, shape_of}
+use Rattle.compose_component.specs.Component.{bytes_of, shape_of}
 use Rattle.compose_files.specs.Built.{offer}
 use Rattle.compose_files.specs.Paths.{joined, stem}
 use Rattle.compose_files.specs.Refusals.{IsGraphRefusal, IsReadRefusal}

@@ -1,4 +1,4 @@
-use Rattle.std.proofs.Common.{◌≡◌, ◌++◌, ◌∷◌, [], ap, sym, ◌∙◌, subst, Some, map}
+use Rattle.std.proofs.Common.{◌++◌, ◌∷◌, [], ap, sym, ◌∙◌, subst, Some, map}
 use Rattle.compose_graph.specs.Graph.{ComponentEntry, GraphTree, component_at}
 use Rattle.compose_graph.specs.Kept.{CountUp}
 use Rattle.compose_graph.specs.Listed.{entry_of, graph_of}

@@ -1,4 +1,4 @@
-use Rattle.std.proofs.Common.{◌≡◌, ℕ, ap, sym, ◌∙◌, suc, refl, rules, arith, add-one, find, take, subst, Some, None}
+use Rattle.std.proofs.Common.{◌≡◌, ℕ, ap, sym, ◌∙◌, suc, refl, rules, add-one, find, take, subst, Some, None}
 use Rattle.compose_files.specs.Built.{is_there}
 use Rattle.compose_files.specs.Paths.{joined, wasm_in}
 use Rattle.compose_files.specs.Refusals.{candidates}

@@ -1,4 +1,4 @@
-use Rattle.std.proofs.Common.{ap, sym, ◌∙◌, rules}
+use Rattle.std.proofs.Common.{sym, ◌∙◌, rules}
 use Rattle.compose_files.specs.Paths.{slash}
 use Rattle.compose_files.proofs.Cuts.{cut_shorter, last_before, last_here, last_whole}
 use Rattle.compose_files.proofs.paths.last_part.Goals as goal

@@ -1,4 +1,4 @@
-use Rattle.std.proofs.Common.{ℕ, List, ap, sym, ◌∙◌, refl, inr, Some, None, Option, option_map, bytes_eq}
+use Rattle.std.proofs.Common.{ap, sym, ◌∙◌, refl, inr, Some, None, option_map}
 use Rattle.compose_graph.specs.Listed.{graph_of}
 use Rattle.compose_graph.specs.declared.ids.ComponentId.{ComponentId}
 use Rattle.compose_files.specs.Built.{with_graph, with_named}

@@ -1,4 +1,4 @@
-use Rattle.std.proofs.Common.{◌≡◌, ◌++◌, ◌∷◌, [], ℕ, List, ◌∙◌, bytes_eq}
+use Rattle.std.proofs.Common.{◌∙◌, bytes_eq}
 use Rattle.indexmap.specs.IndexMap.{insert_entry}
 use Rattle.compose_files.specs.View.{built_of}
 use Rattle.compose_files.proofs.MapLaws.{insert_absent}

@@ -4,7 +4,6 @@ use Rattle.std.proofs.lemmas.Result.{IfErr-weaker}
 use Rattle.compose_graph.specs.Graph.{connect_fault}
 use Rattle.compose_graph.specs.Listed.{graph_of}
 use Rattle.compose_graph.specs.Refusal.{IsConnectRefusal}
-use Rattle.compose_graph.specs.declared.error.GraphError.{GraphError}
 use Rattle.compose_graph.specs.declared.ids.InstanceId.{InstanceId}
 use Rattle.compose_component.specs.declared.export.ExportIndex.{ExportIndex}
 use Rattle.compose_files.specs.Built.{IsInstanceFor, connection, with_graph}

@@ -1,10 +1,9 @@
-use Rattle.std.proofs.Common.{◌≡◌, ℕ, List, length, ap, sym, ◌∙◌, subst, inl, inr}
+use Rattle.std.proofs.Common.{ℕ, List, ap, sym, ◌∙◌, subst, inl, inr}
 use Rattle.std.proofs.lemmas.List.{length-map}
 use Rattle.std.proofs.lemmas.Result.{on_ok_weaker, IfErr-weaker}
 use Rattle.comp_entity.specs.Entity.{EntityTree}
 use Rattle.compose_component.specs.Component.{shape_of}
 use Rattle.compose_graph.specs.Graph.{component_of}
-use Rattle.compose_graph.specs.Listed.{graph_of}
 use Rattle.compose_files.specs.Built.{AfterSteps, import_names}
 use Rattle.compose_files.specs.Composed.{ServesAt}
 use Rattle.compose_files.specs.View.{built_of, sources}
