@@ -49,6 +49,19 @@ is_link words root out (Link other last) h k then = then other last refl (one_ro
 is_link words root out (Compose other config last) h k then = apart words (Link root out) (Compose other config last) h k (λ e. omega (arith, e))
 is_link words root out (Assemble sources last) h k then = apart words (Link root out) (Assemble sources last) h k (λ e. omega (arith, e))
 
+-- words that are a composition are no other command
+same_files : (words : List (List ℕ)) (root config out a b c : List ℕ) → IsCommand words (Compose root config out) → IsCommand words (Compose a b c) → (root ≡ a) × (config ≡ b)
+same_files words root config out a b c h k =
+    let same : words_of (Compose root config out) ≡ words_of (Compose a b c) = sym h ∙ k in (
+      ap (λ (l : List (List ℕ)). get_or l 1 []) same,
+      ap (λ (l : List (List ℕ)). get_or l 2 []) same,
+    )
+
+pub is_compose : {P : Type 0} (words : List (List ℕ)) (root config out : List ℕ) (c : Asked) → IsCommand words (Compose root config out) → IsCommand words c → ((a b last : List ℕ) → c ≡ Compose a b last → root ≡ a → config ≡ b → P) → P
+is_compose words root config out (Link a last) h k then = apart words (Compose root config out) (Link a last) h k (λ e. omega (arith, e))
+is_compose words root config out (Compose a b last) h k then = let same = same_files words root config out a b last h k in then a b last refl same.0 same.1
+is_compose words root config out (Assemble sources last) h k then = apart words (Compose root config out) (Assemble sources last) h k (λ e. omega (arith, e))
+
 -- words that are an assembly are no other command
 same_sources : (words : List (List ℕ)) (sources other : Sources) (out last : List ℕ) → IsCommand words (Assemble sources out) → IsCommand words (Assemble other last) → sources ≡ other
 same_sources words sources other out last h k =

@@ -5,6 +5,7 @@ use Rattle.comp_entity.specs.Entity.{ShapeTree}
 use Rattle.comp_shape.specs.Shape.{HasShape}
 use Rattle.compose_encode.specs.Encoded.{IsOfWritten}
 use Rattle.compose_encode.specs.Whole.{CanBeEncoded}
+use Rattle.compose_files.specs.Composable.{IsComposable}
 use Rattle.compose_graph.specs.Composed.{composed}
 use Rattle.compose_graph.specs.Encoding.{export_place}
 use Rattle.compose_order.specs.Needs.{LeftTree}
@@ -13,7 +14,8 @@ use Rattle.warg_exchange.specs.declared.exchange.Reply.{Reply}
 use Rattle.warg_recorded.specs.Files.{replies_in, signatures_in}
 use Rattle.warg_replay.specs.Replay.{IsReplayable, accepts_listed}
 use Rattle.warg_program.specs.Assembly.{Listed}
-use Rattle.warg_program.specs.Command.{Assemble, Link, Sources, IsCommand}
+use Rattle.warg_program.specs.Command.{Assemble, Compose, Link, Sources, IsCommand}
+use Rattle.warg_program.specs.Compose.{IsByConfig}
 use Rattle.warg_program.specs.Link.{root_graph, root_options}
 use Rattle.warg_program.specs.World.{SeenFiles}
 
@@ -40,6 +42,16 @@ pub record CanLink (words : List (List ℕ)) (files : SeenFiles) : Type 0 where
   pub small : (n : ℕ) → IsOfWritten n (composed (root_graph bytes tree)) true
       (export_place (root_graph bytes tree) root_options) order lefts → n < 2 ^ 32
 
+-- CONFIG holds settings, by which and by what the files hold a component can be composed of ROOT
+pub record CanCompose (words : List (List ℕ)) (files : SeenFiles) : Type 0 where
+  pub root : List ℕ
+  pub config : List ℕ
+  pub out : List ℕ
+  pub command : IsCommand words (Compose root config out)
+  pub held : FileMap
+  pub told : files.held ≡ Some held
+  pub composable : IsByConfig config (IsComposable root) held
+
 -- PLAN is a text, REPLIES are replies and CHECKED signatures, by which, in whatever order they are taken, the text can be
 -- replayed
 pub record CanAssemble (words : List (List ℕ)) (files : SeenFiles) : Type 0 where
@@ -62,4 +74,4 @@ pub record CanAssemble (words : List (List ℕ)) (files : SeenFiles) : Type 0 wh
 
 -- the words are a command that can do what it is for
 abbrev pub IsAble : List (List ℕ) → SeenFiles → Type 0
-IsAble words files = CanLink words files ⊎ CanAssemble words files
+IsAble words files = CanLink words files ⊎ CanCompose words files ⊎ CanAssemble words files

@@ -5,6 +5,7 @@ use Rattle.warg_base.specs.Files.{FileMap, file_at}
 use Rattle.warg_base.specs.declared.files.FileError.TheVariants as file
 use Rattle.compose_config.specs.Plan.{Settings}
 use Rattle.compose_files.specs.Built.{Sources}
+use Rattle.compose_files.specs.Composable.{IsComposable}
 use Rattle.compose_files.specs.Composed.{IsComposed}
 use Rattle.compose_files.specs.Paths.{folder}
 use Rattle.compose_files.specs.Read.{HoldsSettings, IsConfigRefusal}
@@ -47,11 +48,21 @@ IsOfText config.NotUtf8 = Unit {0}
 IsOfText (config.Yaml e) = Unit {0}
 IsOfText _ = ⊥
 
+-- The file at a path holds no settings, for this reason.
+pub record HoldsNone (path : List ℕ) (e : ConfigError) (held : FileMap) : Type 0 where
+  pub of_text : IsOfText e
+  pub refused : IsConfigRefusal held path e
+  pub none : (settings : Settings) → HoldsSettings held path settings → ⊥
+
 -- why the file at a path gives no configuration
 abbrev pub IsConfigCause : Stop → (path : List ℕ) → (before after : SeenFiles) → Type 0
-IsConfigCause (stop.BadConfig at e) path before after =
-    (at.now ≡ path) × IsOfText e × IfSome before.held (λ held. IsConfigRefusal held path e)
+IsConfigCause (stop.BadConfig at e) path before after = (at.now ≡ path) × IfSome before.held (HoldsNone path e)
 IsConfigCause s path before after = IsReadCause s path before after
+
+-- Nothing is composed of a configuration and files, for this reason, and nothing could be.
+pub record IsNotComposed (root : List ℕ) (e : ComposerError) (s : Sources) : Type 0 where
+  pub refused : IsRefused root s e
+  pub not_composable : ¬ IsComposable root s
 
 -- the stop of a composer's error
 abbrev pub stop_of : ComposerError → Stop
@@ -59,18 +70,18 @@ stop_of composer.Memory = stop.Memory
 stop_of (composer.File path file.Failed) = stop.Unread (composer.File path file.Failed)
 stop_of e = stop.NotComposed e
 
--- why nothing is composed: the composer refuses, by its causes, but for want of memory; and where a file failed, the count of
--- faults rose
-abbrev pub IsUncomposed : Stop → (ComposerError → Type 0) → (before after : ℕ) → Type 0
-IsUncomposed (stop.NotComposed e) Refused before after = (is_failure e ≡ false) × (e ≢ composer.Memory) × Refused e
-IsUncomposed (stop.Unread e) Refused before after = (is_failure e ≡ true) × Rose before after × Refused e
-IsUncomposed stop.Memory Refused before after = Unit {0}
-IsUncomposed _ Refused before after = ⊥
+-- why nothing is composed of what something is said of: the composer refuses, by its causes, but for want of memory; and
+-- where a file failed, the count of faults rose
+abbrev pub IsUncomposed : Stop → (root : List ℕ) → ((Sources → Type 0) → Type 0) → (before after : ℕ) → Type 0
+IsUncomposed (stop.NotComposed e) root IsOf before after = (is_failure e ≡ false) × (e ≢ composer.Memory) × IsOf (IsNotComposed root e)
+IsUncomposed (stop.Unread e) root IsOf before after = (is_failure e ≡ true) × Rose before after × IsOf (λ s. IsRefused root s e)
+IsUncomposed stop.Memory root IsOf before after = Unit {0}
+IsUncomposed _ root IsOf before after = ⊥
 
 -- why ROOT is not composed by CONFIG, which holds settings
 abbrev pub IsComposerCause : Stop → (root config : List ℕ) → (before after : SeenFiles) → Type 0
 IsComposerCause s root config before after =
-    IsUncomposed s (λ e. IfSome before.held (IsByConfig config (λ s. IsRefused root s e))) before.faults after.faults
+    IsUncomposed s root (λ Holds. IfSome before.held (IsByConfig config Holds)) before.faults after.faults
 
 -- Why nothing was composed. There is a file at ROOT; then CONFIG is read and judged; the composition comes after them.
 pub data IsCompositionCause (s : Stop) (root config : List ℕ) (before after : SeenFiles) : Type 0 where

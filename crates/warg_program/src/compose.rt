@@ -5,7 +5,6 @@ ghost use Rattle.compose_config.specs.View.{settings_of};
 ghost use Rattle.compose_files.specs.Composed.{IsComposed};
 ghost use Rattle.compose_files.specs.Paths.{folder};
 ghost use Rattle.compose_files.specs.Read.{HoldsSettings};
-ghost use Rattle.compose_files.specs.Refused.{IsRefused};
 ghost use Rattle.compose_files.specs.View.{sources};
 ghost use Rattle.warg_program.specs.Assembly.{IsReadCause};
 ghost use Rattle.warg_program.specs.Compose.{HasSomeFile, IsComposition, IsCompositionCause, IsConfigCause, IsUncomposed, stop_of};
@@ -57,7 +56,14 @@ fn read_config<'a, F: Files>(
         Err(ConfigError::File(FileError::Failed)) => Err(Stop::Fault(Access::Read(path))),
         Err(ConfigError::File(FileError::Memory)) => Err(Stop::Memory),
         Err(ConfigError::Memory) => Err(Stop::Memory),
-        Err(error) => Err(Stop::BadConfig { path, error }),
+        Err(ConfigError::NotUtf8) => Err(Stop::BadConfig {
+            path,
+            error: ConfigError::NotUtf8,
+        }),
+        Err(ConfigError::Yaml(error)) => Err(Stop::BadConfig {
+            path,
+            error: ConfigError::Yaml(error),
+        }),
     }
 }
 
@@ -85,8 +91,9 @@ fn composed_by<'a, F: Files>(
     ensures kept { F.told files.new ≡ F.told files.old }
     ensures composed { IfOk result (λ bytes. IfSome (F.told files.old) (λ held.
         IsComposed root.now (sources config.now held) bytes.items)) }
-    ensures cause { IfErr result (λ stop. IsUncomposed stop (λ e. IfSome (F.told files.old) (λ held.
-        IsRefused root.now (sources config.now held) e)) (F.faults files.old) (F.faults files.new)) }
+    ensures cause { IfErr result (λ stop. IsUncomposed stop root.now
+        (λ Holds. IfSome (F.told files.old) (λ held. Holds (sources config.now held)))
+        (F.faults files.old) (F.faults files.new)) }
 {
     match ComponentComposer::new(root, config).compose(alloc, files) {
         Ok(bytes) => Ok(bytes),

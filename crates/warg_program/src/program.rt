@@ -19,6 +19,7 @@ use comp_shape::laws::one_shape;
 use compose_complete::laws::graphs_that_can_be_encoded_are_refused_for_their_numbers;
 use std::alloc::Global;
 use warg_base::{Files, Out};
+use yaml_small::laws::one_document;
 
 /// What a command makes. Nothing is written yet.
 fn make<'a, F: Files>(alloc: Global, command: &Command<'a>, files: &mut F) -> Result<Made, Stop<'a>>
@@ -91,6 +92,7 @@ pub fn outcome<'a, F: Files, O: Out>(
         Ok(()) => Ok(()),
         Err(stop) => {
             one_shape();
+            one_document();
             graphs_that_can_be_encoded_are_refused_for_their_numbers();
             refuse(alloc, out, &stop);
             Err(stop)
