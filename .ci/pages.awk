@@ -340,7 +340,7 @@ function take_page(    text) {
             continue
         }
         take_links(text)
-        if (page == "README.md") readme = readme text
+        if (page == "docs/CRATES.md") list_of_crates = list_of_crates text
         if (text ~ /^    [^ ]/ && text !~ /^ *[-0-9]/) continue
         if (text ~ /^ *[|]/) {
             take_table_line(text)
@@ -364,8 +364,8 @@ BEGIN {
     for (crate in crates) {
         page = "crates/" crate "/README.md"
         if (!(crate in paged)) say("the crate has no page")
-        page = "README.md"
-        if (!index(readme, "`" crate "`")) say("the page does not name the crate `" crate "`")
+        page = "docs/CRATES.md"
+        if (!index(list_of_crates, "`" crate "`")) say("the page does not name the crate `" crate "`")
     }
     for (i = 1; i <= owed_count; i++) {
         split(owed[i], f, "\t")
