@@ -13,13 +13,13 @@ use warg_base::{FileError, Memory, Text};
 #[derive(Debug, Drop, Error)]
 pub enum ComposerError {
     /// Imports are disallowed, and no component is found for an instance: the component's name.
-    #[error("no component `{0}` is found, and imports are disallowed: name its file under `dependencies`, or allow imports")]
+    #[error("no component `{0}` is found, and imports are disallowed: put `{0}.wasm` beside the configuration or into one of its `search-paths`, name its file under `dependencies`, or allow imports")]
     NotFound(Text),
     /// The root imports nothing.
     #[error("the root imports nothing that could be given to it: compose a component that has imports")]
     NoInstanceImports,
     /// Nothing that the root imports is found.
-    #[error("no component is found for what the root imports: put its file beside the configuration, or name it there")]
+    #[error("no component is found for what the root imports: put it beside the configuration or into one of its `search-paths`, as NAME.wasm, or name its file under `dependencies`")]
     NoDependencies,
     /// An argument names no import of its instance's component: the argument's name.
     #[error("there is no import `{0}` for the argument of this name: correct or remove the argument")]
@@ -28,7 +28,7 @@ pub enum ComposerError {
     #[error("no instance `{0}` is exported there: correct the argument's `export`, or leave it out")]
     NoSuchExport(Text),
     /// An argument names an export of an instance for which no component is found: the export's name.
-    #[error("the export `{0}` can't be taken, since no component is found for its instance: name the component's file")]
+    #[error("the export `{0}` can't be taken, since no component is found for its instance: name its file under `dependencies`")]
     ExportOnImported(Text),
     /// A definition's path leads to no file that has a name: the path.
     #[error("the definition `{0}` names no file: give the path of a component")]

@@ -153,7 +153,7 @@ const REFUSED: &[Row] = &[
     (
         &[("d/root", TAKES)],
         "search-paths: []\n",
-        "no component is found for what the root imports: put its file beside the configuration, or name it there",
+        "no component is found for what the root imports: put it beside the configuration or into one of its `search-paths`, as NAME.wasm, or name its file under `dependencies`",
     ),
     (
         &[("d/root", EMPTY)],
@@ -168,17 +168,17 @@ const REFUSED: &[Row] = &[
     (
         &[("d/root", TAKES)],
         "disallow-imports: true\n",
-        "no component `b` is found, and imports are disallowed: name its file under `dependencies`, or allow imports",
+        "no component `b` is found, and imports are disallowed: put `b.wasm` beside the configuration or into one of its `search-paths`, name its file under `dependencies`, or allow imports",
     ),
     (
         &[("d/root", FUNCTION)],
         "disallow-imports: true\ninstantiations: {root: {arguments: {x: {instance: y, export: z}}}}\n",
-        "no component `y` is found, and imports are disallowed: name its file under `dependencies`, or allow imports",
+        "no component `y` is found, and imports are disallowed: put `y.wasm` beside the configuration or into one of its `search-paths`, name its file under `dependencies`, or allow imports",
     ),
     (
         &[("d/root", TAKES)],
         "instantiations: {root: {arguments: {b: {instance: y, export: z}}}}\n",
-        "the export `z` can't be taken, since no component is found for its instance: name the component's file",
+        "the export `z` can't be taken, since no component is found for its instance: name its file under `dependencies`",
     ),
     (
         &[("d/root", TAKES), ("d/b.wasm", GIVES)],
