@@ -1,3 +1,4 @@
 pub mod Same
 pub mod Named
 pub mod Copies
+mod ArgumentSteps

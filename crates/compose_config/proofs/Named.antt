@@ -1,5 +1,5 @@
 -- The search for an entry by its name.
-use Rattle.std.proofs.Common.{◌≡◌, ℕ, zero, suc, ◌+◌, ◌<◌, ◌≤◌, List, [], ◌∷◌, length, drop, map, slice_get, true, false, cond, Some, None, refl, sym, ap, arith, bytes_eq, add-one}
+use Rattle.std.proofs.Common.{◌≡◌, ℕ, zero, suc, ◌+◌, ◌≤◌, List, [], ◌∷◌, length, drop, map, slice_get, true, false, cond, Some, None, refl, ap, bytes_eq, add-one}
 use Rattle.std.proofs.lemmas.List.{drop_all}
 use Rattle.yaml_read.specs.Entries.{seen_entry}
 use Rattle.compose_config.specs.Plan.{Name, Instance, instance_named}
@@ -24,11 +24,6 @@ found_here f es i e name h is = rw (from_here f es i e name h, is) refl
 pub next_here : {V : Type 0} (f : V → Instance) (es : List (Name × V)) (i : ℕ) (e : Name × V) (name : Name) → slice_get es i ≡ Some e → bytes_eq e.0 name ≡ false
     → instance_named (map (seen_entry f) (drop (i + 1) es)) name ≡ instance_named (map (seen_entry f) (drop i es)) name
 next_here f es i e name h is = rw (from_here f es i e name h, is, add-one i) refl
-
-pub none_there : {V : Type 0} (es : List (Name × V)) (i : ℕ) → i < length es → slice_get es i ≡ None → ⊥
-none_there [] i less h = omega arith
-none_there (x ∷ es) zero less h = none_some x (sym h)
-none_there (x ∷ es) (suc i) less h = none_there es i (omega arith) h
 
 pub at_end : {V : Type 0} (f : V → Instance) (es : List (Name × V)) (i : ℕ) (name : Name) → length es ≤ i → instance_named (map (seen_entry f) (drop i es)) name ≡ None
 at_end f es i name le = rw (drop_all i es le) refl

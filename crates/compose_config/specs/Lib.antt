@@ -1,3 +1,5 @@
 pub mod Plan
 pub mod View
 pub mod PlanLaws
+pub mod Arguments
+pub mod MapLaws

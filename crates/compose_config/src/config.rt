@@ -5,12 +5,13 @@ ghost use Rattle.yaml_read.specs.Answers.{source_of, ReadGives, ReadTakes};
 ghost use Rattle.yaml_read.specs.Entries.{seen_entry};
 ghost use Rattle.yaml_read.specs.Whole.{Holds, whole_at};
 ghost use Rattle.compose_config.specs.Plan as plan;
+ghost use Rattle.compose_config.specs.Arguments.{arguments_of, arguments_view};
 ghost use Rattle.compose_config.specs.View.{settings_of, instance_of};
 ghost use Rattle.compose_config.specs.PlanLaws as laws;
 
 use crate::copy::{copied_map, copied_names};
 use crate::index::index_map;
-use crate::parts::{Dependency, Instantiation};
+use crate::parts::{Dependency, Instantiation, InstantiationArg};
 use indexmap::IndexMap;
 use std::alloc::Global;
 use warg_values::{Memory, Text};
@@ -108,6 +109,34 @@ impl Config {
             },
             None => instance,
         }
+    }
+
+    /// The instantiation of a name. It takes no memory.
+    pub fn instantiation(&self, name: &Text) -> Option<&Instantiation>
+        ensures { option_map instance_of (option_copied result)
+            ≡ plan.instance_named (settings_of self.now).instantiations name.now }
+    {
+        self.instantiations.get(name)
+    }
+
+    /// The name of the dependency that an instance is made of, as [`Config::dependency_name`] gives it, by one look-up.
+    pub fn dependency_of<'a>(&'a self, instance: &'a Text) -> &'a Text
+        ensures { result.now ≡ plan.dependency_name (settings_of self.now) instance.now }
+    {
+        match self.instantiation(instance) {
+            Some(instantiation) => match &instantiation.dependency {
+                Some(name) => name,
+                None => instance,
+            },
+            None => instance,
+        }
+    }
+
+    /// The arguments of an instance, where there is an instantiation of its name. It takes no memory.
+    pub fn arguments_of(&self, instance: &Text) -> Option<&IndexMap<Text, InstantiationArg>>
+        ensures { arguments_view result ≡ arguments_of (settings_of self.now) instance.now }
+    {
+        Some(&self.instantiation(instance)?.arguments)
     }
 }
 

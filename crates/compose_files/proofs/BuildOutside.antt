@@ -19,7 +19,7 @@ use Rattle.compose_files.specs.declared.error.ComposerError.TheVariants as error
 use Rattle.compose_files.specs.declared.offer.Offer.{Offer}
 use Rattle.compose_files.proofs.ChoiceOutside.{argument_outside}
 use Rattle.compose_files.proofs.Extended.{Extends, IsThere, added_extends, added_there, extends_both, named_follows, same_graph, turn_follows, turns_follow}
-use Rattle.compose_files.proofs.MapLaws.{none_some}
+use Rattle.compose_files.proofs.Apart.{none_some}
 use Rattle.compose_files.proofs.NotRefused.{IsOutside, ShapesAreRead, definition_outside, file_outside, graph_never, never_instantiated}
 use Rattle.compose_files.proofs.OneGraph.{OneShape, one_added, one_all_defined, one_built, one_defined_at, one_start, one_turn}
 use Rattle.compose_files.proofs.OneStep.{one_after, one_found, step_after}

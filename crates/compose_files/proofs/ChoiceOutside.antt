@@ -10,12 +10,13 @@ use Rattle.compose_graph.specs.Refusal.{IsConnectRefusal}
 use Rattle.compose_graph.specs.declared.connection.Connection.{Connection}
 use Rattle.compose_graph.specs.declared.error.GraphError.{GraphError}
 use Rattle.compose_graph.specs.declared.error.GraphError.TheVariants as graph
-use Rattle.compose_files.specs.Built.{Built, HasGoodArguments, IsChosen, IsConnected, IsTaken, Need, Sources, arguments_of, asked_by, connection, import_names, stray}
+use Rattle.compose_config.specs.Arguments.{arguments_of, stray}
+use Rattle.compose_files.specs.Built.{Built, HasGoodArguments, IsChosen, IsConnected, IsTaken, Need, Sources, asked_by, connection, import_names}
 use Rattle.compose_files.specs.Choice.{choice, if_fits, instance_export}
 use Rattle.compose_files.specs.Refusals.{CannotBeGiven, CannotBeJudged, HasNothingFitting, IsArgumentRefusal, IsChoiceRefusal, IsExportRefusal, IsFitRefusal, IsGiftRefusal, IsStrayRefusal, LacksInstance}
 use Rattle.compose_files.specs.declared.error.ComposerError.{ComposerError}
 use Rattle.compose_files.specs.declared.error.ComposerError.TheVariants as error
-use Rattle.compose_files.proofs.MapLaws.{none_some}
+use Rattle.compose_files.proofs.Apart.{none_some}
 use Rattle.compose_files.proofs.NotRefused.{IsNever, IsOutside, graph_never, need_never, never_connected}
 use Rattle.compose_files.proofs.OneGraph.{one_chosen, one_connected}
 use Rattle.compose_files.proofs.OneStep.{one_found, one_through}

@@ -12,7 +12,7 @@ use Rattle.compose_files.specs.Built.{AfterSteps, Built, IsAdded, IsComponentFor
 use Rattle.compose_files.specs.Composed.{HasTurn, ServesAt}
 use Rattle.compose_files.specs.Refused.{HasNumbers}
 use Rattle.compose_files.specs.declared.offer.Offer.{Offer}
-use Rattle.compose_files.proofs.MapLaws.{none_some}
+use Rattle.compose_files.proofs.Apart.{none_some}
 
 -- a component of this number is in a graph
 abbrev pub IsThere : GraphTree → ℕ → Type 0

@@ -1,6 +1,5 @@
-mod MapLaws
+mod Apart
 mod Cuts
-mod ArgumentSteps
 mod FitLaws
 mod PlaceSteps
 mod RefusalSteps

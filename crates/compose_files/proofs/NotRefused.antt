@@ -21,7 +21,7 @@ use Rattle.compose_files.specs.Refused.{HasNumbers}
 use Rattle.compose_files.specs.declared.error.ComposerError.{ComposerError}
 use Rattle.compose_files.specs.declared.error.ComposerError.TheVariants as error
 use Rattle.compose_files.proofs.Extended.{IsThere, component_for_there, made_follows}
-use Rattle.compose_files.proofs.MapLaws.{none_some}
+use Rattle.compose_files.proofs.Apart.{none_some}
 use Rattle.compose_files.proofs.OneGraph.{OneShape, one_component}
 use Rattle.compose_files.proofs.OneStep.{one_found}
 use Rattle.compose_files.proofs.OwnFits.{none_refused}

@@ -10,7 +10,7 @@ use Rattle.comp_entity.specs.Views.{entity_tree, named_entities}
 use Rattle.comp_entity.specs.declared.entity.Entity.{Entity}
 use Rattle.compose_files.specs.Choice.{is_instance, is_instance_named}
 use Rattle.compose_files.specs.declared.offer.Offer.{Offer}
-use Rattle.compose_files.proofs.MapLaws.{bytes_turned, insert_absent, lookup_behind}
+use Rattle.compose_config.specs.MapLaws.{bytes_turned, insert_absent, lookup_behind}
 use Rattle.compose_files.proofs.PlaceSteps.{at_place}
 
 module _ {A : Type 0} (offer : ℕ → A) (there : Option A) (place : ℕ) (later : Option ℕ) where

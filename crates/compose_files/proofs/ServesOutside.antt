@@ -15,7 +15,7 @@ use Rattle.compose_files.specs.declared.error.ComposerError.TheVariants as error
 use Rattle.compose_files.specs.declared.offer.Offer.{Offer}
 use Rattle.compose_files.proofs.ChoiceOutside.{gift_outside}
 use Rattle.compose_files.proofs.Extended.{Follows, IsThere, serve_steps_follow, serves_at_follows, served_by_follows, connected_follows}
-use Rattle.compose_files.proofs.MapLaws.{none_some}
+use Rattle.compose_files.proofs.Apart.{none_some}
 use Rattle.compose_files.proofs.NotRefused.{IsNever, IsOutside, ShapesAreRead, graph_never, instance_outside, need_never, never_connected, never_instantiated}
 use Rattle.compose_files.proofs.OneGraph.{OneShape, one_instance, one_serves_at}
 use Rattle.compose_files.proofs.OneStep.{one_after, one_found}

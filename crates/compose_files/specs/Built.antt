@@ -1,12 +1,12 @@
 -- What a composition is made from, what is built of it so far, and each step by which more is built.
 use Rattle.std.specs.Prelude.{◌≡◌, ℕ, zero, suc, Bool, true, false, not, if◌then◌else◌, List, [], ◌∷◌, ◌++◌, map, find, bytes_eq, Option, Some, None, is_some, option_map, option_and_then, unwrap_or, slice_get, ◌==◌, MatchOption}
-use Rattle.std.specs.List.{list_any}
 use Rattle.std.specs.Map.{lookup}
 use Rattle.std.specs.Option.{option_or}
 use Rattle.warg_base.specs.Files.{FileMap, file_at}
 use Rattle.comp_entity.specs.Entity.{EntityTree, ShapeTree}
 use Rattle.comp_shape.specs.Shape.{HasShape}
-use Rattle.compose_config.specs.Plan.{Argument, Instance, Settings, dependency_name, instance_named}
+use Rattle.compose_config.specs.Arguments.{arguments_of, stray}
+use Rattle.compose_config.specs.Plan.{Argument, Settings, dependency_name}
 use Rattle.compose_graph.specs.Graph.{ComponentEntry, GraphTree, component_named, component_of, connect_fault, with_component, with_connection, with_instance}
 use Rattle.compose_graph.specs.declared.connection.Connection.{Connection}
 use Rattle.compose_files.specs.Choice.{choice, fits_at, instance_export}
@@ -166,14 +166,6 @@ IsOffered need o old new = IsConnected (instance_of old o.component) (Some o.exp
 
 -- ---- imports for which no definition has anything
 
-abbrev pub arguments_in : Option Instance → List (List ℕ × Argument)
-arguments_in None = []
-arguments_in (Some i) = i.arguments
-
--- the arguments that the configuration gives to an instance
-abbrev pub arguments_of : Settings → List ℕ → List (List ℕ × Argument)
-arguments_of s instance = arguments_in (instance_named s.instantiations instance)
-
 -- what an import takes: what its argument names, and else the instance of its own name
 abbrev pub taken_by : List ℕ → Option Argument → Argument
 taken_by name None = record { instance = name; export = None }
@@ -181,14 +173,6 @@ taken_by name (Some argument) = argument
 
 abbrev pub taken : Settings → Need → Argument
 taken s need = taken_by need.name (lookup (λ k. bytes_eq need.name k) (arguments_of s need.instance))
-
-abbrev pub is_among : List (List ℕ) → List ℕ → Bool
-is_among names name = list_any (λ n. bytes_eq name n) names
-
--- the first argument that has none of these names
-unfoldable pub stray : List (List ℕ × Argument) → List (List ℕ) → Option (List ℕ)
-stray [] names = None
-stray (a ∷ arguments) names = if is_among names a.0 then stray arguments names else Some a.0
 
 -- the names of what a component imports, in order
 abbrev pub import_names : ShapeTree → List (List ℕ)

@@ -17,7 +17,8 @@ use Rattle.compose_graph.specs.Refusal.{IsAddRefusal, IsConnectRefusal, IsInstan
 use Rattle.compose_graph.specs.declared.connection.Connection.{Connection}
 use Rattle.compose_graph.specs.declared.error.GraphError.{GraphError}
 use Rattle.compose_graph.specs.declared.error.GraphError.TheVariants as graph
-use Rattle.compose_files.specs.Built.{Built, IsChosen, IsComponentFor, IsConnected, IsInstanceFor, Need, Sources, arguments_of, asked_by, connection, file_for, folders, import_names, instance_of, is_there, is_unnamed, stray, taken, with_instance_of}
+use Rattle.compose_config.specs.Arguments.{arguments_of, stray}
+use Rattle.compose_files.specs.Built.{Built, IsChosen, IsComponentFor, IsConnected, IsInstanceFor, Need, Sources, asked_by, connection, file_for, folders, import_names, instance_of, is_there, is_unnamed, taken, with_instance_of}
 use Rattle.compose_files.specs.Choice.{choice, instance_export}
 use Rattle.compose_files.specs.Paths.{is_empty, joined, stem, wasm_in}
 use Rattle.compose_files.specs.declared.error.ComposerError.{ComposerError}

@@ -1,12 +1,10 @@
 //! Components, which are found among files.
 
-ghost use Rattle.std.specs.Prelude.{◌≡◌, ◌≤◌, ◌<◌, true, None, length, Some, IfErr, IsSome, IfOk, OnOk, option_copied, option_map};
+ghost use Rattle.std.specs.Prelude.{◌≡◌, ◌≤◌, ◌<◌, true, None, length, Some, IfErr, IsSome, IfOk, OnOk, option_map};
 ghost use Rattle.warg_values.specs.Faults.{Rose};
 ghost use Rattle.warg_base.specs.Files.{FileMap, file_at};
 ghost use Rattle.comp_shape.specs.Shape.{HasShape};
 ghost use Rattle.compose_component.specs.Component.{bytes_of, name_of, shape_of};
-ghost use Rattle.compose_config.specs.Plan as plan;
-ghost use Rattle.compose_config.specs.View.{instance_of, settings_of};
 ghost use Rattle.compose_graph.specs.Graph.{component_at, component_named, with_component};
 ghost use Rattle.compose_graph.specs.Listed.{entry_of, graph_of};
 ghost use Rattle.compose_graph.specs.Refusal.{IsAddRefusal};
@@ -17,7 +15,7 @@ ghost use Rattle.compose_files.specs.View.{sources};
 use crate::error::ComposerError;
 use crate::paths::{joined, wasm_in};
 use compose_component::{Component, ComponentError};
-use compose_config::{Config, Instantiation};
+use compose_config::Config;
 use compose_graph::{ComponentId, CompositionGraph, GraphError};
 use std::alloc::Global;
 use warg_base::{FileError, Files, Text};
@@ -181,25 +179,4 @@ pub fn component_for<F: Files>(
     let component = read_file(alloc, files, name.as_str(), path.as_str())?;
     let id = add(graph, alloc, component)?;
     Ok(Some(id))
-}
-
-/// The instantiation of a name.
-pub fn instantiation<'a>(config: &'a Config, name: &Text) -> Option<&'a Instantiation>
-    ensures { option_map instance_of (option_copied result)
-        ≡ plan.instance_named (settings_of config.now).instantiations name.now }
-{
-    config.instantiations.get(name)
-}
-
-/// The name of the component of which an instance is made.
-pub fn dependency_name<'a>(config: &'a Config, name: &'a Text) -> &'a Text
-    ensures { result.now ≡ plan.dependency_name (settings_of config.now) name.now }
-{
-    match instantiation(config, name) {
-        Some(instantiation) => match &instantiation.dependency {
-            Some(dependency) => dependency,
-            None => name,
-        },
-        None => name,
-    }
 }

@@ -15,14 +15,14 @@ ghost use Rattle.compose_files.specs.Refusals.{IsGraphRefusal, IsInstanceRefusal
 ghost use Rattle.compose_files.specs.Refused.{IsTurnRefusal, StopsAtImport};
 ghost use Rattle.compose_files.specs.View.{built_of, sources};
 
-use crate::arguments::{argument_for, arguments_of, check_arguments, import_names};
+use crate::arguments::{check_arguments, import_names};
 use crate::builder::Builder;
 use crate::choice::{chosen, component_of, connect};
 use crate::error::ComposerError;
-use crate::find::{component_for, dependency_name};
+use crate::find::component_for;
 use crate::need::Need;
 use crate::offer::Offer;
-use compose_config::Config;
+use compose_config::{Config, argument_for};
 use compose_graph::{
     ComponentId, CompositionGraph, ExportIndex, GraphError, ImportIndex, InstanceId,
 };
@@ -85,7 +85,7 @@ fn instance_for<F: Files>(
     if let Some(id) = builder.named.get(name) {
         return Ok(Some(InstanceId(*id)));
     }
-    let component_name = dependency_name(config, name);
+    let component_name = config.dependency_of(name);
     let Some(component) = component_for(&mut builder.graph, alloc, files, config, component_name)?
     else {
         return Ok(None);
@@ -107,7 +107,7 @@ fn leave(
         (record { instance = name.now; export = option_copied export.entry })) }
 {
     if config.disallow_imports {
-        let component = dependency_name(config, name).try_clone(alloc)?;
+        let component = config.dependency_of(name).try_clone(alloc)?;
         return Err(ComposerError::NotFound(component));
     }
     match export {
@@ -205,7 +205,7 @@ fn serve<F: Files>(
         let offer = *offer;
         return take_offer(builder, alloc, need, offer);
     }
-    match argument_for(arguments_of(config, need.instance), need.name) {
+    match argument_for(config.arguments_of(need.instance), need.name) {
         Some(argument) => take_instance(
             builder,
             alloc,

@@ -7,6 +7,7 @@ use Rattle.std.proofs.lemmas.List.{map-append}
 use Rattle.indexmap.specs.IndexMap.{insert_entry, keys}
 use Rattle.compose_check.specs.Composition.{ComponentTree}
 use Rattle.compose_component.specs.declared.component.Component.{Component}
+use Rattle.compose_config.specs.MapLaws.{insert_new}
 use Rattle.warg_plan.specs.Walk.{Entry}
 use Rattle.warg_compose.specs.Composed.{AreComponentsOf, IsComponentOf, named_content, release_name, release_names, release_place, releases, with_release}
 use Rattle.warg_compose.specs.Held.{AreReleases, HasRelease, IsHeldOf, held_component, is_known, lent_content, number_of}
@@ -55,11 +56,7 @@ names_are r es are = sym (lent_names r.contents.entries) ∙ ap keys_of are.cont
 -- a content whose name is not there goes last
 pub put_last : (cs : List (List ℕ × Bor (List ℕ))) (name : List ℕ) (content : Bor (List ℕ)) → has (keys_of cs) name ≡ false
     → map lent_content (insert_entry bytes_eq cs name content) ≡ map lent_content cs ++ (name, content.now) ∷ []
-put_last [] name content none = refl
-put_last (c ∷ cs) name content none =
-    let parts = or_false (bytes_eq name c.0) (has (keys_of cs) name) none in
-    ap (λ b. map lent_content (cond b ((c.0, content) ∷ cs) (c ∷ insert_entry bytes_eq cs name content))) parts.0
-    ∙ ap (λ xs. lent_content c ∷ xs) (put_last cs name content parts.1)
+put_last cs name content none = ap (map lent_content) (insert_new bytes_eq cs name content none) ∙ map-append lent_content cs ((name, content) ∷ [])
 
 pub on_ok : {X E P Q : Type 0} (r : Result X E) → (P → Q) → OnOk r P → OnOk r Q
 on_ok (Ok x) f p = f p

@@ -6,8 +6,9 @@ use Rattle.std.specs.Map.{lookup}
 use Rattle.compose_left.specs.declared.wiring.Wire.{Wire}
 use Rattle.compose_check.specs.Composition.{ComponentTree, CompositionTree}
 use Rattle.comp_shape.specs.Shape.{HasShape}
+use Rattle.compose_config.specs.Arguments.{is_among}
 use Rattle.warg_names.specs.Texts.{locked_text}
-use Rattle.warg_plan.specs.Walk.{Arg, Left, OfEntry, Entry, is_among}
+use Rattle.warg_plan.specs.Walk.{Arg, Left, OfEntry, Entry}
 
 -- ---- releases
 

@@ -10,7 +10,7 @@ use Rattle.semver.specs.Parse.{Parts}
 use Rattle.semver.specs.declared.Version.{Version}
 use Rattle.warg_plan.specs.declared.node.Node.{Node}
 use Rattle.warg_plan.specs.Steps.{wires_view, node_view}
-use Rattle.warg_plan.proofs.MapLaws.{insert_new}
+use Rattle.compose_config.specs.MapLaws.{insert_new}
 use Rattle.std.specs.Map.{keys_of}
 use Rattle.std.proofs.lemmas.List.{length-map, reverse-append, map-append}
 use Rattle.std.proofs.lemmas.List.Folds.{list_any-append}

@@ -1,25 +1,19 @@
 -- The steps from a key to its entry.
-use Rattle.std.proofs.Common.{◌≡◌, ℕ, Bool, true, false, ◌||◌, cond, List, [], ◌∷◌, ◌++◌, drop, map, slice_get, take, append_assoc, Option, Some, None, Result, Ok, Err, option_and_then, refl, sym, ap, subst, ◌∙◌, bytes_eq, ◌+◌}
-use Rattle.std.specs.List.{list_any}
+use Rattle.std.proofs.Common.{◌≡◌, ℕ, Bool, true, false, cond, List, [], ◌∷◌, ◌++◌, drop, take, append_assoc, Option, Some, None, Result, Ok, Err, option_and_then, refl, sym, ap, subst, ◌∙◌, ◌+◌}
 use Rattle.std.specs.Prelude.{IfSome}
 use Rattle.std.proofs.lemmas.List.{take-append-drop, map-append}
 use Rattle.std.specs.Borrow.{Bor}
-use Rattle.std.proofs.lemmas.List.Folds.{list_any-append}
-use Rattle.std.proofs.lemmas.Slice.Eq.{bytes_eq-Decides}
-use Rattle.indexmap.specs.IndexSet.{insert_key}
 use Rattle.warg_hash.specs.Name.{is_package_name, IsPackageName}
 use Rattle.warg_hash.specs.NameLaws.{is_package_name-name}
 use Rattle.warg_values.specs.Reading.{◌>>=◌}
 use Rattle.warg_values.specs.ReadingLaws.{bind_ok, ok_is}
 use Rattle.warg_names.specs.Import.{ImportTree, import_of}
-use Rattle.yaml_read.specs.Entries.{seen_entry}
 use Rattle.compose_config.specs.Plan.{Settings, Argument}
 use Rattle.warg_plan.specs.Keys.{Key, asked, import_at, of_package}
-use Rattle.warg_plan.specs.Walk.{Stop, NoPackage, BadImportName, Wire, Facts, or_stop, wire_of, wires_of, is_among, stray, node_of}
+use Rattle.warg_plan.specs.Walk.{Stop, NoPackage, BadImportName, Wire, Facts, or_stop, wire_of, wires_of, node_of}
 use Rattle.warg_plan.specs.StopLaws.{err_is}
-use Rattle.warg_plan.specs.Steps.{is_in_set, wire_at, wire_view, wires_view, package_at, node_from}
+use Rattle.warg_plan.specs.Steps.{wire_at, wire_view, wires_view, package_at, node_from}
 use Rattle.warg_plan.specs.declared.node.Wire.{Wire as CodeWire}
-use Rattle.warg_plan.proofs.TextSteps.{drop_at}
 
 -- a name that is no package's
 pub not_package : (k : Key) (i : ImportTree) → (IsPackageName i.name → ⊥) → package_at k i ≡ Err (NoPackage k)
@@ -28,36 +22,6 @@ not_package k i other = by (is_package_name i.name) refl
     by : (b : Bool) → is_package_name i.name ≡ b → or_stop (NoPackage k) (cond b (Some i.name) None) ≡ Err (NoPackage k)
     by true is = absurd (other (is_package_name-name i.name is))
     by false is = refl
-
-abbrev same_text : Bor (List ℕ) → Bor (List ℕ) → Bool
-same_text a b = bytes_eq a.now b.now
-
-or_other : (a b : Bool) → (b ≡ true → a ≡ true) → a ≡ (a || b)
-or_other true b h = refl
-or_other false true h = h refl
-or_other false false h = refl
-
--- a set of names with one more
-pub set_step : (ks : List (Bor (List ℕ))) (k : Bor (List ℕ)) (name : List ℕ) → is_in_set (insert_key same_text ks k) name ≡ (is_in_set ks name || bytes_eq name k.now)
-set_step ks k name = by (list_any (same_text k) ks) refl
-  where
-    same : bytes_eq name k.now ≡ true → is_in_set ks name ≡ list_any (same_text k) ks
-    same h = ap (is_in_set ks) ((bytes_eq-Decides name k.now).0 h)
-
-    last : (b : Bool) → (b || false) ≡ b
-    last true = refl
-    last false = refl
-
-    by : (b : Bool) → list_any (same_text k) ks ≡ b → is_in_set (cond b ks (ks ++ k ∷ [])) name ≡ (is_in_set ks name || bytes_eq name k.now)
-    by true is = or_other (is_in_set ks name) (bytes_eq name k.now) (λ h. same h ∙ is)
-    by false is = list_any-append (λ (n : Bor (List ℕ)). bytes_eq name n.now) ks (k ∷ []) ∙ ap (λ b. is_in_set ks name || b) (last (bytes_eq name k.now))
-
-pub among_step : (names : List (List ℕ)) (n name : List ℕ) → is_among (names ++ n ∷ []) name ≡ (is_among names name || bytes_eq name n)
-among_step names n name = list_any-append (λ m. bytes_eq name m) names (n ∷ []) ∙ ap (λ b. is_among names name || b) (last (bytes_eq name n))
-  where
-    last : (b : Bool) → (b || false) ≡ b
-    last true = refl
-    last false = refl
 
 abbrev pub ok_wires : List (List ℕ × Wire) → Result (List (List ℕ × Wire)) Stop
 ok_wires ws = Ok ws
@@ -103,18 +67,6 @@ wires_fail o args names i ws n e front h =
     subst (λ l. IfSome o (λ s. wires_of args l ≡ Err s))
     (sym (append_assoc (take i names) (n ∷ []) (drop (i + 1) names)) ∙ ap (λ l. l ++ drop (i + 1) names) (sym front) ∙ take-append-drop (i + 1) names)
     (fails_more o args (take i names) (drop (i + 1) names) ws n e h)
-
--- the search for an argument that names no import
-module _ {V : Type 0} (f : V → Argument) (names : List (List ℕ)) where
-  pub stray_here : (es : List (List ℕ × V)) (i : ℕ) (e : List ℕ × V) → slice_get es i ≡ Some e → is_among names e.0 ≡ false → Some e.0 ≡ stray (map (seen_entry f) (drop i es)) names
-  unfolding stray
-  stray_here es i e at is =
-      sym (ap (λ l. stray (map (seen_entry f) l) names) (drop_at es i e at) ∙ ap (λ b. cond b (stray (map (seen_entry f) (drop (i + 1) es)) names) (Some e.0)) is)
-
-  pub stray_next : (es : List (List ℕ × V)) (i : ℕ) (e : List ℕ × V) → slice_get es i ≡ Some e → is_among names e.0 ≡ true → stray (map (seen_entry f) (drop (i + 1) es)) names ≡ stray (map (seen_entry f) (drop i es)) names
-  unfolding stray
-  stray_next es i e at is =
-      sym (ap (λ l. stray (map (seen_entry f) l) names) (drop_at es i e at) ∙ ap (λ b. cond b (stray (map (seen_entry f) (drop (i + 1) es)) names) (Some e.0)) is)
 
 -- what a named key asks for
 pub node_is : (s : Settings) (f : Facts) (k : Key) (i : ImportTree) → import_at s k ≡ Some i → node_of s f k ≡ node_from s f k (of_package i)

@@ -1,12 +1,13 @@
 -- Worked walks over what is known, computed from the definitions, against what was written by hand.
 use Rattle.std.proofs.Common.{◌≡◌, ℕ, List, [], ◌∷◌, ◌++◌, Option, Some, None, Ok, Err, refl, codes}
 use Rattle.semver.specs.Parse.{Parts}
+use Rattle.compose_config.specs.Arguments.{stray}
 use Rattle.compose_config.specs.Plan.{Settings, Argument, no_settings}
 use Rattle.warg_names.specs.Import.{ImportTree, Unlocked, import_of, unlocked_of, dependency_of, other_of, interface_of, package_of}
 use Rattle.warg_names.specs.Cut.{behind, cut_first, cut_last, closed_by}
 use Rattle.warg_names.specs.Same.{same_import}
 use Rattle.warg_plan.specs.Keys.{Key, Named, Parsed, asked, choice_for}
-use Rattle.warg_plan.specs.Walk.{Content, Facts, nothing_known, NeedsLog, NeedsContent, Cycle, NoSuchImport, NoRelease, NoPackage, BadImportName, TooDeep, Arg, Left, OfEntry, Entry, walk, node_of, wires_at, visit, along, wires_of, stray, keys}
+use Rattle.warg_plan.specs.Walk.{Content, Facts, nothing_known, NeedsLog, NeedsContent, Cycle, NoSuchImport, NoRelease, NoPackage, BadImportName, TooDeep, Arg, Left, OfEntry, Entry, walk, node_of, wires_at, visit, along, wires_of, keys}
 use Rattle.warg_plan.specs.Plan.{post, taken_by}
 
 plain : List ℕ → ImportTree

@@ -1,29 +1,10 @@
 -- The search of a text for exports, entry by entry.
-use Rattle.std.proofs.Common.{◌≡◌, ℕ, zero, suc, ◌+◌, ◌<◌, true, false, List, [], ◌∷◌, length, drop, map, slice_get, Option, Some, None, is_some, refl, sym, ap, ◌∙◌, arith, add-one}
+use Rattle.std.proofs.Common.{◌≡◌, ℕ, ◌+◌, true, false, List, drop, map, slice_get, Option, Some, None, is_some, refl, sym, ap, ◌∙◌}
 use Rattle.std.specs.Option.{option_or}
 use Rattle.yaml_read.specs.Entries.{seen_entry}
+use Rattle.compose_config.specs.MapLaws.{drop_at}
 use Rattle.compose_config.specs.Plan.{Argument, Instance}
 use Rattle.warg_plan.specs.Form.{Misfit, Export, if_export, export_in, export_of}
-
-some_is : {A : Type 0} (x y : A) → Some x ≡ Some y → x ≡ y
-some_is x y h = cc
-
-none_some : {A : Type 0} (x : A) → None ≡ Some x → ⊥
-none_some x h = cc
-
--- the entries from one of them on
-drop_suc : {A : Type 0} (es : List A) (i : ℕ) (e : A) → slice_get es i ≡ Some e → drop i es ≡ e ∷ drop (suc i) es
-drop_suc [] i e h = absurd (none_some e h)
-drop_suc (x ∷ es) zero e h = ap (λ y. y ∷ es) (some_is x e h)
-drop_suc (x ∷ es) (suc i) e h = drop_suc es i e h
-
-pub drop_at : {A : Type 0} (es : List A) (i : ℕ) (e : A) → slice_get es i ≡ Some e → drop i es ≡ e ∷ drop (i + 1) es
-drop_at es i e h = drop_suc es i e h ∙ ap (λ n. e ∷ drop n es) (sym (add-one i))
-
-pub none_there : {A : Type 0} (es : List A) (i : ℕ) → i < length es → slice_get es i ≡ None → ⊥
-none_there [] i less h = omega arith
-none_there (x ∷ es) zero less h = none_some x (sym h)
-none_there (x ∷ es) (suc i) less h = none_there es i (omega arith) h
 
 -- an argument that is an export, and one that is none
 one_export : (i n : List ℕ) (o : Option (List ℕ)) (rest : Option Misfit) → is_some o ≡ true → Some (Export i n) ≡ option_or (if_export i n o) rest

@@ -2,9 +2,10 @@
 use Rattle.std.specs.Prelude.{◌≡◌, ℕ, true, false, List, length, map, Some, None, Ok}
 use Rattle.semver.specs.Parse.{Parts}
 use Rattle.warg_names.specs.Import.{ImportTree, import_of}
+use Rattle.compose_config.specs.Arguments.{is_among}
 use Rattle.compose_config.specs.Plan.{Settings, Argument}
 use Rattle.warg_plan.specs.Keys.{Key, Release, asked, choice_for}
-use Rattle.warg_plan.specs.Walk.{Facts, Content, log_in, content_in, Stop, NeedsLog, NeedsContent, NoPackage, NoRelease, BadImportName, NoSuchImport, Cycle, TooDeep, Node, given, is_among, node_of}
+use Rattle.warg_plan.specs.Walk.{Facts, Content, log_in, content_in, Stop, NeedsLog, NeedsContent, NoPackage, NoRelease, BadImportName, NoSuchImport, Cycle, TooDeep, Node, given, node_of}
 use Rattle.warg_plan.specs.Plan.{HasLog, Chooses, IsTrail, Needs, NeedsItself}
 
 -- the content of the release that is chosen for a key

@@ -5,9 +5,10 @@ use Rattle.std.proofs.lemmas.Slice.Eq.{bytes_eq-Decides}
 use Rattle.semver.specs.Parse.{Parts}
 use Rattle.warg_values.specs.Reading.{◌>>=◌}
 use Rattle.warg_names.specs.Import.{ImportTree, import_of}
+use Rattle.compose_config.specs.Arguments.{is_among, stray}
 use Rattle.compose_config.specs.Plan.{Settings, Argument}
 use Rattle.warg_plan.specs.Keys.{Key, Release, asked, choice_for}
-use Rattle.warg_plan.specs.Walk.{Facts, Content, log_in, content_in, Stop, NeedsLog, NeedsContent, NoPackage, NoRelease, BadImportName, NoSuchImport, Wire, Node, or_stop, given, wire_of, wires_of, is_among, stray, if_none, wires_at, node_with, node_of, walk}
+use Rattle.warg_plan.specs.Walk.{Facts, Content, log_in, content_in, Stop, NeedsLog, NeedsContent, NoPackage, NoRelease, BadImportName, NoSuchImport, Wire, Node, or_stop, given, wire_of, wires_of, if_none, wires_at, node_with, node_of, walk}
 use Rattle.warg_plan.specs.Plan.{HasLog, Chooses}
 use Rattle.warg_plan.specs.Cause.{HasContent, names_of, IsCauseAt, IsCause}
 use Rattle.warg_plan.specs.StopLaws.{err_is, ok_no_err, bind_err, StopsAt, walk_stops}

@@ -7,9 +7,10 @@ use Rattle.semver.specs.Parse.{Parts}
 use Rattle.warg_values.specs.Reading.{◌>>=◌}
 use Rattle.warg_values.specs.ReadingLaws.{bind_ok, ok_is}
 use Rattle.warg_names.specs.Import.{ImportTree, import_of}
+use Rattle.compose_config.specs.Arguments.{is_among, stray}
 use Rattle.compose_config.specs.Plan.{Settings, Argument}
 use Rattle.warg_plan.specs.Keys.{Key, Release, same_key, asked, choice_for}
-use Rattle.warg_plan.specs.Walk.{Facts, Content, log_in, content_in, Stop, NeedsLog, NeedsContent, NoPackage, NoRelease, BadImportName, Wire, Open, To, Node, Arg, Left, OfEntry, Entry, keys, has_key, place_of, argument, arguments, entry_of, or_stop, given, wire_of, wires_of, is_among, stray, if_none, wires_at, node_with, node_of}
+use Rattle.warg_plan.specs.Walk.{Facts, Content, log_in, content_in, Stop, NeedsLog, NeedsContent, NoPackage, NoRelease, BadImportName, Wire, Open, To, Node, Arg, Left, OfEntry, Entry, keys, has_key, place_of, argument, arguments, entry_of, or_stop, given, wire_of, wires_of, if_none, wires_at, node_with, node_of}
 use Rattle.warg_plan.specs.Plan.{IsFilled, AreFilled, HasLog, Chooses, IsEntry, EachAfter, wired_by, wired}
 use Rattle.warg_plan.specs.KeyLaws.{same_itself}
 use Rattle.warg_plan.specs.WalkLaws.{IsNodeEntry, or_false, each_after}

@@ -3,9 +3,10 @@ use Rattle.std.specs.Prelude.{◌≡◌, ◌⊎◌, ℕ, zero, suc, true, false,
 use Rattle.std.specs.List.{flat_map, AllByRecursion}
 use Rattle.semver.specs.Parse.{Parts}
 use Rattle.warg_names.specs.Import.{ImportTree, import_of}
+use Rattle.compose_config.specs.Arguments.{is_among}
 use Rattle.compose_config.specs.Plan.{Settings, Argument}
 use Rattle.warg_plan.specs.Keys.{Key, Release, same_key, asked, choice_for}
-use Rattle.warg_plan.specs.Walk.{Facts, Content, log_in, content_in, Wire, Open, To, Node, Arg, Left, OfEntry, Entry, keys, has_key, given, wire_of, is_among}
+use Rattle.warg_plan.specs.Walk.{Facts, Content, log_in, content_in, Wire, Open, To, Node, Arg, Left, OfEntry, Entry, keys, has_key, given, wire_of}
 
 -- ---- entries
 

@@ -1,16 +1,11 @@
 -- What clauses see of the walk's own values, and the steps that are functions of their own.
-use Rattle.std.specs.Prelude.{ℕ, Bool, List, [], map, bytes_eq, Option, Some, None, Result, Ok, if◌then◌else◌}
-use Rattle.std.specs.List.{list_any}
+use Rattle.std.specs.Prelude.{ℕ, List, map, Option, Some, None, Result, Ok, if◌then◌else◌}
 use Rattle.std.specs.Borrow.{Bor}
-use Rattle.indexmap.specs.IndexMap.{IndexMap}
 use Rattle.semver.specs.Identifiers.{parts_of}
 use Rattle.warg_values.specs.Reading.{◌>>=◌}
 use Rattle.warg_hash.specs.Name.{is_package_name}
 use Rattle.warg_names.specs.Import.{ImportTree, import_of}
-use Rattle.yaml_read.specs.Entries.{seen_entry}
 use Rattle.compose_config.specs.Plan.{Settings, Argument}
-use Rattle.compose_config.specs.View.{argument_of}
-use Rattle.compose_config.specs.declared.parts.InstantiationArg.{InstantiationArg}
 use Rattle.warg_plan.specs.declared.node.Wire.{Wire}
 use Rattle.warg_plan.specs.declared.node.Wire.TheVariants as made
 use Rattle.warg_plan.specs.declared.node.Node.{Node}
@@ -27,15 +22,6 @@ wires_view ws = map (λ (w : Bor (List ℕ) × Wire). (w.0.now, wire_view w.1)) 
 
 abbrev pub node_view : Node → walk.Node
 node_view x = record { name = x.«package»; version = parts_of x.version.now; digest = x.digest; content = x.content.now; wires = wires_view x.wires.items }
-
--- the arguments that a map holds, where there is one
-abbrev pub arguments_view : {S : Type 0} → Option (Bor (IndexMap (List ℕ) InstantiationArg S)) → List (List ℕ × Argument)
-arguments_view None = []
-arguments_view (Some arguments) = map (seen_entry argument_of) arguments.now.entries
-
--- whether a name is in a set of names
-abbrev pub is_in_set : List (Bor (List ℕ)) → List ℕ → Bool
-is_in_set names name = list_any (λ (n : Bor (List ℕ)). bytes_eq name n.now) names
 
 -- the wire of an import, by its name
 abbrev pub wire_at : List (List ℕ × Argument) → List ℕ → Result walk.Wire walk.Stop

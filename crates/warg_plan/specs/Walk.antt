@@ -4,7 +4,8 @@ use Rattle.std.specs.List.{list_any}
 use Rattle.std.specs.Map.{lookup}
 use Rattle.semver.specs.Parse.{Parts}
 use Rattle.warg_values.specs.Reading.{◌>>=◌}
-use Rattle.compose_config.specs.Plan.{Settings, Instance, Argument, instance_named}
+use Rattle.compose_config.specs.Arguments.{arguments_of, stray}
+use Rattle.compose_config.specs.Plan.{Settings, Argument}
 use Rattle.warg_names.specs.Import.{ImportTree, import_of}
 use Rattle.warg_plan.specs.Keys.{Key, Named, Parsed, is_interface, same_key, asked, Release, choice_for}
 
@@ -60,13 +61,9 @@ or_stop stop None = Err stop
 
 -- ---- the entry of a key
 
-abbrev pub arguments_of : Option Instance → List (List ℕ × Argument)
-arguments_of None = []
-arguments_of (Some i) = i.arguments
-
 -- the arguments that the text gives to a key
 abbrev pub given : Settings → Key → List (List ℕ × Argument)
-given s (Named name) = arguments_of (instance_named s.instantiations name)
+given s (Named name) = arguments_of s name
 given s (Parsed i) = []
 
 -- the wire of an import: to the instance that the text gives it, else to the package that its name asks for
@@ -81,14 +78,6 @@ wire_of args name i = wire_by i (lookup (λ k. bytes_eq name k) args)
 unfoldable pub wires_of : List (List ℕ × Argument) → List (List ℕ) → Result (List (List ℕ × Wire)) Stop
 wires_of args [] = Ok []
 wires_of args (name ∷ names) = or_stop (BadImportName name) (import_of name) >>= λ i. wires_of args names >>= λ ws. Ok ((name, wire_of args name i) ∷ ws)
-
-abbrev pub is_among : List (List ℕ) → List ℕ → Bool
-is_among names name = list_any (λ n. bytes_eq name n) names
-
--- the first argument in the text that names no import
-unfoldable pub stray : List (List ℕ × Argument) → List (List ℕ) → Option (List ℕ)
-stray [] names = None
-stray (a ∷ args) names = if is_among names a.0 then stray args names else Some a.0
 
 abbrev pub if_none : {X : Type 0} → Key → Option (List ℕ) → X → Result X Stop
 if_none k None x = Ok x

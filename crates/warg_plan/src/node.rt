@@ -1,24 +1,22 @@
 //! The entry of a key, before its arguments have places.
 
-ghost use Rattle.std.specs.Prelude.{◌≡◌, ℕ, List, None, bytes_eq, option_map, option_copied, IfOk};
-ghost use Rattle.std.specs.Map.{lookup};
-ghost use Rattle.semver.specs.Identifiers.{parts_of};
+ghost use Rattle.std.specs.Prelude.{◌≡◌, None};
 ghost use Rattle.warg_values.specs.Answers.{Gives};
 ghost use Rattle.warg_names.specs.Import.{import_of};
 ghost use Rattle.warg_names.specs.View.{import_tree};
-ghost use Rattle.compose_config.specs.Plan as plan;
-ghost use Rattle.compose_config.specs.View.{argument_of, instance_of, settings_of};
+ghost use Rattle.compose_config.specs.Arguments.{arguments_view};
+ghost use Rattle.compose_config.specs.View.{settings_of};
 ghost use Rattle.warg_plan.specs.Keys.{of_package};
 ghost use Rattle.warg_plan.specs.Walk as spec;
-ghost use Rattle.warg_plan.specs.View.{key_view, facts_view, content_view, stop_view};
-ghost use Rattle.warg_plan.specs.Steps.{wire_view, wires_view, node_view, arguments_view, wire_at, package_at, node_from, is_in_set};
+ghost use Rattle.warg_plan.specs.View.{key_view, facts_view, stop_view};
+ghost use Rattle.warg_plan.specs.Steps.{wire_view, wires_view, node_view, wire_at, package_at, node_from};
 
 use crate::choice::chosen;
 use crate::facts::{Content, Facts};
 use crate::key::PlanKey;
 use crate::stop::Stop;
-use compose_config::{Config, Instantiation, InstantiationArg};
-use indexmap::{IndexMap, IndexSet};
+use compose_config::{Config, InstantiationArg, argument_for, stray_argument};
+use indexmap::IndexMap;
 use semver::Version;
 use std::alloc::Global;
 use warg_hash::{AnyHash, NameError, PackageName};
@@ -58,46 +56,14 @@ pub struct Question<'a> {
     pub facts: &'a Facts,
 }
 
-/// The instantiation of a name.
-fn instance_named<'a>(config: &'a Config, name: &Text) -> Option<&'a Instantiation>
-    ensures { option_map instance_of (option_copied result)
-        ≡ plan.instance_named (settings_of config.now).instantiations name.now }
-{
-    config.instantiations.get(name)
-}
-
-/// The name of the dependency that an instance is made of.
-fn dependency_name<'a>(config: &'a Config, name: &'a Text) -> &'a str
-    ensures { result.now ≡ plan.dependency_name (settings_of config.now) name.now }
-{
-    match instance_named(config, name) {
-        Some(instantiation) => match &instantiation.dependency {
-            Some(dependency) => dependency.as_str(),
-            None => name.as_str(),
-        },
-        None => name.as_str(),
-    }
-}
-
 /// The arguments that the text gives to a key.
 fn given<'a>(config: &'a Config, key: &PlanKey) -> Option<&'a IndexMap<Text, InstantiationArg>>
     ensures { arguments_view result ≡ spec.given (settings_of config.now) (key_view key.now) }
 {
     match key {
-        PlanKey::Named(name) => Some(&instance_named(config, name)?.arguments),
+        PlanKey::Named(name) => config.arguments_of(name),
         PlanKey::Parsed(_) => None,
     }
-}
-
-/// The argument of an import among those that the text gives.
-fn argument_for<'a>(
-    arguments: Option<&'a IndexMap<Text, InstantiationArg>>,
-    name: &Text,
-) -> Option<&'a InstantiationArg>
-    ensures { option_map argument_of (option_copied result)
-        ≡ lookup (λ k. bytes_eq name.now k) (arguments_view arguments.entry) }
-{
-    arguments?.get(name)
 }
 
 /// What the name of an import asks for.
@@ -162,41 +128,6 @@ fn wires_of<'a>(
     Ok(wires)
 }
 
-/// The names of imports as a set.
-fn set_of<'a>(alloc: Global, imports: &'a [Text]) -> Result<IndexSet<&'a Text>, Memory>
-    ensures { IfOk result (λ names. (name : List ℕ) → is_in_set names.keys name ≡ spec.is_among imports.now name) }
-{
-    let mut names = IndexSet::new(alloc);
-    for name in imports {
-        names.insert(name)?;
-    }
-    Ok(names)
-}
-
-/// The first argument that names no import.
-#[tactic(auto, unfolding(crate::specs::Walk::stray))]
-fn first_stray<'a>(
-    alloc: Global,
-    arguments: Option<&'a IndexMap<Text, InstantiationArg>>,
-    imports: &[Text],
-) -> Result<Option<&'a Text>, Memory>
-    ensures { IfOk result (λ name. option_copied name
-        ≡ spec.stray (arguments_view arguments.entry) imports.now) }
-{
-    let Some(arguments) = arguments else {
-        return Ok(None);
-    };
-    let names = set_of(alloc, imports)?;
-    for index in 0..arguments.len() {
-        if let Some((name, _)) = arguments.get_index(index) {
-            if !names.contains(&name) {
-                return Ok(Some(name));
-            }
-        }
-    }
-    Ok(None)
-}
-
 /// The package that an import asks for, as the import of a key.
 fn package_of(alloc: Global, key: &PlanKey, import: &Import) -> Result<PackageName, Stop>
     ensures { Gives stop_view (λ name. name) result
@@ -222,7 +153,7 @@ fn wires_at<'a>(
 {
     let arguments = given(config, key);
     let wires = wires_of(alloc, arguments, imports)?;
-    match first_stray(alloc, arguments, imports)? {
+    match stray_argument(alloc, arguments, imports)? {
         Some(name) => Err(Stop::NoSuchImport(key.try_clone(alloc)?, name.try_clone(alloc)?)),
         None => Ok(wires),
     }
@@ -268,7 +199,7 @@ pub fn node_of<'a>(alloc: Global, question: &Question<'a>, key: &PlanKey) -> Res
         PlanKey::Named(name) => name,
         PlanKey::Parsed(import) => return node_by(alloc, question, key, import),
     };
-    match Import::from_dependency(alloc, dependency_name(question.config, name)) {
+    match Import::from_dependency(alloc, question.config.dependency_of(name).as_str()) {
         Ok(import) => node_by(alloc, question, key, &import),
         Err(ImportNameError::Memory) => Err(Stop::Memory),
         Err(_) => Err(Stop::NoPackage(key.try_clone(alloc)?)),

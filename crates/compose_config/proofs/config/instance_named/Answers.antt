@@ -1,6 +1,7 @@
 use Rattle.std.proofs.Common.{sym, ◌∙◌, arith}
 use Rattle.compose_config.specs.View.{instance_of}
-use Rattle.compose_config.proofs.Named.{found_here, next_here, none_there}
+use Rattle.compose_config.specs.MapLaws.{none_there}
+use Rattle.compose_config.proofs.Named.{found_here, next_here}
 use Rattle.compose_config.proofs.config.instance_named.Goals as goal
 use Rattle.compose_config.proofs.config.instance_named.Goals.{in-Some+else-eq, in_default}
 

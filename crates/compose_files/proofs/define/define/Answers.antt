@@ -9,7 +9,7 @@ use Rattle.compose_component.specs.Component.{bytes_of, shape_of}
 use Rattle.compose_files.specs.Built.{offer}
 use Rattle.compose_files.specs.Paths.{joined, stem}
 use Rattle.compose_files.specs.Refusals.{IsGraphRefusal, IsReadRefusal}
-use Rattle.compose_files.proofs.MapLaws.{none_some}
+use Rattle.compose_files.proofs.Apart.{none_some}
 use Rattle.compose_files.proofs.RefusalSteps.{handed_on}
 use Rattle.compose_files.proofs.define.define.Goals as goal
 

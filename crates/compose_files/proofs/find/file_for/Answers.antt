@@ -6,7 +6,7 @@ use Rattle.compose_files.specs.Paths.{joined}
 use Rattle.compose_files.specs.Refusals.{IsLookRefusal}
 use Rattle.compose_files.specs.View.{sources}
 use Rattle.compose_files.proofs.Added.{file_named, file_searched}
-use Rattle.compose_files.proofs.MapLaws.{lookup_mapped}
+use Rattle.compose_config.specs.MapLaws.{lookup_mapped}
 use Rattle.compose_files.proofs.RefusalSteps.{searched}
 use Rattle.compose_files.proofs.find.file_for.Goals as goal
 

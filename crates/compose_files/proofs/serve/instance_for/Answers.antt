@@ -11,7 +11,7 @@ returns-in_default-2-clause-found g c = λ held told.
     at_none _ _ _ (sym c.in_default.ensures.value) (record {
       component = None;
       graph = graph_of c.component_for.new.graph;
-      found = found_as (sources c.args.config.now held) _ _ (graph_of c.args.builder.now.graph) _ _ (graph_of c.component_for.new.graph) c.dependency_name-component_name.ensures
+      found = found_as (sources c.args.config.now held) _ _ (graph_of c.args.builder.now.graph) _ _ (graph_of c.component_for.new.graph) c.dependency_of-component_name.ensures
           (ap (option_map (λ (i : ComponentId). i.0)) c.in_default-2.is) (c.in_ok-component.ensures.found held told);
       made = (refl, refl);
     })
@@ -24,7 +24,7 @@ returns-in_err-id-clause-refused g c =
       refused = inr (record {
         component = c.in-Some-2.component.0;
         graph = graph_of c.component_for.new.graph;
-        found = found_as (sources c.args.config.now held) _ _ (graph_of c.args.builder.now.graph) _ _ (graph_of c.component_for.new.graph) c.dependency_name-component_name.ensures
+        found = found_as (sources c.args.config.now held) _ _ (graph_of c.args.builder.now.graph) _ _ (graph_of c.component_for.new.graph) c.dependency_of-component_name.ensures
             (ap (option_map (λ (i : ComponentId). i.0)) c.in-Some-2.is) (c.in_ok-component.ensures.found held told);
         refused = c.in_err-id.ensures.refused;
       });
@@ -35,7 +35,7 @@ returns-clause-found g c = λ held told.
     at_none _ _ _ (sym c.in_default.ensures.value) (record {
       component = Some c.in-Some-2.component.0;
       graph = graph_of c.component_for.new.graph;
-      found = found_as (sources c.args.config.now held) _ _ (graph_of c.args.builder.now.graph) _ _ (graph_of c.component_for.new.graph) c.dependency_name-component_name.ensures
+      found = found_as (sources c.args.config.now held) _ _ (graph_of c.args.builder.now.graph) _ _ (graph_of c.component_for.new.graph) c.dependency_of-component_name.ensures
           (ap (option_map (λ (i : ComponentId). i.0)) c.in-Some-2.is) (c.in_ok-component.ensures.found held told);
       made = (
         ap (λ i. Some i) c.in_ok-id.ensures.id,

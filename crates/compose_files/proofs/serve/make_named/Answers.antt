@@ -1,7 +1,7 @@
 use Rattle.std.proofs.Common.{◌∙◌, bytes_eq}
 use Rattle.indexmap.specs.IndexMap.{insert_entry}
 use Rattle.compose_files.specs.View.{built_of}
-use Rattle.compose_files.proofs.MapLaws.{insert_absent}
+use Rattle.compose_config.specs.MapLaws.{insert_absent}
 use Rattle.compose_files.proofs.serve.make_named.Goals as goal
 
 pub returns-clause-made : goal.returns-clause-made

@@ -10,7 +10,7 @@ use Rattle.warg_plan.proofs.node.node_of.Goals as goal
 
 pub returns-in-Ok : goal.returns-in-Ok
 returns-in-Ok c =
-    let named = ap dependency_import (sym c.dependency_name.ensures) ∙ c.in-Ok.ensures.ok in
+    let named = ap dependency_import (sym c.dependency_of.ensures ∙ sym c.as_str.ensures) ∙ c.in-Ok.ensures.ok in
     subst (Gives stop_view node_view c.node_by-in-Ok.result)
     (sym (node_is (settings_of c.args.question.now.config.now) (facts_view c.args.question.now.facts.now) (key_view c.args.key.now) (import_tree c.in-Ok.import) (rw c.in-Named.is named)))
     c.node_by-in-Ok.ensures

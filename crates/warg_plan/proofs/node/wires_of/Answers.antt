@@ -1,8 +1,9 @@
 use Rattle.std.proofs.Common.{ap, sym, ◌∙◌, take, ◌++◌, ◌∷◌, []}
 use Rattle.std.proofs.lemmas.List.{take_more}
+use Rattle.compose_config.specs.Arguments.{arguments_view}
 use Rattle.warg_plan.specs.Walk.{wires_of}
 use Rattle.warg_plan.specs.View.{stop_view}
-use Rattle.warg_plan.specs.Steps.{arguments_view, wires_view, wire_view}
+use Rattle.warg_plan.specs.Steps.{wires_view, wire_view}
 use Rattle.warg_plan.proofs.NodeSteps.{wires_step, wires_fail, wires_push, ok_wires}
 use Rattle.warg_plan.proofs.node.wires_of.Goals as goal
 

@@ -1,6 +1,7 @@
 use Rattle.std.proofs.Common.{sym, ◌∙◌, arith}
 use Rattle.compose_config.specs.View.{argument_of}
-use Rattle.warg_plan.proofs.TextSteps.{export_here, export_next, none_there}
+use Rattle.compose_config.specs.MapLaws.{none_there}
+use Rattle.warg_plan.proofs.TextSteps.{export_here, export_next}
 use Rattle.warg_plan.proofs.text.export_in.Goals as goal
 use Rattle.warg_plan.proofs.text.export_in.Goals.{in-Some+else-is_some, in_default}
 

@@ -1,7 +1,8 @@
 use Rattle.std.proofs.Common.{sym, ◌∙◌, arith}
 use Rattle.compose_config.specs.View.{instance_of}
 use Rattle.warg_plan.specs.Form.{Export}
-use Rattle.warg_plan.proofs.TextSteps.{instance_here, instance_next, none_there}
+use Rattle.compose_config.specs.MapLaws.{none_there}
+use Rattle.warg_plan.proofs.TextSteps.{instance_here, instance_next}
 use Rattle.warg_plan.proofs.text.export_of.Goals as goal
 use Rattle.warg_plan.proofs.text.export_of.Goals.{in-Some+in_default-export_in, in_default}
 

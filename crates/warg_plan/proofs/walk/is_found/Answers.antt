@@ -1,6 +1,6 @@
 use Rattle.std.proofs.Common.{◌∙◌}
 use Rattle.warg_plan.specs.contracts.key.PlanKeyPartialEq.TheImpl as of_key
-use Rattle.warg_plan.proofs.MapLaws.{lookup_there}
+use Rattle.compose_config.specs.MapLaws.{lookup_there}
 use Rattle.warg_plan.proofs.FoundSteps.{any_entry}
 use Rattle.warg_plan.proofs.walk.is_found.Goals as goal
 

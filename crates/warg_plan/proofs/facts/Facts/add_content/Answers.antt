@@ -1,7 +1,8 @@
 use Rattle.std.proofs.Common.{ap, ◌∙◌, map, bytes_eq, ℕ, List}
 use Rattle.warg_plan.specs.View.{content_view, facts_view}
 use Rattle.warg_plan.specs.declared.facts.Content.{Content}
-use Rattle.warg_plan.proofs.MapLaws.{insert_mapped, with_contents}
+use Rattle.compose_config.specs.MapLaws.{insert_mapped}
+use Rattle.warg_plan.proofs.FactSteps.{with_contents}
 use Rattle.warg_plan.proofs.facts.Facts.add_content.Goals as goal
 
 pub returns-clause-added : goal.returns-clause-added

@@ -1,6 +1,7 @@
 use Rattle.std.proofs.Common.{ap, ◌∙◌, map, bytes_eq}
 use Rattle.warg_plan.specs.View.{log_view, facts_view}
-use Rattle.warg_plan.proofs.MapLaws.{insert_mapped, with_logs}
+use Rattle.compose_config.specs.MapLaws.{insert_mapped}
+use Rattle.warg_plan.proofs.FactSteps.{with_logs}
 use Rattle.warg_plan.proofs.facts.Facts.add_log.Goals as goal
 
 pub returns-clause-added : goal.returns-clause-added

@@ -1,6 +1,6 @@
 use Rattle.std.proofs.Common.{ap, sym, ◌∙◌, option_map, bytes_eq}
 use Rattle.warg_plan.specs.View.{content_view}
-use Rattle.warg_plan.proofs.MapLaws.{lookup_mapped}
+use Rattle.compose_config.specs.MapLaws.{lookup_mapped}
 use Rattle.warg_plan.proofs.facts.Facts.content.Goals as goal
 
 pub returns : goal.returns

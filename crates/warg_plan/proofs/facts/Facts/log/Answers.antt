@@ -1,7 +1,7 @@
 use Rattle.std.proofs.Common.{ap, sym, ◌∙◌, option_map, bytes_eq, Some}
 use Rattle.warg_log.specs.Places.{release_views}
 use Rattle.warg_plan.specs.View.{log_view}
-use Rattle.warg_plan.proofs.MapLaws.{lookup_mapped}
+use Rattle.compose_config.specs.MapLaws.{lookup_mapped}
 use Rattle.warg_plan.proofs.facts.Facts.log.Goals as goal
 
 pub returns-in-Some : goal.returns-in-Some

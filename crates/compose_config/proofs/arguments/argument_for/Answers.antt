@@ -1,7 +1,7 @@
 use Rattle.std.proofs.Common.{ap, sym, ◌∙◌, option_map, bytes_eq}
 use Rattle.compose_config.specs.View.{argument_of}
-use Rattle.compose_files.proofs.MapLaws.{lookup_mapped}
-use Rattle.compose_files.proofs.arguments.argument_for.Goals as goal
+use Rattle.compose_config.specs.MapLaws.{lookup_mapped}
+use Rattle.compose_config.proofs.arguments.argument_for.Goals as goal
 
 pub returns : goal.returns
 returns c =

@@ -1,5 +1,5 @@
--- Maps whose keys and values are seen in another way.
-use Rattle.std.proofs.Common.{◌≡◌, ℕ, suc, zero, ◌<◌, ◌+◌, Bool, true, false, ◌||◌, cond, List, [], ◌∷◌, ◌++◌, length, drop, map, add-one, Some, None, option_map, is_some, slice_get, refl, sym, ap, ◌∙◌, bytes_eq, arith}
+-- Laws on the entries of maps: on values that are seen in another way, on what is looked up, and on entries by their numbers.
+use Rattle.std.proofs.Common.{◌≡◌, ℕ, zero, suc, ◌<◌, ◌+◌, Bool, true, false, ◌||◌, cond, List, [], ◌∷◌, ◌++◌, length, drop, map, slice_get, add-one, arith, Some, None, option_map, is_some, refl, sym, ap, ◌∙◌, bytes_eq}
 use Rattle.std.specs.List.{list_any}
 use Rattle.std.specs.Option.{option_or}
 use Rattle.std.specs.Map.{lookup, keys_of}
@@ -28,6 +28,8 @@ module _ {K V W : Type 0} (g : V → W) where
       by : (b : Bool) → map (λ (e : K × V). (e.0, g e.1)) (insert_entry eq es k v) ≡ insert_entry eq (map (λ (e : K × V). (e.0, g e.1)) es) k (g v) → map (λ (e : K × V). (e.0, g e.1)) (cond b ((e.0, v) ∷ es) (e ∷ insert_entry eq es k v)) ≡ cond b ((e.0, g v) ∷ map (λ (e : K × V). (e.0, g e.1)) es) ((e.0, g e.1) ∷ insert_entry eq (map (λ (e : K × V). (e.0, g e.1)) es) k (g v))
       by true later = refl
       by false later = ap (λ l. (e.0, g e.1) ∷ l) later
+
+-- ---- what is looked up
 
 pub bytes_turned : (a b : List ℕ) → bytes_eq a b ≡ bytes_eq b a
 bytes_turned a b = by (bytes_eq a b) (bytes_eq b a) refl refl
@@ -78,12 +80,15 @@ lookup_behind {K} {V} t (e ∷ es) k v = by (t e.0) (lookup_behind t es k v)
 pub insert_absent : {K V : Type 0} (eq : K → K → Bool) (es : List (K × V)) (k : K) (v : V) → lookup (eq k) es ≡ None → insert_entry eq es k v ≡ es ++ (k, v) ∷ []
 insert_absent eq es k v none = insert_new eq es k v (sym (lookup_there (eq k) es) ∙ ap is_some none)
 
-pub none_some : {A : Type 0} (x : A) → Some x ≡ None → ⊥
+-- ---- entries by their numbers
+
+none_some : {A : Type 0} (x : A) → None ≡ Some x → ⊥
 none_some x h = cc
 
+-- each number below their length has an entry
 pub none_there : {A : Type 0} (es : List A) (i : ℕ) → i < length es → slice_get es i ≡ None → ⊥
 none_there [] i less h = omega arith
-none_there (x ∷ es) zero less h = none_some x h
+none_there (x ∷ es) zero less h = none_some x (sym h)
 none_there (x ∷ es) (suc i) less h = none_there es i (omega arith) h
 
 some_is : {A : Type 0} (x y : A) → Some x ≡ Some y → x ≡ y
@@ -94,5 +99,6 @@ drop_suc [] i e h = absurd cc
 drop_suc (x ∷ es) zero e h = ap (λ y. y ∷ es) (some_is x e h)
 drop_suc (x ∷ es) (suc i) e h = drop_suc es i e h
 
+-- the entries from one of them on
 pub drop_at : {A : Type 0} (es : List A) (i : ℕ) (e : A) → slice_get es i ≡ Some e → drop i es ≡ e ∷ drop (i + 1) es
 drop_at es i e h = drop_suc es i e h ∙ ap (λ n. e ∷ drop n es) (sym (add-one i))

@@ -7,9 +7,8 @@ use Rattle.std.proofs.lemmas.Slice.Eq.{bytes_eq-Decides}
 use Rattle.indexmap.specs.IndexSet.{insert_key}
 use Rattle.yaml_read.specs.Entries.{seen_entry}
 use Rattle.compose_config.specs.Plan.{Argument}
-use Rattle.compose_files.proofs.MapLaws.{drop_at}
-use Rattle.compose_files.specs.Built.{is_among, stray}
-use Rattle.compose_files.specs.Needs.{is_in_set}
+use Rattle.compose_config.specs.Arguments.{is_among, is_in_set, stray}
+use Rattle.compose_config.specs.MapLaws.{drop_at}
 
 abbrev same_text : Bor (List ℕ) → Bor (List ℕ) → Bool
 same_text a b = bytes_eq a.now b.now

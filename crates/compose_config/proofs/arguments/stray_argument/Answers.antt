@@ -1,11 +1,10 @@
 use Rattle.std.proofs.Common.{sym, ap, ◌∙◌, arith}
 use Rattle.compose_config.specs.View.{argument_of}
-use Rattle.warg_plan.specs.Walk.{stray}
-use Rattle.warg_plan.specs.Steps.{arguments_view}
-use Rattle.warg_plan.proofs.NodeSteps.{stray_here, stray_next}
-use Rattle.warg_plan.proofs.TextSteps.{none_there}
-use Rattle.warg_plan.proofs.node.first_stray.Goals as goal
-use Rattle.warg_plan.proofs.node.first_stray.Goals.{in-Some-get_index+else-not-contains, in_default-get_index}
+use Rattle.compose_config.specs.Arguments.{arguments_view, stray}
+use Rattle.compose_config.specs.MapLaws.{none_there}
+use Rattle.compose_config.proofs.ArgumentSteps.{stray_here, stray_next}
+use Rattle.compose_config.proofs.arguments.stray_argument.Goals as goal
+use Rattle.compose_config.proofs.arguments.stray_argument.Goals.{in-Some-get_index+else-not-contains, in_default-get_index}
 
 pub returns-then-not-contains : goal.returns-then-not-contains
 returns-then-not-contains c =
