@@ -148,8 +148,8 @@ fn an_import_is_given_what_the_rules_choose_in_their_order(rt: HostRuntime) -> R
     come_out(rt.alloc(), SERVED)
 }
 
-/// Each refusal of the composer.
-const REFUSED: &[Row] = &[
+/// What is not found, and what is asked for and not there.
+const NOT_THERE: &[Row] = &[
     (
         &[("d/root", TAKES)],
         "search-paths: []\n",
@@ -190,6 +190,15 @@ const REFUSED: &[Row] = &[
         "instantiations: {b: {arguments: {q: y}}}\n",
         "there is no import `q` for the argument of this name: correct or remove the argument",
     ),
+];
+
+#[test]
+fn refuses_what_is_not_there(rt: HostRuntime) -> Result<(), Fail> {
+    come_out(rt.alloc(), NOT_THERE)
+}
+
+/// What is found and can't be taken.
+const NOT_TAKEN: &[Row] = &[
     (
         &[("d/root", TAKES), ("d/b.wasm", EMPTY)],
         "{}\n",
@@ -233,6 +242,6 @@ const REFUSED: &[Row] = &[
 ];
 
 #[test]
-fn refuses_what_can_not_be_composed(rt: HostRuntime) -> Result<(), Fail> {
-    come_out(rt.alloc(), REFUSED)
+fn refuses_what_can_not_be_taken(rt: HostRuntime) -> Result<(), Fail> {
+    come_out(rt.alloc(), NOT_TAKEN)
 }
