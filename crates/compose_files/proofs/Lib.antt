@@ -18,3 +18,14 @@ mod ChoiceOutside
 mod ServesOutside
 mod BuildOutside
 mod CompleteLaws
+mod Once
+mod Origins
+mod GraphKept
+mod Drawn
+mod Sourced
+mod SourcedByName
+mod Stepped
+mod GraphSteps
+mod Turns
+mod GraphStart
+mod GraphOf

@@ -8,3 +8,4 @@ pub mod Refusals
 pub mod Refused
 pub mod Read
 pub mod Composable
+pub mod Graph

@@ -3,6 +3,7 @@
 ghost use Rattle.std.specs.Prelude.{◌≡◌, ℕ, List, false};
 ghost use Rattle.compose_files.specs.Built.{Built, Sources};
 ghost use Rattle.compose_files.specs.Composed.{HaveOneGraph, IsBuilt, IsComposed};
+ghost use Rattle.compose_files.specs.Graph.{IsGraphOf};
 ghost use Rattle.compose_files.specs.Refusals.{is_failure};
 ghost use Rattle.compose_files.specs.Refused.{HasNumbers, IsEndRefusal, IsRefused};
 ghost use Rattle.compose_files.specs.declared.error.ComposerError.{ComposerError as AnyComposerError};
@@ -18,6 +19,11 @@ pub fn a_configuration_has_one_graph()
 {
     one_shape();
 }
+
+/// What is built of a configuration and files is their graph, of which nothing is said by steps.
+pub fn what_is_built_is_the_graph()
+    ensures { (root : List ℕ) (s : Sources) (b : Built) → IsBuilt root s b → IsGraphOf root s b.graph }
+{}
 
 /// What can be built is refused for want of memory, where the outside fails, or in the end: where it has no instance
 /// beside the root's, or is not written. That holds where a `usize` holds the numbers of what is built.
