@@ -29,3 +29,11 @@ mod GraphSteps
 mod Turns
 mod GraphStart
 mod GraphOf
+mod Fronts
+mod Front
+mod FrontConnects
+mod FrontMakes
+mod FrontServes
+mod FrontTurns
+mod FrontStart
+mod GraphBuilt

@@ -7,11 +7,10 @@ use Rattle.warg_base.specs.Files.{FileMap, file_at}
 use Rattle.comp_entity.specs.Entity.{ShapeTree}
 use Rattle.comp_shape.specs.Shape.{HasShape}
 use Rattle.compose_config.specs.Plan.{Argument, dependency_name}
-use Rattle.compose_graph.specs.Encoding.{IsEncoding}
 use Rattle.compose_graph.specs.Graph.{ComponentEntry, GraphTree, component_named, component_of, no_graph, with_component}
 use Rattle.compose_files.specs.Built.{Built, DefinesAt, IsAdded, IsChosen, IsComponentFor, IsConnected, IsDefined, IsInstanceFor, IsMade, IsNew, IsOffered, IsRead, IsServed, IsServedBy, IsTaken, Need, Serves, Sources, AfterSteps, asked_by, file_for, import_names, instance_of, is_unnamed, offer, taken, with_graph, with_instance_of, with_named}
 use Rattle.compose_files.specs.Choice.{choice}
-use Rattle.compose_files.specs.Composed.{HasDefined, HaveOneGraph, HasTurn, IsBuilt, IsComposed, IsStarted, ServesAt, begun, options_of, root_name}
+use Rattle.compose_files.specs.Composed.{HasDefined, HasTurn, IsBuilt, IsStarted, ServesAt, begun, root_name}
 use Rattle.compose_files.specs.Paths.{joined, stem}
 use Rattle.compose_files.specs.declared.offer.Offer.{Offer}
 use Rattle.compose_files.proofs.OneStep.{AtMostOne, one_after, one_by, one_end, one_found, one_pair, one_through}
@@ -137,11 +136,3 @@ module _ (one_shape : OneShape) where
       one_built a b p q =
           one_through (IsStarted root s) (λ start b. AfterSteps (HasTurn s) start (length b.named) b) one_start (one_end (HasTurn s) one_turn (λ b. length b.named) (λ k old new turn. slice_get_within old.named k (turn.name, turn.id) turn.there))
           p.start q.start a b p.started q.started p.turns q.turns
-
-      pub one_graph : (a b : List ℕ) → IsComposed root s a → IsComposed root s b → HaveOneGraph root s a b
-      one_graph a b p q = record {
-        built = q.built;
-        is_built = q.is_built;
-        one = subst (λ b. IsEncoding b.graph (options_of s.settings) a) (one_built p.built q.built p.is_built q.is_built) p.encoded;
-        other = q.encoded;
-      }

@@ -36,7 +36,7 @@ pub record IsResolved (s : Sources) (first : List ComponentEntry) (old : GraphTr
   pub has : (is_some (component_named first name) || is_some (file_for s name)) ≡ true
 
 -- a component of a name is there where the name is
-name_there : (cs : List ComponentEntry) (name : List ℕ) → list_any (bytes_eq name) (component_names cs) ≡ is_some (component_named cs name)
+pub name_there : (cs : List ComponentEntry) (name : List ℕ) → list_any (bytes_eq name) (component_names cs) ≡ is_some (component_named cs name)
 name_there [] name = refl
 name_there (c ∷ cs) name = by (bytes_eq name c.name) (name_there cs name)
   where
@@ -134,7 +134,7 @@ module _ (s : Sources) (first : List ComponentEntry) where
     wanted = dependency_name s.settings name
 
     -- a name that no instance has is not the root's
-    not_root : list_any (is_origin (Named name)) origins ≡ false → bytes_eq name root_name ≡ false
+    pub not_root : list_any (is_origin (Named name)) origins ≡ false → bytes_eq name root_name ≡ false
     not_root new = (or_parts (bytes_eq name root_name) (list_any (is_origin (Named name)) h.rest) (ap (list_any (is_origin (Named name))) (sym h.begins) ∙ new)).0
 
     named_drawn : (component : ℕ) (g : GraphTree) → list_any (is_origin (Named name)) origins ≡ false → (r : IsResolved s first b.graph (component_names first ++ asked_names s.settings origins) wanted component g)

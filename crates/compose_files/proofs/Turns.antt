@@ -25,10 +25,10 @@ take_suc [] ys n x h = absurd (none_some x (sym h))
 take_suc (y ∷ xs) ys zero x h = ap (λ z. z ∷ []) (same_Some y x h)
 take_suc (y ∷ xs) ys (suc n) x h = ap (λ l. y ∷ l) (take_suc xs ys n x h)
 
-abbrev need_at : List ℕ → ℕ → ℕ → List ℕ → Need
+abbrev pub need_at : List ℕ → ℕ → ℕ → List ℕ → Need
 need_at instance target place name = record { instance = instance; target = target; place = place; name = name }
 
-needs_at : (instance : List ℕ) (target from n : ℕ) (names : List (List ℕ)) (name : List ℕ) → slice_get names n ≡ Some name
+pub needs_at : (instance : List ℕ) (target from n : ℕ) (names : List (List ℕ)) (name : List ℕ) → slice_get names n ≡ Some name
     → slice_get (needs_from instance target from names) n ≡ Some (record { instance = instance; target = target; place = from + n; name = name })
 needs_at instance target from n [] name h = absurd (none_some name (sym h))
 needs_at instance target from zero (a ∷ names) name h =
@@ -37,7 +37,7 @@ needs_at instance target from zero (a ∷ names) name h =
 needs_at instance target from (suc n) (a ∷ names) name h =
     needs_at instance target (from + 1) n names name h ∙ ap (λ m. Some (record { instance = instance; target = target; place = m; name = name })) (omega arith)
 
-needs_long : (instance : List ℕ) (target from : ℕ) (names : List (List ℕ)) → length (needs_from instance target from names) ≡ length names
+pub needs_long : (instance : List ℕ) (target from : ℕ) (names : List (List ℕ)) → length (needs_from instance target from names) ≡ length names
 needs_long instance target from [] = refl
 needs_long instance target from (a ∷ names) = ap suc (needs_long instance target (from + 1) names)
 
@@ -68,7 +68,7 @@ module _ (s : Sources) (first : List ComponentEntry) where
   }
 
   -- the imports of an instance are served
-  imports_stepped : (old : Built) (origins : List Origin) (found : List ComponentEntry) (done : List Need) (instance : List ℕ) (target : ℕ) (names : List (List ℕ)) → IsDrawn s first old origins found
+  pub imports_stepped : (old : Built) (origins : List Origin) (found : List ComponentEntry) (done : List Need) (instance : List ℕ) (target : ℕ) (names : List (List ℕ)) → IsDrawn s first old origins found
       → IsWired s first old origins done → target < length origins → (n : ℕ) (new : Built) → AfterSteps (ServesAt s instance target names) old n new
       → IsStepped s first old origins (done ++ take n (needs_from instance target 0 names)) new
   imports_stepped old origins found done instance target names drawn wired below zero new h =

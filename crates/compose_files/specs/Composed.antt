@@ -1,14 +1,13 @@
--- The graph of a configuration and files, and the component that is composed of it.
-use Rattle.std.specs.Prelude.{◌≡◌, ◌<◌, ℕ, List, [], true, codes, length, not, Some, None, is_some, slice_get}
+-- The steps by which the graph of a configuration and files is built, and the component that is composed of it.
+use Rattle.std.specs.Prelude.{◌≡◌, ℕ, List, [], true, length, not, Some, None, is_some, slice_get}
 use Rattle.comp_entity.specs.Entity.{ShapeTree}
 use Rattle.compose_config.specs.Plan.{Settings}
 use Rattle.compose_graph.specs.Encoding.{IsEncoding}
 use Rattle.compose_graph.specs.Graph.{ComponentEntry, GraphTree, component_of, no_graph}
 use Rattle.compose_graph.specs.declared.options.EncodeOptions.{EncodeOptions}
 use Rattle.compose_files.specs.Built.{AfterSteps, Built, DefinesAt, HasGoodArguments, IsAdded, Serves, Sources, import_names, with_named}
-
-abbrev pub root_name : List ℕ
-root_name = codes "root"
+use Rattle.compose_files.specs.Graph.{IsGraphOf}
+pub use Rattle.compose_files.specs.Start.{ImportsSome, root_name}
 
 -- with a root, without anything else
 abbrev pub begun : GraphTree → Built
@@ -20,12 +19,6 @@ pub record HasDefined (root : List ℕ) (s : Sources) (n : ℕ) (b : Built) : Ty
   pub graph : GraphTree
   pub rooted : IsAdded s.files root root_name shape no_graph graph
   pub defines : AfterSteps (DefinesAt s) (begun graph) n b
-
--- the component of an instance has imports
-pub record ImportsSome (g : GraphTree) (id : ℕ) : Type 0 where
-  pub component : ComponentEntry
-  pub made_from : component_of g id ≡ Some component
-  pub some : 0 < length component.shape.imports
 
 -- The start: the root and then the definitions are added, and an instance of the root is made, whose arguments name imports,
 -- of which it has some.
@@ -67,14 +60,14 @@ options_of s = record {
 
 -- The bytes are the graph of a configuration and files as one component. It has an instance beside the root's, which has the number 0.
 pub record IsComposed (root : List ℕ) (s : Sources) (bytes : List ℕ) : Type 0 where
-  pub built : Built
-  pub is_built : IsBuilt root s built
-  pub several : is_some (component_of built.graph 1) ≡ true
-  pub encoded : IsEncoding built.graph (options_of s.settings) bytes
+  pub graph : GraphTree
+  pub is_graph : IsGraphOf root s graph
+  pub several : is_some (component_of graph 1) ≡ true
+  pub encoded : IsEncoding graph (options_of s.settings) bytes
 
 -- Two components are encodings of the one graph of a configuration and files.
 pub record HaveOneGraph (root : List ℕ) (s : Sources) (a b : List ℕ) : Type 0 where
-  pub built : Built
-  pub is_built : IsBuilt root s built
-  pub one : IsEncoding built.graph (options_of s.settings) a
-  pub other : IsEncoding built.graph (options_of s.settings) b
+  pub graph : GraphTree
+  pub is_graph : IsGraphOf root s graph
+  pub one : IsEncoding graph (options_of s.settings) a
+  pub other : IsEncoding graph (options_of s.settings) b

@@ -1,5 +1,5 @@
--- The graph of a configuration and files, by what holds of the whole of it: the components that it has, what its instances are for,
--- and what each of their imports is given. No order of work is told: that of each list is a fact about the list.
+-- The graph of a configuration and files, by what holds of the whole of it: the components that it has, what its instances
+-- are for, and what each of their imports is given. No order of work is told: that of each list is a fact about the list.
 use Rattle.std.specs.Prelude.{◌≡◌, ◌<◌, ℕ, ◌+◌, Bool, false, not, ◌||◌, if◌then◌else◌, List, [], ◌∷◌, ◌++◌, Contains, drop, filter, filter_map, flat_map, length, map, Option, Some, None, is_some, option_map, bytes_eq, ◌==◌}
 use Rattle.std.specs.List.{AllByRecursion, AllZip, position_from, range_with_len}
 use Rattle.std.specs.Option.{option_or}
@@ -10,8 +10,8 @@ use Rattle.compose_graph.specs.Graph.{ComponentEntry, GraphTree, InstanceEntry, 
 use Rattle.compose_graph.specs.Kept.{IsJoined}
 use Rattle.compose_graph.specs.declared.connection.Connection.{Connection}
 use Rattle.compose_files.specs.Built.{HasGoodArguments, IsChosen, Need, Sources, file_for, import_names, offer, taken}
-use Rattle.compose_files.specs.Composed.{ImportsSome, root_name}
 use Rattle.compose_files.specs.Paths.{joined, stem}
+use Rattle.compose_files.specs.Start.{ImportsSome, root_name}
 use Rattle.compose_files.specs.declared.offer.Offer.{Offer}
 
 -- what is in a list, each at its first place alone
@@ -72,7 +72,8 @@ asked_names s origins = map (λ (i : List ℕ × ℕ). dependency_name s i.0) (d
 
 -- The components: the root; the definitions in the order of the configuration; and those that instances ask for and that are
 -- none of these, in the order in which they are asked for first. No two have one name. Each has its place as its number.
-pub record HasComponents (root : List ℕ) (s : Sources) (g : GraphTree) (origins : List Origin) (first : List ComponentEntry) : Type 0 where
+pub record HasComponents (root : List ℕ) (s : Sources) (g : GraphTree) (origins : List Origin)
+    (first : List ComponentEntry) : Type 0 where
   pub of_root : ComponentEntry
   pub defined : List ComponentEntry
   pub found : List ComponentEntry
@@ -91,7 +92,9 @@ pub record HasComponents (root : List ℕ) (s : Sources) (g : GraphTree) (origin
 -- the imports of an instance, from this place on
 abbrev pub needs_from : List ℕ → ℕ → ℕ → List (List ℕ) → List Need
 needs_from instance target place [] = []
-needs_from instance target place (name ∷ names) = record { instance = instance; target = target; place = place; name = name } ∷ needs_from instance target (place + 1) names
+needs_from instance target place (name ∷ names) =
+    record { instance = instance; target = target; place = place; name = name }
+    ∷ needs_from instance target (place + 1) names
 
 abbrev pub needs_by : List ℕ → ℕ → Option ComponentEntry → List Need
 needs_by instance target None = []
@@ -114,11 +117,13 @@ first_offer (c ∷ cs) name = option_or (offer c.id c.shape name) (first_offer c
 abbrev pub offered : List ComponentEntry → Need → Option Offer
 offered first need = first_offer (drop 1 first) need.name
 
--- There is a component for an instance of a name: for the root's; or one of the root and the definitions has the component's name,
--- or there is a file for it.
+-- There is a component for an instance of a name: for the root's; or one of the root and the definitions has the
+-- component's name, or there is a file for it.
 abbrev pub has_component : Sources → List ComponentEntry → List ℕ → Bool
 has_component s first name =
-    bytes_eq name root_name || (is_some (component_named first (dependency_name s.settings name)) || is_some (file_for s (dependency_name s.settings name)))
+    bytes_eq name root_name
+    || (is_some (component_named first (dependency_name s.settings name))
+    || is_some (file_for s (dependency_name s.settings name)))
 
 abbrev pub named_source : Sources → List ComponentEntry → List ℕ → Option Origin
 named_source s first name = if has_component s first name then Some (Named name) else None
@@ -127,17 +132,19 @@ abbrev pub source_by : Sources → List ComponentEntry → Need → Option Offer
 source_by s first need (Some o) = Some (OfDefinition o.component)
 source_by s first need None = named_source s first (taken s.settings need).instance
 
--- Which instance an import is given: that of the first definition that exports an instance of its name; and else that of the name
--- which its argument gives, or of its own name, where there is a component for it.
+-- Which instance an import is given: that of the first definition that exports an instance of its name; and else that of the
+-- name which its argument gives, or of its own name, where there is a component for it.
 abbrev pub source_of : Sources → List ComponentEntry → Need → Option Origin
 source_of s first need = source_by s first need (offered first need)
 
 -- ---- instances
 
--- the number of the component of an instance
+-- the number of the component of an instance: for the root's it is 0, and else the one of the name that the configuration gives
 abbrev pub component_number : Settings → List ComponentEntry → Origin → Option ℕ
 component_number s cs (OfDefinition c) = Some c
-component_number s cs (Named name) = if bytes_eq name root_name then Some 0 else option_map (λ (c : ComponentEntry). c.id) (component_named cs (dependency_name s name))
+component_number s cs (Named name) =
+    if bytes_eq name root_name then Some 0
+    else option_map (λ (c : ComponentEntry). c.id) (component_named cs (dependency_name s name))
 
 abbrev pub IsInstanceOf : Settings → List ComponentEntry → Origin → InstanceEntry → Type 0
 IsInstanceOf s cs origin i = component_number s cs origin ≡ Some i.component
@@ -149,8 +156,8 @@ pub record IsReached (g : GraphTree) (n : ℕ) : Type 0 where
   pub given : connection.source ≡ n
   pub before : connection.target < n
 
--- The instances: the root's, and those that the imports are given, in the order in which these are given them first. Each is reached
--- from the root's. Each has its place as its number.
+-- The instances: the root's, and those that the imports are given, each once, in the order in which they are given first. Each
+-- is given to an import of one that stands before it. Each has its place as its number.
 pub record HasInstances (s : Sources) (g : GraphTree) (origins : List Origin) (first : List ComponentEntry) : Type 0 where
   pub order : origins ≡ each_once is_origin (Named root_name ∷ filter_map (source_of s first) (needs g origins))
   pub reached : (n : ℕ) → 0 < n → n < length origins → IsReached g n
@@ -166,7 +173,8 @@ IsExportFor s g need (Some o) c = c.export ≡ Some o.export
 IsExportFor s g need None c = IsChosen g c.source need (taken s.settings need).export c.export
 
 -- an import is given an instance, of which it is not an import itself, or an export of that, which fits
-pub record IsGiven (s : Sources) (g : GraphTree) (origins : List Origin) (first : List ComponentEntry) (need : Need) (origin : Origin) (c : Connection) : Type 0 where
+pub record IsGiven (s : Sources) (g : GraphTree) (origins : List Origin) (first : List ComponentEntry) (need : Need)
+    (origin : Origin) (c : Connection) : Type 0 where
   pub source : instance_for origins origin ≡ Some c.source
   pub target : c.target ≡ need.target
   pub import : c.import ≡ need.place
@@ -180,7 +188,8 @@ pub record MayBeLeft (s : Settings) (need : Need) : Type 0 where
   pub no_export : (taken s need).export ≡ None
 
 -- what an import is given, by which instance that is of; it is left where there is none
-abbrev pub IsServedFrom : Sources → GraphTree → List Origin → List ComponentEntry → Need → Option Origin → Option Connection → Type 0
+abbrev pub IsServedFrom : Sources → GraphTree → List Origin → List ComponentEntry → Need → Option Origin
+    → Option Connection → Type 0
 IsServedFrom s g origins first need None None = MayBeLeft s.settings need
 IsServedFrom s g origins first need None (Some c) = ⊥
 IsServedFrom s g origins first need (Some origin) None = ⊥
@@ -197,13 +206,14 @@ pub record HasConnections (s : Sources) (g : GraphTree) (origins : List Origin) 
 
 -- ---- the graph
 
--- The graph of a configuration and files: the arguments of each instance that has a name are for imports of it, and the root has
--- imports.
+-- The graph of a configuration and files: besides, the arguments of each instance that has a name are for imports of it, and the
+-- root has imports. The components in front are the root and the definitions.
 pub record IsGraphOf (root : List ℕ) (s : Sources) (g : GraphTree) : Type 0 where
   pub origins : List Origin
   pub first : List ComponentEntry
   pub components : HasComponents root s g origins first
   pub instances : HasInstances s g origins first
   pub connections : HasConnections s g origins first
-  pub arguments_good : AllByRecursion (λ (i : List ℕ × ℕ). HasGoodArguments s.settings g i.0 i.1) (named_of origins)
+  pub arguments_good :
+      AllByRecursion (λ (i : List ℕ × ℕ). HasGoodArguments s.settings g i.0 i.1) (named_of origins)
   pub root_imports : ImportsSome g 0

@@ -2,10 +2,11 @@ pub mod Paths
 pub mod Choice
 pub mod Built
 pub mod Needs
+pub mod Start
+pub mod Graph
 pub mod Composed
 pub mod View
 pub mod Refusals
 pub mod Refused
 pub mod Read
 pub mod Composable
-pub mod Graph

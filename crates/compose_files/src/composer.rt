@@ -20,7 +20,7 @@ use crate::choice::component_of;
 use crate::define::define_all;
 use crate::error::ComposerError;
 use crate::find::{add, read_file};
-use crate::laws::what_can_be_built_is_refused_in_the_end;
+use crate::laws::{what_can_be_built_is_refused_in_the_end, what_is_built_is_the_graph};
 use crate::serve::{make_named, take_turn};
 use compose_complete::laws::graphs_that_can_be_encoded_are_refused_for_their_numbers;
 use compose_config::Config;
@@ -211,6 +211,7 @@ impl<'a> ComponentComposer<'a> {
     {
         graphs_that_can_be_encoded_are_refused_for_their_numbers();
         what_can_be_built_is_refused_in_the_end();
+        what_is_built_is_the_graph();
         let mut builder = Builder::new(alloc);
         build(&mut builder, alloc, files, self.config, self.component)?;
         written(alloc, &builder.graph, self.config)

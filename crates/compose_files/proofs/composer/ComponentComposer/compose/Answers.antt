@@ -22,8 +22,8 @@ returns-clause-refused g c =
 pub returns-clause-composed : goal.returns-clause-composed
 returns-clause-composed g c =
     ok_with c.written.result c.written.ensures.several c.written.ensures.encoded (λ bytes several encoded held told. record {
-      built = built_of c.build.new.builder;
-      is_built = c.in_ok-build.ensures.built held told;
+      graph = (built_of c.build.new.builder).graph;
+      is_graph = c.what_is_built_is_the_graph.ensures.built _ _ (built_of c.build.new.builder) (c.in_ok-build.ensures.built held told);
       several = several;
       encoded = encoded;
     })
