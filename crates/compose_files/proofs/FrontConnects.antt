@@ -56,37 +56,45 @@ module _ (s : Sources) (first : List ComponentEntry) (g : GraphTree) (origins : 
       by None h later = absurd h
       by (Some o) h later = ap (λ t. cond t (Some c) (connection_into (filter_map (λ c. c) given) need.target need.place)) (apart (eqb c.target need.target) (eqb c.import need.place) refl refl h.target h.import) ∙ later
 
+-- an import of a front is given what the whole graph gives it: that instance is in the front, as it is in the whole
+pub record IsConnecting (g : GraphTree) (all origins : List Origin) (need : Need) (o : Origin) (source : ℕ) (mid : Built) (c : Connection) : Type 0 where
+  pub source_same : component_of mid.graph source ≡ component_of g source
+  pub target_same : component_of mid.graph need.target ≡ component_of g need.target
+  pub source_is : c.source ≡ source
+  pub everywhere : instance_for all o ≡ Some source
+  pub connects : IsConnected source c.export need mid (with_graph mid (with_connection mid.graph (connection source c.export need)))
+
 module _ (root : List ℕ) (s : Sources) (g : GraphTree) (whole : IsGraphOf root s g) (b : Built) (origins : List Origin) (done : List Need) (wired : IsWired s whole.first b origins done) (need : Need)
     (below : need.target < length origins) (fresh : AllByRecursion (IsOther need) done) (o : Origin) (source : ℕ) (mid : Built) (sourced : IsSourced s whole.first b origins o source mid)
     (later : List ComponentEntry) (components : g.components ≡ mid.graph.components ++ later) (more : List Origin) (front : whole.origins ≡ with_one is_origin origins o ++ more) where
-  pub mid_component : (id : ℕ) → id < length (with_one is_origin origins o) → component_of mid.graph id ≡ component_of g id
+  mid_component : (id : ℕ) → id < length (with_one is_origin origins o) → component_of mid.graph id ≡ component_of g id
   mid_component id less = same_component root s g whole mid (with_one is_origin origins o) sourced.found sourced.drawn later components more front id less
 
-  pub target_below : need.target < length (with_one is_origin origins o)
+  target_below : need.target < length (with_one is_origin origins o)
   target_below =
       let behind = one_behind is_origin origins o in
       let long = ap length behind.1 ∙ length-append origins behind.0 in
       omega arith
 
-  pub source_below : source < length (with_one is_origin origins o)
+  source_below : source < length (with_one is_origin origins o)
   source_below =
       let at = place_holds (is_origin o) 0 source (with_one is_origin origins o) sourced.number in
       let is = at.2 in
       let less = at.3 in
       omega arith
 
-  pub number_everywhere : instance_for whole.origins o ≡ Some source
+  number_everywhere : instance_for whole.origins o ≡ Some source
   number_everywhere = ap (λ l. instance_for l o) front ∙ place_in_front (is_origin o) 0 source (with_one is_origin origins o) more sourced.number
 
   module _ (c : Connection) (given : IsGiven s g whole.origins whole.first need o c) where
-    pub source_is : c.source ≡ source
+    source_is : c.source ≡ source
     source_is = same_Some c.source source (sym given.source ∙ number_everywhere)
 
     connection_is : c ≡ connection source c.export need
     connection_is = λ k. record { source = source_is k; export = c.export; target = given.target k; import = given.import k }
 
-    pub connects : IsConnected source c.export need mid (with_graph mid (with_connection mid.graph (connection source c.export need)))
-    connects = record { good = good; connected = refl }
+    given_connects : IsConnected source c.export need mid (with_graph mid (with_connection mid.graph (connection source c.export need)))
+    given_connects = record { good = good; connected = refl }
       where
         none : connection_into mid.graph.connections need.target need.place ≡ None
         none =
@@ -104,3 +112,12 @@ module _ (root : List ℕ) (s : Sources) (g : GraphTree) (whole : IsGraphOf root
             ∙ ap (λ t. fault_between (is_some t) (connection source c.export need) (component_of mid.graph source) (component_of mid.graph need.target)) none
             ∙ ap (λ x. fault_between false (connection source c.export need) x (component_of mid.graph need.target)) (mid_component source source_below)
             ∙ ap (λ x. fault_between false (connection source c.export need) (component_of g source) x) (mid_component need.target target_below) ∙ joined
+
+    pub connecting : IsConnecting g whole.origins origins need o source mid c
+    connecting = record {
+      source_same = mid_component source source_below;
+      target_same = mid_component need.target target_below;
+      source_is = source_is;
+      everywhere = number_everywhere;
+      connects = given_connects;
+    }

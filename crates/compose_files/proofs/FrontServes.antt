@@ -9,15 +9,15 @@ use Rattle.std.proofs.lemmas.Option.{same_Some}
 use Rattle.std.proofs.lemmas.List.Elements.{filter_map-append}
 use Rattle.std.proofs.lemmas.List.Folds.{find-append}
 use Rattle.compose_config.specs.Plan.{dependency_name}
-use Rattle.compose_graph.specs.Graph.{ComponentEntry, GraphTree, component_named, component_of, with_connection}
+use Rattle.compose_graph.specs.Graph.{ComponentEntry, GraphTree, component_named, with_connection}
 use Rattle.compose_graph.specs.declared.connection.Connection.{Connection}
 use Rattle.compose_files.specs.Built.{Built, HasGoodArguments, IsChosen, IsComponentFor, IsConnected, IsNew, IsOffered, IsRead, IsServed, Need, Serves, Sources, connection, file_for, instance_of, taken, with_graph, with_instance_of, with_made}
 use Rattle.compose_files.specs.Composed.{root_name}
-use Rattle.compose_files.specs.Graph.{IsExportFor, IsFound, IsGiven, IsGraphOf, IsServedFrom, IsServing, MayBeLeft, Named, OfDefinition, Origin, each_once, has_component, instance_for, is_origin, named_of, needs, offered, source_by, source_of}
+use Rattle.compose_files.specs.Graph.{IsExportFor, IsFound, IsGiven, IsGraphOf, IsServedFrom, IsServing, MayBeLeft, Named, OfDefinition, Origin, each_once, has_component, is_origin, named_of, needs, offered, source_by, source_of}
 use Rattle.compose_files.specs.declared.offer.Offer.{Offer}
 use Rattle.compose_files.proofs.Drawn.{IsDrawn, IsWired}
 use Rattle.compose_files.proofs.Front.{origins_front}
-use Rattle.compose_files.proofs.FrontConnects.{IsOther, arguments_as, chosen_as, connects, mid_component, number_everywhere, source_below, source_is, target_below}
+use Rattle.compose_files.proofs.FrontConnects.{IsConnecting, IsOther, arguments_as, chosen_as, connecting}
 use Rattle.compose_files.proofs.FrontMakes.{CanBeHad, can_be_had}
 use Rattle.compose_files.proofs.Fronts.{zip_middle}
 use Rattle.compose_files.proofs.Once.{all_found, none_some, once_more, with_one}
@@ -80,8 +80,9 @@ module _ (root : List ℕ) (s : Sources) (g : GraphTree) (whole : IsGraphOf root
 
       connected : IsConnected (instance_of b o.component) c.export need (with_instance_of b o.component) (with_graph (with_instance_of b o.component) (with_connection (with_instance_of b o.component).graph (connection (instance_of b o.component) c.export need)))
       connected =
-          connects root s g whole b origins done wired need below fresh (OfDefinition o.component) (instance_of b o.component) (with_instance_of b o.component) (definition_sourced s whole.first b origins found o.component drawn)
-          later (components ∙ ap (λ l. l ++ later) (sym (same (is_some (b.made o.component))))) (front_by (OfDefinition o.component) (ap (source_by s whole.first need) is)).0 (front_by (OfDefinition o.component) (ap (source_by s whole.first need) is)).1 c given
+          let front = front_by (OfDefinition o.component) (ap (source_by s whole.first need) is) in
+          (connecting root s g whole b origins done wired need below fresh (OfDefinition o.component) (instance_of b o.component) (with_instance_of b o.component) (definition_sourced s whole.first b origins found o.component drawn)
+          later (components ∙ ap (λ l. l ++ later) (sym (same (is_some (b.made o.component))))) front.0 front.1 c given).connects
 
   -- by the instance that it takes
   named_served : offered whole.first need ≡ None → has_component s whole.first (taken s.settings need).instance ≡ true → (c : Connection) → IsGiven s g whole.origins whole.first need (Named (taken s.settings need).instance) c → CanBeServed
@@ -104,7 +105,7 @@ module _ (root : List ℕ) (s : Sources) (g : GraphTree) (whole : IsGraphOf root
               source = Some h.source;
               with_source = h.mid;
               found = h.is_instance;
-              served = record { export = c.export; chosen = chosen; given = connected; arguments_good = λ new. arguments };
+              served = record { export = c.export; chosen = chosen; given = all.connects; arguments_good = λ new. arguments };
             });
         after = h.rest;
         all = h.all;
@@ -113,33 +114,20 @@ module _ (root : List ℕ) (s : Sources) (g : GraphTree) (whole : IsGraphOf root
           sourced : IsSourced s whole.first b origins (Named (taken s.settings need).instance) h.source h.mid
           sourced = (name_sourced s whole.first b origins found drawn (taken s.settings need).instance h.source h.mid h.is_instance).1
 
-          same : (id : ℕ) → id < length (with_one is_origin origins (Named (taken s.settings need).instance)) → component_of h.mid.graph id ≡ component_of g id
-          same = mid_component root s g whole b origins done wired need below fresh (Named (taken s.settings need).instance) h.source h.mid sourced h.rest h.all (front_by (Named (taken s.settings need).instance) is_source).0 (front_by (Named (taken s.settings need).instance) is_source).1
-
-          at : h.source < length (with_one is_origin origins (Named (taken s.settings need).instance))
-          at = source_below root s g whole b origins done wired need below fresh (Named (taken s.settings need).instance) h.source h.mid sourced h.rest h.all (front_by (Named (taken s.settings need).instance) is_source).0 (front_by (Named (taken s.settings need).instance) is_source).1
-
-          to : need.target < length (with_one is_origin origins (Named (taken s.settings need).instance))
-          to = target_below root s g whole b origins done wired need below fresh (Named (taken s.settings need).instance) h.source h.mid sourced h.rest h.all (front_by (Named (taken s.settings need).instance) is_source).0 (front_by (Named (taken s.settings need).instance) is_source).1
-
-          is : c.source ≡ h.source
-          is = source_is root s g whole b origins done wired need below fresh (Named (taken s.settings need).instance) h.source h.mid sourced h.rest h.all (front_by (Named (taken s.settings need).instance) is_source).0 (front_by (Named (taken s.settings need).instance) is_source).1 c given
-
-          connected : IsConnected h.source c.export need h.mid (with_graph h.mid (with_connection h.mid.graph (connection h.source c.export need)))
-          connected = connects root s g whole b origins done wired need below fresh (Named (taken s.settings need).instance) h.source h.mid sourced h.rest h.all (front_by (Named (taken s.settings need).instance) is_source).0 (front_by (Named (taken s.settings need).instance) is_source).1 c given
+          all : IsConnecting g whole.origins origins need (Named (taken s.settings need).instance) h.source h.mid c
+          all =
+              let front = front_by (Named (taken s.settings need).instance) is_source in
+              connecting root s g whole b origins done wired need below fresh (Named (taken s.settings need).instance) h.source h.mid sourced h.rest h.all front.0 front.1 c given
 
           chosen : IsChosen h.mid.graph h.source need (taken s.settings need).export c.export
           chosen =
-              chosen_as g h.mid.graph h.source need (taken s.settings need).export c.export (same h.source at) (same need.target to)
-              (subst (λ n. IsChosen g n need (taken s.settings need).export c.export) is (subst (λ p. IsExportFor s g need p c) none given.export))
-
-          everywhere : instance_for whole.origins (Named (taken s.settings need).instance) ≡ Some h.source
-          everywhere = number_everywhere root s g whole b origins done wired need below fresh (Named (taken s.settings need).instance) h.source h.mid sourced h.rest h.all (front_by (Named (taken s.settings need).instance) is_source).0 (front_by (Named (taken s.settings need).instance) is_source).1
+              chosen_as g h.mid.graph h.source need (taken s.settings need).export c.export all.source_same all.target_same
+              (subst (λ n. IsChosen g n need (taken s.settings need).export c.export) all.source_is (subst (λ p. IsExportFor s g need p c) none given.export))
 
           arguments : HasGoodArguments s.settings (with_connection h.mid.graph (connection h.source c.export need)) (taken s.settings need).instance h.source
           arguments =
-              arguments_as g (with_connection h.mid.graph (connection h.source c.export need)) s.settings (taken s.settings need).instance h.source (same h.source at)
-              (looked_up (λ (i : List ℕ × ℕ). HasGoodArguments s.settings g i.0 i.1) (taken s.settings need).instance h.source (named_of whole.origins) (named_at (taken s.settings need).instance 0 whole.origins ∙ everywhere) whole.arguments_good)
+              arguments_as g (with_connection h.mid.graph (connection h.source c.export need)) s.settings (taken s.settings need).instance h.source all.source_same
+              (looked_up (λ (i : List ℕ × ℕ). HasGoodArguments s.settings g i.0 i.1) (taken s.settings need).instance h.source (named_of whole.origins) (named_at (taken s.settings need).instance 0 whole.origins ∙ all.everywhere) whole.arguments_good)
 
   -- by nothing
   left_served : offered whole.first need ≡ None → has_component s whole.first (taken s.settings need).instance ≡ false → MayBeLeft s.settings need → CanBeServed
