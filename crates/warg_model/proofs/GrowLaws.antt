@@ -5,7 +5,9 @@ use Rattle.warg_proof.specs.MapTree.{map_root}
 use Rattle.warg_exchange.specs.declared.checkpoint.Checkpoint.{Checkpoint}
 use Rattle.warg_exchange.specs.declared.checkpoint.SignedCheckpoint.{SignedCheckpoint}
 use Rattle.warg_ledger.specs.Registry.{entry_texts, heads}
-use Rattle.warg_model.specs.Held.{Held, IsModel, registry_of, checkpoint_at, checkpoint_by, present, with_checkpoint}
+use Rattle.warg_model.specs.declared.growth.Growth.{Growth}
+use Rattle.warg_model.specs.Growths.{IsGrowthOf}
+use Rattle.warg_model.specs.Held.{Held, IsModel, registry_of, checkpoint_at, present, with_checkpoint}
 
 -- it is the checkpoint of all records
 pub present-made : (h : Held) (n : ℕ) (log_root maps_root : List ℕ) → n ≡ length (registry_of h).entries → log_root ≡ root (entry_texts (registry_of h) n) → maps_root ≡ map_root (heads (registry_of h) n)
@@ -15,11 +17,11 @@ present-made h n log_root maps_root all is_log is_map =
     ∙ ap (λ (r : List ℕ). record { log_length = n; log_root = root (entry_texts (registry_of h) n); map_root = r; timestamp = n }) is_map
     ∙ ap (λ (m : ℕ). checkpoint_at (registry_of h) m) all
 
-pub held-grown : (h : Held) (c : Checkpoint) (s : SignedCheckpoint) (checkpoints : List Checkpoint) → c ≡ present h → s ≡ checkpoint_by h.key c → checkpoints ≡ h.checkpoints ++ c ∷ [] → record h { checkpoints = checkpoints; latest = Some s } ≡ with_checkpoint h
-held-grown h c s checkpoints is signed more =
-    ap (λ (l : List Checkpoint). record h { checkpoints = l; latest = Some s }) more
-    ∙ ap (λ (t : SignedCheckpoint). record h { checkpoints = h.checkpoints ++ c ∷ []; latest = Some t }) signed
-    ∙ ap (λ (d : Checkpoint). record h { checkpoints = h.checkpoints ++ d ∷ []; latest = Some (checkpoint_by h.key d) }) is
+-- a registry has a growth that it takes up
+pub taken-up : (h : Held) (g : Growth) → IsGrowthOf h g → record h { checkpoints = g.checkpoints.items; latest = Some g.latest } ≡ with_checkpoint h
+taken-up h g is =
+    ap (λ (l : List Checkpoint). record h { checkpoints = l; latest = Some g.latest }) is.checkpoints
+    ∙ ap (λ (s : SignedCheckpoint). record h { checkpoints = h.checkpoints ++ present h ∷ []; latest = Some s }) is.latest
 
 pub model-grown : (h k : Held) → k ≡ with_checkpoint h → IsModel h → IsModel k
 model-grown h k is model =

@@ -4,6 +4,7 @@
 
 mod checkpoint;
 mod error;
+mod growth;
 mod hashes;
 mod key;
 pub mod laws;
@@ -12,6 +13,7 @@ mod record;
 mod registry;
 
 pub use error::{LogsError, ModelError};
+pub use growth::Growth;
 pub use hashes::RegistryHashes;
 pub use key::SigningKey;
 pub use page::place_named;

@@ -21,6 +21,7 @@ ghost use Rattle.indexmap.specs.IndexMap.{IsUnique};
 ghost use Rattle.warg_model.specs.Held.{registry_of, opened, package_records, with_record, with_log, with_release, with_yank, with_checkpoint, release_in, content_in, signatures_of, StartsAs, HasNoClash};
 ghost use Rattle.warg_model.specs.State.{held, logged_view, IsSound};
 ghost use Rattle.warg_model.specs.Hashes.{leaf_of, AreHashesBelow};
+ghost use Rattle.warg_model.specs.Growths.{IsGrowthOf};
 ghost use Rattle.warg_model.specs.Pages.{published_behind, asked_in, HasRecordAt, AreBehind, AreLists, IsLogFault, IsLogsFault, Names};
 ghost use Rattle.warg_model.specs.Records.{records_of};
 ghost use Rattle.warg_model.specs.Signatures.{signature_on, accepted_of};
@@ -28,6 +29,7 @@ ghost use Rattle.warg_model.specs.declared.error.ModelError.TheVariants.{Release
 
 use crate::checkpoint::checkpoint_text;
 use crate::error::{LogsError, ModelError};
+use crate::growth::Growth;
 use crate::hashes::RegistryHashes;
 use crate::key::SigningKey;
 use crate::page::{place_named, push_behind};
@@ -340,6 +342,22 @@ impl ModelRegistry {
         Ok(())
     }
 
+    /// Lists the registry's one signature of each text that was signed behind those that are listed: of the records, and of
+    /// the checkpoints that were made.
+    pub fn list_signatures(
+        &self,
+        alloc: Global,
+        listed: &mut Vec<(PublicKey, AnyHash, Signature)>,
+    ) -> Result<(), Memory>
+        ensures { OnOk result (listed.new.items ≡ listed.old.items ++ signatures_of (held self.now)) }
+    {
+        let opening = signed_text_of(alloc, &self.opening)?;
+        listed.push(self.key.sign(alloc, opening.as_slice())?)?;
+        self.list_records(alloc, listed)?;
+        self.list_checkpoints(alloc, listed)?;
+        Ok(())
+    }
+
     /// A verifier of its own that lists the registry's one signature of each text that was signed: of each record, and
     /// of each checkpoint that was made. By it the registry is an honest one, unless two texts have one SHA-256.
     pub fn verifier(&self, alloc: Global) -> Result<ListedVerifier, Memory>
@@ -353,10 +371,7 @@ impl ModelRegistry {
         lawful_record_by_record();
         fronts_are_lawful();
         let mut listed = Vec::new(alloc);
-        let opening = signed_text_of(alloc, &self.opening)?;
-        listed.push(self.key.sign(alloc, opening.as_slice())?)?;
-        self.list_records(alloc, &mut listed)?;
-        self.list_checkpoints(alloc, &mut listed)?;
+        self.list_signatures(alloc, &mut listed)?;
         Ok(ListedVerifier::new(listed))
     }
 
@@ -390,19 +405,16 @@ impl ModelRegistry {
         Ok(RegistryHashes::new(alloc, leaves)?)
     }
 
-    /// Makes the checkpoint of the present list, signed by the key: of all its records, and of the second that is their
-    /// number. A refusal changes nothing.
-    pub fn grow(&mut self, alloc: Global) -> Result<(), ModelError>
-        ensures grown { OnOk result (held self.new ≡ with_checkpoint (held self.old)) }
-        ensures sound { IsSound self.old → IsSound self.new }
-        ensures err { IfErr result (λ e. e ≡ WantsMemory) }
-        ensures same { OnErr result (held self.new ≡ held self.old) }
+    /// The growth by a checkpoint of the present list, signed by the key: of all its records, and of the second that is
+    /// their number. The registry has it once it takes it up.
+    pub fn growth(&self, alloc: Global) -> Result<Growth, Memory>
+        ensures { IfOk result (IsGrowthOf (held self.now)) }
     {
         let length = self.records.len() + 1;
         let hashes = self.hashes(alloc, length)?;
         let Some(log_root) = hashes.log_root() else {
             // The log has a root of all its entries, so only memory can be wanting.
-            return Err(ModelError::Memory);
+            return Err(Memory);
         };
         let contents = Checkpoint {
             log_length: length as u64,
@@ -415,8 +427,41 @@ impl ModelRegistry {
             key_id: self.key.key.id(),
             signature: self.key.signature.try_clone(alloc)?,
         };
-        self.checkpoints.push(contents)?;
+        let mut checkpoints = Vec::from_slice(alloc, self.checkpoints.as_slice())?;
+        checkpoints.push(contents)?;
+        Ok(Growth {
+            checkpoints,
+            latest,
+            hashes,
+        })
+    }
+
+    /// Takes up a growth of the registry as it is, and gives the hashes of its records.
+    pub fn take_up(&mut self, growth: Growth) -> RegistryHashes
+        ensures grown { IsGrowthOf (held self.old) growth → held self.new ≡ with_checkpoint (held self.old) }
+        ensures sound { IsGrowthOf (held self.old) growth → IsSound self.old → IsSound self.new }
+        ensures hashes { result ≡ growth.hashes }
+    {
+        let Growth {
+            checkpoints,
+            latest,
+            hashes,
+        } = growth;
+        self.checkpoints = checkpoints;
         self.latest = Some(latest);
+        hashes
+    }
+
+    /// Makes the checkpoint of the present list, signed by the key: of all its records, and of the second that is their
+    /// number. A refusal changes nothing.
+    pub fn grow(&mut self, alloc: Global) -> Result<(), ModelError>
+        ensures grown { OnOk result (held self.new ≡ with_checkpoint (held self.old)) }
+        ensures sound { IsSound self.old → IsSound self.new }
+        ensures err { IfErr result (λ e. e ≡ WantsMemory) }
+        ensures same { OnErr result (held self.new ≡ held self.old) }
+    {
+        let growth = self.growth(alloc)?;
+        self.take_up(growth);
         Ok(())
     }
 

@@ -1,4 +1,4 @@
-use Rattle.std.proofs.Common.{◌≡◌, ◌+◌, List, ℕ, rules, sym, ◌∙◌, ap, length}
+use Rattle.std.proofs.Common.{◌≡◌, ◌+◌, ◌∷◌, ◌++◌, [], List, ℕ, rules, sym, ◌∙◌, ap, subst, length}
 use Rattle.std.proofs.lemmas.List.{length-map}
 use Rattle.sha2.specs.Sha256.{sha256}
 use Rattle.warg_proof.specs.LogTree.{root}
@@ -7,12 +7,13 @@ use Rattle.warg_exchange.specs.declared.checkpoint.Checkpoint.{Checkpoint}
 use Rattle.warg_exchange.specs.declared.checkpoint.SignedCheckpoint.{SignedCheckpoint}
 use Rattle.warg_ledger.specs.Registry.{entry_texts}
 use Rattle.warg_model.specs.Held.{registry_of, checkpoint_by, present}
+use Rattle.warg_model.specs.Hashes.{AreHashesBelow}
 use Rattle.warg_model.specs.State.{held}
-use Rattle.warg_model.proofs.GrowLaws.{some-is, present-made, held-grown, model-grown}
-use Rattle.warg_model.proofs.registry.ModelRegistry.grow.Goals as goal
+use Rattle.warg_model.proofs.GrowLaws.{some-is, present-made}
+use Rattle.warg_model.proofs.registry.ModelRegistry.growth.Goals as goal
 
-pub returns-clause-grown : goal.returns-clause-grown
-returns-clause-grown c =
+pub returns : goal.returns
+returns c =
     let h = held c.args.self.now in
     let w = registry_of h in
     let n = c.len-length.result + 1 in
@@ -24,7 +25,8 @@ returns-clause-grown c =
     let by_key : signed ≡ checkpoint_by h.key checkpoint =
     ap (λ (i : List ℕ). record { contents = checkpoint; key_id = i; signature = c.in_ok-try_clone.field-0 }) c.id.ensures
     ∙ ap (λ (t : List ℕ). record { contents = checkpoint; key_id = sha256 h.key.key; signature = t }) c.in_ok-try_clone.ensures in
-    held-grown h checkpoint signed c.push.new.self.items is by_key c.in_ok-push.ensures.items
-
-pub returns-clause-sound : goal.returns-clause-sound
-returns-clause-sound c sound = model-grown (held c.args.self.now) _ (returns-clause-grown c) sound
+    record {
+      checkpoints = c.in_ok-push.ensures.items ∙ ap (λ (l : List Checkpoint). l ++ checkpoint ∷ []) (c.in_ok-checkpoints.ensures.items ∙ c.as_slice.ensures.value) ∙ ap (λ (d : Checkpoint). h.checkpoints ++ d ∷ []) is;
+      latest = by_key ∙ ap (λ (d : Checkpoint). checkpoint_by h.key d) is;
+      hashes = subst (λ (m : ℕ). AreHashesBelow w m c.in_ok-hashes.hashes) all c.in_ok-hashes.ensures;
+    }
