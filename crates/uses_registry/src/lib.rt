@@ -26,4 +26,5 @@ pub mod request;
 pub mod store;
 pub mod update;
 pub mod values;
+pub mod vectors;
 pub mod verify;

@@ -1,0 +1,5 @@
+//! Tests of `warg_vectors`.
+#![tactic(auto)]
+
+#[cfg(test)]
+mod vectors;

@@ -1,0 +1,9 @@
+mod AnswerLaws
+mod AskLaws
+mod FrontLaws
+mod GrowthLaws
+mod ListLaws
+mod MentionLaws
+mod PlaceLaws
+mod RequestLaws
+mod SoundLaws
