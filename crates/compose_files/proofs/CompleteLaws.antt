@@ -1,5 +1,5 @@
 -- A composition of which all is built that is to be written is refused where it is not encoded.
-use Rattle.std.proofs.Common.{◌≡◌, ◌≤◌, ◌<◌, ◌^◌, ℕ, Bool, true, false, List, is_some, refl, sym, ap, ◌∙◌, arith}
+use Rattle.std.proofs.Common.{◌≡◌, ◌≤◌, ◌<◌, ◌^◌, ℕ, Bool, true, false, List, is_some, refl, sym, ap, ◌∙◌, subst, arith}
 use Rattle.std.proofs.lemmas.Bool.{false≢true}
 use Rattle.warg_values.specs.Faults.{Rose}
 use Rattle.compose_complete.specs.Unwritten.{IsExported, IsUnwrittenGraph}
@@ -16,6 +16,7 @@ use Rattle.compose_order.specs.Needs.{LeftTree}
 use Rattle.compose_files.specs.Built.{Built, Sources}
 use Rattle.compose_files.specs.Composable.{IsEncodable, IsShortOfMemory}
 use Rattle.compose_files.specs.Composed.{IsBuilt, options_of}
+use Rattle.compose_files.specs.Graph.{IsGraphOf}
 use Rattle.compose_files.specs.Refusals.{is_failure}
 use Rattle.compose_files.specs.Refused.{HasNumbers, IsComplete, IsEncodeRefusal, IsEndRefusal, IsRefused}
 use Rattle.compose_files.specs.declared.error.ComposerError.{ComposerError}
@@ -39,10 +40,19 @@ calm_is e old new failed calm = by (is_failure e) failed
     by true failed = absurd (calm (failed refl))
     by false failed = refl
 
+-- what has a graph is refused in the end, since that graph is built
+pub end_by : ((root : List ℕ) (s : Sources) (b : Built) (e : ComposerError) → IsBuilt root s b → HasNumbers b.graph → is_failure e ≡ false → IsRefused root s e → IsEndRefusal s.settings b.graph e)
+    → ((root : List ℕ) (s : Sources) (g : GraphTree) → IsGraphOf root s g → (b : Built) × IsBuilt root s b × (b.graph ≡ g))
+    → (root : List ℕ) (s : Sources) (g : GraphTree) → IsComplete root s g → (e : ComposerError) → is_failure e ≡ false → IsRefused root s e → IsEndRefusal s.settings g e
+end_by law found root s g complete e calm refused =
+    let b = found root s g complete.is_graph in
+    subst (λ h. IsEndRefusal s.settings h e) b.2 (law root s b.0 e b.1 (subst HasNumbers (sym b.2) complete.numbers) calm refused)
+
 pub complete_refusal : ((root : List ℕ) (s : Sources) (b : Built) (e : ComposerError) → IsBuilt root s b → HasNumbers b.graph → is_failure e ≡ false → IsRefused root s e → IsEndRefusal s.settings b.graph e)
-    → (root : List ℕ) (s : Sources) (b : Built) → IsComplete root s b → (e : ComposerError) (old new : ℕ) → (is_failure e ≡ true → Rose old new) → (Rose old new → ⊥) → IsRefused root s e → IsEncodeRefusal s.settings b.graph e
-complete_refusal law root s b complete e old new failed calm refused =
-    encode_refusal s.settings b.graph complete.several e (law root s b e complete.is_built complete.numbers (calm_is e old new failed calm) refused)
+    → ((root : List ℕ) (s : Sources) (g : GraphTree) → IsGraphOf root s g → (b : Built) × IsBuilt root s b × (b.graph ≡ g))
+    → (root : List ℕ) (s : Sources) (g : GraphTree) → IsComplete root s g → (e : ComposerError) (old new : ℕ) → (is_failure e ≡ true → Rose old new) → (Rose old new → ⊥) → IsRefused root s e → IsEncodeRefusal s.settings g e
+complete_refusal law found root s g complete e old new failed calm refused =
+    encode_refusal s.settings g complete.several e (end_by law found root s g complete e (calm_is e old new failed calm) refused)
 
 -- ---- what can be encoded
 

@@ -9,7 +9,7 @@ use Rattle.compose_graph.specs.Graph.{GraphTree}
 use Rattle.compose_graph.specs.Kept.{IsGraph}
 use Rattle.compose_graph.specs.declared.options.EncodeOptions.{EncodeOptions}
 use Rattle.compose_order.specs.Needs.{LeftTree}
-use Rattle.compose_files.specs.Built.{Built, Sources}
+use Rattle.compose_files.specs.Built.{Sources}
 use Rattle.compose_files.specs.Composed.{options_of}
 use Rattle.compose_files.specs.Refused.{IsComplete}
 use Rattle.compose_files.specs.declared.error.ComposerError.{ComposerError}
@@ -26,11 +26,11 @@ pub record IsEncodable (g : GraphTree) (o : EncodeOptions) : Type 0 where
   pub possible : CanBeEncoded (composed g) o.define_components (export_place g o) order lefts
   pub small : (n : ℕ) → IsOfWritten n (composed g) o.define_components (export_place g o) order lefts → n < 2 ^ 32
 
--- A component can be composed of a configuration and files: all that is to be written is built, and can be encoded.
+-- A component can be composed of a configuration and files: their graph has all that is to be written, and can be encoded.
 pub record IsComposable (root : List ℕ) (s : Sources) : Type 0 where
-  pub built : Built
-  pub is_complete : IsComplete root s built
-  pub encodable : IsEncodable built.graph (options_of s.settings)
+  pub graph : GraphTree
+  pub is_complete : IsComplete root s graph
+  pub encodable : IsEncodable graph (options_of s.settings)
 
 -- want of memory
 abbrev pub IsShortOfMemory : ComposerError → Type 0

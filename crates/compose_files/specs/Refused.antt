@@ -9,6 +9,7 @@ use Rattle.compose_graph.specs.Refusal.{IsInstantiateRefusal, last_id}
 use Rattle.compose_graph.specs.declared.compose_error.ComposeError.TheVariants as encoding
 use Rattle.compose_files.specs.Built.{AfterSteps, Built, DefinesAt, HasGoodArguments, IsAdded, Sources, import_names, with_named}
 use Rattle.compose_files.specs.Composed.{HasDefined, HasTurn, IsBuilt, IsStarted, ServesAt, begun, options_of, root_name}
+use Rattle.compose_files.specs.Graph.{IsGraphOf}
 use Rattle.compose_files.specs.Refusals.{IsArgumentRefusal, IsDefinitionRefusal, IsFileRefusal, IsGraphRefusal, IsServeRefusal, LacksInstance}
 use Rattle.compose_files.specs.declared.error.ComposerError.{ComposerError}
 use Rattle.compose_files.specs.declared.error.ComposerError.TheVariants as error
@@ -127,11 +128,12 @@ pub record HasNumbers (g : GraphTree) : Type 0 where
   pub components : g.next_component ≤ last_id
   pub instances : g.next_instance ≤ last_id
 
--- All that is to be written is built: there is an instance beside the root's, and the numbers are in bounds.
-pub record IsComplete (root : List ℕ) (s : Sources) (b : Built) : Type 0 where
-  pub is_built : IsBuilt root s b
-  pub several : is_some (component_of b.graph 1) ≡ true
-  pub numbers : HasNumbers b.graph
+-- The graph of a configuration and files has all that is to be written: there is an instance beside the root's, and the numbers
+-- are in bounds.
+pub record IsComplete (root : List ℕ) (s : Sources) (g : GraphTree) : Type 0 where
+  pub is_graph : IsGraphOf root s g
+  pub several : is_some (component_of g 1) ≡ true
+  pub numbers : HasNumbers g
 
 -- a graph is not written
 abbrev pub IsEncodeRefusal : Settings → GraphTree → ComposerError → Type 0

@@ -164,7 +164,7 @@ fn written(
 }
 
 impl<'a> ComponentComposer<'a> {
-    ghost use Rattle.compose_files.specs.Built.{Built};
+    ghost use Rattle.compose_graph.specs.Graph.{GraphTree};
     ghost use Rattle.compose_files.specs.Composable.{IsComposable, IsShortOfMemory};
     ghost use Rattle.compose_files.specs.Composed.{IsComposed};
     ghost use Rattle.compose_files.specs.Refused.{IsComplete, IsEncodeRefusal, IsRefused};
@@ -199,10 +199,10 @@ impl<'a> ComponentComposer<'a> {
             → IfOk result (λ bytes. (s : ShapeTree) × HasShape bytes.items s) }
         ensures refused { IfErr result (λ e. (held : FileMap) → F.told files.old ≡ Some held
             → IsRefused (root_of self.now) (sources (config_of self.now) held) e) }
-        ensures complete { IfErr result (λ e. (held : FileMap) (b : Built) → F.told files.old ≡ Some held
-            → IsComplete (root_of self.now) (sources (config_of self.now) held) b
+        ensures complete { IfErr result (λ e. (held : FileMap) (g : GraphTree) → F.told files.old ≡ Some held
+            → IsComplete (root_of self.now) (sources (config_of self.now) held) g
             → (Rose (F.faults files.old) (F.faults files.new) → ⊥)
-            → IsEncodeRefusal (settings_of (config_of self.now)) b.graph e) }
+            → IsEncodeRefusal (settings_of (config_of self.now)) g e) }
         ensures able { IfErr result (λ e. (held : FileMap) → F.told files.old ≡ Some held
             → IsComposable (root_of self.now) (sources (config_of self.now) held)
             → is_failure e ≡ false → IsShortOfMemory e) }

@@ -127,8 +127,8 @@ module _ (one_document : OneDocument) where
 
     composition_short : (s : Stop) → IsCompositionCause s can.root can.config before after → IsShortOfMemory s
     composition_short s (AtRoot h) =
-        let rooted = can.composable.holds.is_complete.is_built.started.has_defined.rooted in
-        read_short s can.root rooted.bytes rooted.found h
+        let components = can.composable.holds.is_complete.is_graph.components in
+        read_short s can.root components.of_root.bytes components.root_file.found h
     composition_short s (AtConfig there h) = config_short s h
     composition_short s (AtComposer there h) = composer_short s h
 
