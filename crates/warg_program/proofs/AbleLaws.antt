@@ -86,7 +86,7 @@ assembles_short s words before after can calm (inr c) =
   where
     by : (other : Sources) (last : List ℕ) → can.sources ≡ other → Stops s (Assemble other last) before after → IsShortOfMemory s
     by other last sources (inl r) = assembly_short words before.files after.files can calm.files s (subst (λ o. IsAssemblyCause s o before.files after.files) (sym sources) r.cause)
-    by other last sources (inr u) = undelivered_short s last u.bytes u.lines before after calm.files calm.output u.undelivered
+    by other last sources (inr u) = undelivered_short s (Some last) u.bytes u.lines before after calm.files calm.output u.undelivered
 
 -- a text holds one configuration
 abbrev OneDocument : Type 0
@@ -141,7 +141,7 @@ module _ (one_document : OneDocument) where
       by a b last root config (inl r) =
           composition_short words before.files after.files can calm.files s
           (subst (λ p. IsCompositionCause s p can.config before.files after.files) (sym root) (subst (λ p. IsCompositionCause s a p before.files after.files) (sym config) r.cause))
-      by a b last root config (inr u) = undelivered_short s last u.bytes u.lines before after calm.files calm.output u.undelivered
+      by a b last root config (inr u) = undelivered_short s (Some last) u.bytes u.lines before after calm.files calm.output u.undelivered
 
 pub able_short : ((bytes : List ℕ) (a b : ShapeTree) → HasShape bytes a → HasShape bytes b → a ≡ b) → Unwritten → OneDocument → (s : Stop) (words : List (List ℕ)) (before after : World) → IsAble words before.files → IsUnfailing before after → IsStopped s words before after → IsShortOfMemory s
 able_short one unwritten one_document s words before after (inl can) calm stopped = link_short one unwritten words before.files can s before after refl calm stopped

@@ -1,6 +1,7 @@
 mod AbleLaws
 mod CommandLaws
 mod ComposeLaws
+mod DemoLaws
 mod SourceLaws
 mod StopLaws
 mod RootLaws

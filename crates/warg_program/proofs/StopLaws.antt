@@ -19,7 +19,7 @@ use Rattle.compose_order.specs.Needs.{LeftTree}
 use Rattle.warg_program.specs.Able.{CanLink}
 use Rattle.warg_program.specs.World.{SeenFiles, SeenOutput, World, HasFile, IsUnfailing, SameFiles, Writes, WritesPartly}
 use Rattle.warg_program.specs.Command.{Asked, Link, out_of}
-use Rattle.warg_program.specs.Delivery.{HoldsMade, IsWriteCause, IsPrintCause, IsUndelivered}
+use Rattle.warg_program.specs.Delivery.{HoldsMade, IsWriteCause, IsPrintCause, IsUndelivered, IsWritten, IsWrittenPartly}
 use Rattle.warg_program.specs.Link.{IsLinkCause, IsRoot, IsUnencoded, root_graph, root_options}
 use Rattle.warg_program.specs.Run.{Holds, Makes, Stops, IsDone, IsStopped, IsShortOfMemory, MayHold}
 use Rattle.warg_program.specs.Stop.{status_of}
@@ -36,9 +36,11 @@ holds_done words before after d =
     inr (d.command, d.is_command, inr holds)
 
 -- what a delivery that stopped leaves, also where the files are as they were then
-undelivered_holds : (s : Stop) (out bytes lines : List ℕ) (before stopped after : World) → SameFiles stopped after → IsUndelivered s out bytes lines before stopped → WritesPartly before after out bytes ⊎ Writes before after out bytes
-undelivered_holds s out bytes lines before stopped after same (inl o) = inl (subst (λ held. LeavesPartlyWritten before.files.held held out bytes) (sym same) o.written)
-undelivered_holds s out bytes lines before stopped after same (inr l) = inr (subst (λ held. IfSome before.files.held (λ files. held ≡ Some (with_file files out bytes))) (sym same) l.written)
+undelivered_holds : (s : Stop) (out : Option (List ℕ)) (bytes lines : List ℕ) (before stopped after : World) → SameFiles stopped after → IsUndelivered s out bytes lines before stopped → IsWrittenPartly before after out bytes ⊎ IsWritten before after out bytes
+undelivered_holds s None bytes lines before stopped after same (inl o) = absurd o
+undelivered_holds s None bytes lines before stopped after same (inr l) = inr (same ∙ l.written)
+undelivered_holds s (Some out) bytes lines before stopped after same (inl o) = inl (subst (λ held. LeavesPartlyWritten before.files.held held out bytes) (sym same) o.written)
+undelivered_holds s (Some out) bytes lines before stopped after same (inr l) = inr (subst (λ held. IfSome before.files.held (λ files. held ≡ Some (with_file files out bytes))) (sym same) l.written)
 
 -- what a command that stopped leaves
 stops_holds : (s : Stop) (c : Asked) (before stopped after : World) → SameFiles stopped after → Stops s c before stopped → Holds c before after
@@ -71,8 +73,9 @@ print_short (stop.Fault access.Printed) before after none h = absurd (none h)
 print_short stop.Memory before after none h = tt
 print_short _ before after none h = absurd h
 
-pub undelivered_short : (s : Stop) (out bytes lines : List ℕ) (before after : World) → (Rose before.files.faults after.files.faults → ⊥) → (Rose before.output.faults after.output.faults → ⊥) → IsUndelivered s out bytes lines before after → IsShortOfMemory s
-undelivered_short s out bytes lines before after files output (inl o) = write_short s out before.files after.files files o.cause
+pub undelivered_short : (s : Stop) (out : Option (List ℕ)) (bytes lines : List ℕ) (before after : World) → (Rose before.files.faults after.files.faults → ⊥) → (Rose before.output.faults after.output.faults → ⊥) → IsUndelivered s out bytes lines before after → IsShortOfMemory s
+undelivered_short s None bytes lines before after files output (inl o) = absurd o
+undelivered_short s (Some out) bytes lines before after files output (inl o) = write_short s out before.files after.files files o.cause
 undelivered_short s out bytes lines before after files output (inr l) = print_short s before.output after.output output l.cause
 
 -- A component that is there, and of which one instance can be encoded: so only memory was short, where no call of the files
@@ -120,7 +123,7 @@ module _ (one_shape : (bytes : List ℕ) (a b : ShapeTree) → HasShape bytes a 
   stops_short : (s : Stop) (root out : List ℕ) (before after : World) → before.files ≡ files → root ≡ can.root → IsUnfailing before after → Stops s (Link root out) before after → IsShortOfMemory s
   stops_short s root out before after is same calm (inl r) =
       cause_short s root out after.files same (subst (λ f. Rose f.faults after.files.faults → ⊥) is calm.files) (subst (λ f. IsLinkCause s root out f after.files) is r.cause)
-  stops_short s root out before after is same calm (inr u) = undelivered_short s out u.bytes u.lines before after calm.files calm.output u.undelivered
+  stops_short s root out before after is same calm (inr u) = undelivered_short s (Some out) u.bytes u.lines before after calm.files calm.output u.undelivered
 
   pub link_short : (s : Stop) (before after : World) → before.files ≡ files → IsUnfailing before after → IsStopped s words before after → IsShortOfMemory s
   link_short s before after is calm (inl r) = absurd (r.no_command (Link can.root can.out) can.command)

@@ -1,5 +1,6 @@
 -- What the words can ask for.
-use Rattle.std.specs.Prelude.{◌≡◌, ℕ, List, [], ◌∷◌, codes}
+use Rattle.std.specs.Prelude.{◌≡◌, ◌<◌, ◌≤◌, ◌^◌, ℕ, List, [], ◌∷◌, codes, Option, Some, None}
+use Rattle.std.specs.Str.Parse.{IsNumeral, digits_value}
 use Rattle.warg_program.specs.declared.command.Command.{Command}
 use Rattle.warg_program.specs.declared.command.Command.TheVariants as command
 use Rattle.warg_program.specs.declared.command.Sources.{Sources as Named}
@@ -18,25 +19,43 @@ pub data Asked : Type 0 where
   Compose : (root config out : List ℕ) → Asked
   -- the paths of what is read, and that of the result
   Assemble : (sources : Sources) → (out : List ℕ) → Asked
+  -- the seed of a world, and how many packages it has
+  Demo : (seed count : ℕ) → Asked
 
--- the words of a command, without the program's own name
-abbrev pub words_of : Asked → List (List ℕ)
-words_of (Link root out) = codes "link" ∷ root ∷ out ∷ []
-words_of (Compose root config out) = codes "compose" ∷ root ∷ config ∷ out ∷ []
-words_of (Assemble sources out) = codes "assemble" ∷ sources.plan ∷ sources.replies ∷ sources.checked ∷ out ∷ []
+-- a text is decimal digits alone, at least one, which write this number
+pub record IsNumber (text : List ℕ) (number : ℕ) : Type 0 where
+  pub digits : IsNumeral 10 text
+  pub value : digits_value 10 text ≡ number
 
+-- the words are those of `demo`, with these numbers
+pub record IsDemo (words : List (List ℕ)) (seed count : ℕ) : Type 0 where
+  pub seed_text : List ℕ
+  pub count_text : List ℕ
+  pub are : words ≡ codes "demo" ∷ seed_text ∷ count_text ∷ []
+  pub seed_is : IsNumber seed_text seed
+  pub seed_fits : seed < 2 ^ 64
+  pub count_is : IsNumber count_text count
+  pub some : 1 ≤ count
+  pub few : count ≤ 200
+
+-- the words are those of a command, without the program's own name
 abbrev pub IsCommand : List (List ℕ) → Asked → Type 0
-IsCommand words a = words ≡ words_of a
+IsCommand words (Link root out) = words ≡ codes "link" ∷ root ∷ out ∷ []
+IsCommand words (Compose root config out) = words ≡ codes "compose" ∷ root ∷ config ∷ out ∷ []
+IsCommand words (Assemble sources out) =
+    words ≡ codes "assemble" ∷ sources.plan ∷ sources.replies ∷ sources.checked ∷ out ∷ []
+IsCommand words (Demo seed count) = IsDemo words seed count
 
 -- the words are none of the commands
 abbrev pub IsNoCommand : List (List ℕ) → Type 0
 IsNoCommand words = (a : Asked) → IsCommand words a → ⊥
 
--- the path of the result
-abbrev pub out_of : Asked → List ℕ
-out_of (Link root out) = out
-out_of (Compose root config out) = out
-out_of (Assemble sources out) = out
+-- the path of the result, where it is written
+abbrev pub out_of : Asked → Option (List ℕ)
+out_of (Link root out) = Some out
+out_of (Compose root config out) = Some out
+out_of (Assemble sources out) = Some out
+out_of (Demo seed count) = None
 
 -- the paths as the program holds them
 abbrev pub named : Named → Sources
@@ -47,3 +66,4 @@ abbrev pub asked : Command → Asked
 asked (command.Link root out) = Link root.now out.now
 asked (command.Compose root config out) = Compose root.now config.now out.now
 asked (command.Assemble sources out) = Assemble (named sources) out.now
+asked (command.Demo seed count) = Demo seed count

@@ -7,6 +7,7 @@ pub mod Stop
 pub mod Link
 pub mod Assembly
 pub mod Compose
+pub mod Demo
 pub mod Delivery
 pub mod Run
 pub mod Able

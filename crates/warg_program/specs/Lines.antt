@@ -47,9 +47,20 @@ entry_line e =
 abbrev pub left_line : List ℕ → List ℕ
 left_line name = codes "left " ++ name ++ codes "\n"
 
+-- the lines of a lock and of a component
+abbrev pub made_lines : List ℕ → List ℕ → List ℕ
+made_lines lock bundle = codes "lock " ++ digest_of lock ++ codes "bundle " ++ digest_of bundle
+
 -- the lines of an assembly: one for each entry of its plan, one for each import that is left open, and those of the lock and
 -- of the component
 abbrev pub assembly_lines : List Entry → List (List ℕ) → List ℕ → List ℕ → List ℕ
 assembly_lines entries left lock bundle =
     flat_map entry_line entries ++ flat_map left_line left ++ codes "lock " ++ digest_of lock ++ codes "bundle "
     ++ digest_of bundle
+
+-- the lines of the demo world: how many entries its plan has, and how many imports it leaves open; and those of the lock and
+-- of the component
+abbrev pub demo_lines : List Entry → List (List ℕ) → List ℕ → List ℕ → List ℕ
+demo_lines entries left lock bundle =
+    codes "entries " ++ decimal (length entries) ++ codes " left " ++ decimal (length left) ++ codes "\n"
+    ++ made_lines lock bundle

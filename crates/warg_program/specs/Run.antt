@@ -1,26 +1,29 @@
 -- A run of the program: what it does for its words, and why it stops.
 use Rattle.std.specs.Prelude.{◌≡◌, ◌⊎◌, ℕ, List, ◌≤◌}
 use Rattle.warg_program.specs.World.{SeenFiles, World, SameFiles, PrintsNothing, PrintsPartly}
-use Rattle.warg_program.specs.Command.{Asked, Link, Compose, Assemble, IsCommand, IsNoCommand, out_of}
+use Rattle.warg_program.specs.Command.{Asked, Link, Compose, Assemble, Demo, IsCommand, IsNoCommand, out_of}
 use Rattle.warg_program.specs.Link.{IsLink, IsLinkCause}
 use Rattle.warg_program.specs.Compose.{IsComposition, IsCompositionCause}
 use Rattle.warg_program.specs.Assembly.{IsAssembly, IsAssemblyCause}
+use Rattle.warg_program.specs.Demo.{IsDemonstration, IsDemonstrationCause}
 use Rattle.warg_program.specs.Delivery.{Delivers, Undelivers, HoldsMade, StopsAtOnce}
 use Rattle.warg_program.specs.Stop.{line_of}
 use Rattle.warg_program.specs.declared.stop.Stop.{Stop}
 use Rattle.warg_program.specs.declared.stop.Stop.TheVariants as stop
 
--- what a command makes of files: the bytes of its file, and the lines that tell of them
+-- what a command makes of files: a component, and the lines that tell of it
 abbrev pub Makes : Asked → SeenFiles → (bytes lines : List ℕ) → Type 0
 Makes (Link root out) files bytes lines = IsLink root files bytes lines
 Makes (Compose root config out) files bytes lines = IsComposition root config files bytes lines
 Makes (Assemble sources out) files bytes lines = IsAssembly sources files bytes lines
+Makes (Demo seed count) files bytes lines = IsDemonstration seed count bytes lines
 
 -- why it makes nothing
 abbrev pub IsUnmade : Stop → Asked → (before after : SeenFiles) → Type 0
 IsUnmade s (Link root out) before after = IsLinkCause s root out before after
 IsUnmade s (Compose root config out) before after = IsCompositionCause s root config before after
 IsUnmade s (Assemble sources out) before after = IsAssemblyCause s sources before after
+IsUnmade s (Demo seed count) before after = IsDemonstrationCause s seed count
 
 -- the command did what it is for
 abbrev pub Does : Asked → (before after : World) → Type 0

@@ -15,7 +15,7 @@ use warg_base::Files;
 use warg_replay::{ClientError, replay};
 
 /// The stop of an error.
-fn refusal<'a>(error: ClientError) -> Stop<'a>
+pub fn refusal<'a>(error: ClientError) -> Stop<'a>
     ensures { result ≡ refusal_of error }
 {
     if let ClientError::Memory = &error {

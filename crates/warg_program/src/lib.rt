@@ -1,5 +1,5 @@
-//! The program's commands, over any files and any output: `link ROOT OUT`, `compose ROOT CONFIG OUT` and `assemble PLAN
-//! REPLIES CHECKED OUT`.
+//! The program's commands, over any files and any output: `link ROOT OUT`, `compose ROOT CONFIG OUT`, `assemble PLAN
+//! REPLIES CHECKED OUT` and `demo SEED COUNT`.
 //!
 //! [`run`] gives the exit status, and [`outcome`] the cause beside it. The program `warg` hands them the host's words,
 //! files and output.
@@ -10,6 +10,7 @@ mod command;
 mod compose;
 mod composer_variant;
 mod delivery;
+mod demo;
 mod lines;
 mod link;
 mod program;

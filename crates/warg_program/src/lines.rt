@@ -1,6 +1,6 @@
 //! What the program prints.
 
-ghost use Rattle.std.specs.Prelude.{◌≡◌, ◌≤◌, ◌++◌, IfOk, codes, map, string_bytes};
+ghost use Rattle.std.specs.Prelude.{◌≡◌, ◌≤◌, IfOk, map, string_bytes};
 ghost use Rattle.std.specs.List.{flat_map};
 ghost use Rattle.warg_base.specs.Out.{LeavesPartlyAdded};
 ghost use Rattle.warg_names.specs.View.{import_tree};
@@ -114,8 +114,7 @@ fn left_lines(alloc: Global, names: &[Text]) -> Result<String, AllocError>
 
 /// The lines of a lock and of a component.
 fn made_lines(alloc: Global, lock: &[u8], bundle: &[u8]) -> Result<String, AllocError>
-    ensures { IfOk result (λ lines. string_bytes lines
-        ≡ codes "lock " ++ spec.digest_of lock.now ++ codes "bundle " ++ spec.digest_of bundle.now) }
+    ensures { IfOk result (λ lines. string_bytes lines ≡ spec.made_lines lock.now bundle.now) }
 {
     let locked = digest_of(alloc, lock)?;
     let bundled = digest_of(alloc, bundle)?;
@@ -141,6 +140,25 @@ pub fn assembly_lines(
     let left = left_lines(alloc, lock.left.as_slice())?;
     let made = made_lines(alloc, lock.bytes.as_slice(), bundle)?;
     lines.push_str(&left)?;
+    lines.push_str(&made)?;
+    Ok(lines)
+}
+
+/// The lines of the demo world: how many entries its plan has, and how many imports it leaves open; and those of the lock and
+/// of the component.
+pub fn demo_lines(
+    alloc: Global,
+    plan: &Plan,
+    lock: &Lock,
+    bundle: &[u8],
+) -> Result<String, AllocError>
+    ensures { IfOk result (λ lines. string_bytes lines
+        ≡ spec.demo_lines (plan_view plan.now) lock.now.left.items lock.now.bytes.items bundle.now) }
+{
+    let entries = plan.entries.len();
+    let left = lock.left.len();
+    let mut lines = format!(in alloc; "entries {entries} left {left}\n")?;
+    let made = made_lines(alloc, lock.bytes.as_slice(), bundle)?;
     lines.push_str(&made)?;
     Ok(lines)
 }

@@ -12,6 +12,7 @@ use crate::assemble::assembled;
 use crate::command::{Command, command_of};
 use crate::compose::composed;
 use crate::delivery::{Made, deliver};
+use crate::demo::demonstrated;
 use crate::lines::refuse;
 use crate::link::linked;
 use crate::stop::Stop;
@@ -34,6 +35,7 @@ fn make<'a, F: Files>(alloc: Global, command: &Command<'a>, files: &mut F) -> Re
         Command::Link { root, out } => linked(alloc, files, root, out),
         Command::Compose { root, config, .. } => composed(alloc, files, root, config),
         Command::Assemble { sources, .. } => assembled(alloc, files, sources),
+        Command::Demo { seed, count } => demonstrated(alloc, seed, count),
     }
 }
 
@@ -107,12 +109,15 @@ pub fn outcome<'a, F: Files, O: Out>(
 /// the one in the file ROOT, by the configuration in the file CONFIG, of components that this names or that are found in its
 /// folders. `assemble PLAN REPLIES CHECKED OUT` reads the text of a plan, a
 /// registry's replies and the signatures that were checked, and writes, into the file OUT, the component of the plan, as a
-/// client assembles it that has kept nothing. All other words are none of the commands.
+/// client assembles it that has kept nothing. `demo SEED COUNT` makes a registry of COUNT packages that need each other, drawn
+/// from SEED, assembles the component of a plan of all of them over it, and writes no file. All other words are none of the
+/// commands.
 ///
 /// | status | line | cause |
 /// |---|---|---|
 /// | 0 | `bytes LENGTH HEX` | OUT is written by `link` or `compose`: how many bytes it has, and their SHA-256 in lower case |
 /// | 0 | `entry PACKAGE VERSION DIGEST KEY`, `bundle LENGTH HEX` | OUT is written by `assemble`: a line for each entry of the plan, and that of OUT |
+/// | 0 | `entries N left N`, `lock LENGTH HEX`, `bundle LENGTH HEX` | by `demo`: of the plan, its lock and its component |
 /// | 2 | `usage` | the words are no command |
 /// | 3 | `missing PATH` | there is no file at PATH, which the words name |
 /// | 4 | `fault` | the files failed, or the output did at the lines of status 0 |

@@ -124,7 +124,7 @@ impl fmt::Display for Stop<'_> {
         match self {
             Stop::Usage => write!(
                 f,
-                "these words are no command: write `warg link ROOT OUT`, `warg compose ROOT CONFIG OUT` or `warg assemble PLAN REPLIES CHECKED OUT`"
+                "these words are no command: write `warg link ROOT OUT`, `warg compose ROOT CONFIG OUT`, `warg assemble PLAN REPLIES CHECKED OUT`, or `warg demo SEED COUNT` with a COUNT from 1 to 200"
             ),
             Stop::Missing { path } => write!(f, "{path}: {}", FileError::Missing),
             Stop::Fault(access) => write!(f, "{access}"),

@@ -1,1 +1,2 @@
 mod AnewLaws
+mod ReplayLaws

@@ -1,32 +1,21 @@
 -- A plan, assembled over recorded replies by a client that has kept nothing.
-use Rattle.std.specs.Prelude.{◌≡◌, ◌≤◌, ◌⊎◌, ℕ, Bool, List, [], Some, None, Ok, codes}
-use Rattle.std.specs.List.{AllByRecursion, flat_map, list_any}
+pub use Rattle.warg_replay.specs.Anew.{HaveNotFailed, accepts_listed, nothing, page_limit, says}
+use Rattle.std.specs.Prelude.{◌≡◌, ◌≤◌, ◌⊎◌, ℕ, List, [], Ok}
+use Rattle.std.specs.List.{AllByRecursion, flat_map}
 use Rattle.sha2.specs.Sha256.{sha256}
-use Rattle.url.specs.Parts.{Parts}
-use Rattle.warg_url.specs.RegistryUrl.{ReadsAs, base_of}
-use Rattle.warg_log.specs.Listed.{is_listed}
 use Rattle.warg_log.specs.Rules.{Accepts}
-use Rattle.warg_hint.specs.Hint.{is_same}
 use Rattle.warg_hint.specs.declared.decide.AlwaysDecide.{AlwaysDecide}
 use Rattle.warg_exchange.specs.declared.exchange.Reply.{Reply}
 use Rattle.warg_exchange.specs.Requests.{Asker}
-use Rattle.warg_api.specs.Asking.{asker}
 use Rattle.warg_request.specs.Asking.{CanAsk}
 use Rattle.warg_api.specs.Link.{Recorded, IsRecordedStep}
 use Rattle.warg_course.specs.Replies.{AreRepliesOf}
 use Rattle.compose_config.specs.Plan.{Settings}
 use Rattle.warg_plan.specs.Walk.{Entry, nothing_known}
 use Rattle.warg_store.specs.Held.{Registry}
-use Rattle.warg_store.specs.Memory.{held_in, schedule_in}
-use Rattle.warg_store.specs.MemoryContents.{contents_in, content_schedule}
-use Rattle.warg_store.specs.MemoryNames.{names_in, names_schedule}
-use Rattle.warg_store.specs.declared.memory_content.MemoryContent.{MemoryContent}
-use Rattle.warg_store.specs.declared.memory_namespaces.MemoryNamespaces.{MemoryNamespaces}
-use Rattle.warg_store.specs.declared.memory_registry.MemoryRegistry.{MemoryRegistry}
-use Rattle.warg_assemble.specs.Known.{Known}
 use Rattle.warg_assemble.specs.Parts.{Part, exchanges_in, learnt_by}
 use Rattle.warg_assemble.specs.Session.{walked, AreOnce, IsSession, IsPlanOf}
-use Rattle.warg_client.specs.Seen.{Faults, Seen, IsKnown, ReadsStores}
+use Rattle.warg_client.specs.Seen.{Seen}
 use Rattle.warg_compose.specs.Linked.{IsLinkable, IsPlanLinked}
 use Rattle.warg_compose.specs.Open.{IsAllowed}
 use Rattle.warg_compose.specs.Read.{IsComponent}
@@ -35,28 +24,7 @@ use Rattle.warg_client.specs.Text.{IsPlanText}
 use Rattle.warg_client.specs.ClientError.{ClientError}
 use Rattle.warg_client.specs.ClientError.TheVariants as error
 use Rattle.warg_client.specs.Assembled.{IsAssembleFault, wanted}
-use Rattle.warg_client.specs.Shown.{seen_by, tells}
-use Rattle.warg_client.specs.declared.client.Client.{Client}
-
--- a signature is accepted where it is listed, with its key and the digest of what was signed
-abbrev pub accepts_listed : List (List ℕ × List ℕ × List ℕ) → Accepts
-accepts_listed listed = λ key text signature. list_any (is_listed key (sha256 text) signature) listed
-
--- what is known by a client that has kept nothing
-abbrev pub nothing : Known
-nothing = record {
-  operator = λ _. [];
-  checkpoint = λ _. None;
-  mapped = λ _. None;
-  contents = λ _. None;
-  updated = [];
-}
-
--- requests are those to the registry at `https://home.test/`, without a token
-pub record AsksHome (asks : Registry → Asker) : Type 0 where
-  pub read : Parts
-  pub reads : ReadsAs (codes "https://home.test/") (Ok read)
-  pub is : asks ≡ asker (record { url = base_of read; auth_token = None; warg_registry = None })
+use Rattle.warg_replay.specs.Anew.{AsksHome, IsAnewOver}
 
 -- The first replies are those to a session of the plan of a text, from nothing that was known, which updates each package
 -- once. The entries are the plan over the logs that these exchanges alone prove; each content has its digest; and the bytes
@@ -77,10 +45,6 @@ pub record IsReplayed (accepts : Accepts) (replies : List Reply) (text : List �
   pub linked : IsPlanLinked entries left lock bytes
   pub allowed : IsAllowed settings.disallow_imports entries
 
--- how many pages may be asked for
-abbrev pub page_limit : ℕ
-page_limit = 10000
-
 -- A text is that of a plan that can be linked, which a session finds from nothing that was known, and the first replies
 -- are those of the session. The names of its registries are values of headers, and it asks for no more
 -- pages than may be asked for.
@@ -98,38 +62,9 @@ pub record IsReplayable (accepts : Accepts) (replies : List Reply) (text : List 
   pub pages : pages_of_parts asks parts ≤ page_limit
   pub linkable : IsLinkable settings.disallow_imports entries
 
--- ---- the client
-
--- a client that asks recorded replies, goes by listed signatures, and keeps what it learns in memory
-abbrev pub RecordedClient : Type 0
-RecordedClient = Client Recorded MemoryRegistry MemoryContent MemoryNamespaces (List (List ℕ × List ℕ × List ℕ)) AlwaysDecide
-
--- all that is seen of it
-abbrev pub shown : RecordedClient → Seen Recorded AlwaysDecide
-shown client = seen_by (tells accepts_listed (λ l. l) (λ l. l.faults) (λ m. Some (held_in m)) (λ m. (schedule_in m).faults)
-    (λ m. Some (contents_in m)) (λ m. (content_schedule m).faults) (λ m. Some (names_in m)) (λ m. (names_schedule m).faults))
-    client
-
--- no call of a store has failed
-pub record HaveNotFailed (f : Faults) : Type 0 where
-  pub registries : f.registries ≡ 0
-  pub contents : f.contents ≡ 0
-  pub names : f.names ≡ 0
-
 -- a client at the beginning: nothing was asked, nothing is known, these replies are to come, and no call has failed
-pub record IsAnew (accepts : Accepts) (replies : List Reply) (s : Seen Recorded AlwaysDecide) : Type 0 where
-  pub accepts_so : s.accepts ≡ accepts
-  pub home : AsksHome s.asker
-  pub unasked : s.transcript.exchanges ≡ []
-  pub link : s.transcript.link ≡ record { left = replies; asked = []; faults = 0 }
-  pub knows : IsKnown s nothing
-  pub pages : s.pages_left ≡ page_limit
-  pub steady : HaveNotFailed s.faults
-  pub can_be_read : ReadsStores s
-
--- where a decision is asked, the answer is always the same
-abbrev pub says : AlwaysDecide → AlwaysDecide → Bool → Bool
-says old new answer = is_same old.answer answer
+abbrev pub IsAnew : Accepts → List Reply → Seen Recorded AlwaysDecide → Type 0
+IsAnew accepts replies s = IsAnewOver accepts (record { left = replies; asked = []; faults = 0 }) s
 
 -- ---- refusals
 

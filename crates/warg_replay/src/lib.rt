@@ -1,7 +1,9 @@
-//! Plans, assembled over recorded replies by a client that has kept nothing.
+//! Plans, assembled by a client that has kept nothing: over any link, and over recorded replies.
 #![tactic(auto)]
 
+mod anew;
 mod replayed;
 
-pub use replayed::{Replayed, replay};
+pub use anew::{Assembled, assemble_anew};
+pub use replayed::replay;
 pub use warg_client::{ClientError, Lock, Other};

@@ -2,10 +2,10 @@ use Rattle.std.proofs.Common.{◌≡◌, ◌∙◌, map, true, refl, sym, ap, co
 use Rattle.std.specs.Cmp.{unsigned_Decides}
 use Rattle.std.proofs.lemmas.Slice.Eq.{slice_eq-Decides}
 use Rattle.warg_program.proofs.CommandLaws.{five_are, four_are, three_are}
-use Rattle.warg_program.proofs.command.command_of.Goals as goal
+use Rattle.warg_program.proofs.command.file_command_of.Goals as goal
 
-pub returns-in-len3 : goal.returns-in-len3
-returns-in-len3 c =
+pub returns-in-len3-clause-found : goal.returns-in-len3-clause-found
+returns-in-len3-clause-found c =
     let words = three_are c.args.words.now c.command-item.result c.root-item.result c.out-item.result c.in-len3.len_at_least c.in-len3.len_below in
     let is_link : c.as_str.result.now ≡ codes "link" = (slice_eq-Decides unsigned_Decides c.as_str.result.now (codes "link") true c.if-eq.ensures).0 refl in
     let command = sym (ap string_bytes c.command-item.is) ∙ sym c.as_str.ensures.value ∙ is_link in
@@ -13,8 +13,8 @@ returns-in-len3 c =
     let out = sym (ap string_bytes c.out-item.is) ∙ sym c.as_str-in-len3-2.ensures.value in
     ap (map string_bytes) words ∙ rw (command, root, out) refl
 
-pub returns-in-len4 : goal.returns-in-len4
-returns-in-len4 c =
+pub returns-in-len4-clause-found : goal.returns-in-len4-clause-found
+returns-in-len4-clause-found c =
     let words = four_are c.args.words.now c.command-item-then-words-lt5.result c.root-item-then-words-lt5.result c.config-item.result c.out-item-then-words-lt5.result c.in-len4.len_at_least c.in-len4.len_below in
     let is_compose : c.as_str-then-words-lt5.result.now ≡ codes "compose" = (slice_eq-Decides unsigned_Decides c.as_str-then-words-lt5.result.now (codes "compose") true c.if-eq-2.ensures).0 refl in
     let command = sym (ap string_bytes c.command-item-then-words-lt5.is) ∙ sym c.as_str-then-words-lt5.ensures.value ∙ is_compose in
@@ -23,8 +23,8 @@ returns-in-len4 c =
     let out = sym (ap string_bytes c.out-item-then-words-lt5.is) ∙ sym c.as_str-in-len4-3.ensures.value in
     ap (map string_bytes) words ∙ rw (command, root, config, out) refl
 
-pub returns-in-len5 : goal.returns-in-len5
-returns-in-len5 c =
+pub returns-in-len5-clause-found : goal.returns-in-len5-clause-found
+returns-in-len5-clause-found c =
     let words = five_are c.args.words.now c.command-item-then-words-lt6.result c.plan-item.result c.replies-item.result c.checked-item.result c.out-item-then-words-lt6.result c.in-len5.len_at_least c.in-len5.len_below in
     let is_assemble : c.as_str-then-words-lt6.result.now ≡ codes "assemble" = (slice_eq-Decides unsigned_Decides c.as_str-then-words-lt6.result.now (codes "assemble") true c.if-eq-3.ensures).0 refl in
     let command = sym (ap string_bytes c.command-item-then-words-lt6.is) ∙ sym c.as_str-then-words-lt6.ensures.value ∙ is_assemble in

@@ -1,0 +1,4 @@
+mod ContentLaws
+mod DemoLaws
+mod NeedLaws
+mod WorldLaws
