@@ -68,7 +68,8 @@ def need(index):
 
 
 class World:
-    """Of each package what it needs, how many releases it has, and the number of the one that is chosen."""
+    """Of each package what it needs, how many releases it has, whether the last is yanked, and the number of the one that is
+    chosen."""
 
     def __init__(self, seed, count):
         draws = Draws(seed)
@@ -80,11 +81,12 @@ class World:
                 second = draws.below(index)
                 if second != first:
                     self.needs[second].append(index)
-        self.chosen = []
-        for index in range(count):
+        self.releases, self.yanks_last = [], []
+        for _ in range(count):
             releases = 1 + draws.below(3)
-            yanked = releases > 1 and draws.below(4) == 0
-            self.chosen.append(releases - 2 if yanked else releases - 1)
+            self.releases.append(releases)
+            self.yanks_last.append(releases > 1 and draws.below(4) == 0)
+        self.chosen = [releases - 1 - yanks for releases, yanks in zip(self.releases, self.yanks_last)]
 
     def imports(self, index):
         """The names that a package's contents import, and the function that each is asked for."""
@@ -94,12 +96,15 @@ class World:
         return b"1.%d.0" % self.chosen[index]
 
     def content(self, index):
+        return self.content_of(index, self.version(index))
+
+    def content_of(self, index, version):
         out = HEADER
         for place, (name, function) in enumerate(self.imports(index)):
             out += section(7, exporting(function)) + imported(name, INSTANCE, place)
         alias = section(6, bytes([FUNC, 0]) + number(0) + named(b"now"))
         out += alias + section(11, b"\0" + named(b"get") + bytes([FUNC]) + number(0) + b"\0")
-        custom = named(b"version") + self.version(index)
+        custom = named(b"version") + version
         return out + b"\0" + number(len(custom)) + custom
 
     def component_type(self, index):
