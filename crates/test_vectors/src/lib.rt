@@ -2,4 +2,10 @@
 #![tactic(auto)]
 
 #[cfg(test)]
-mod vectors;
+mod asked;
+#[cfg(test)]
+mod calls;
+#[cfg(test)]
+mod registries;
+#[cfg(test)]
+mod world;
