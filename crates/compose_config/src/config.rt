@@ -15,7 +15,7 @@ use crate::parts::{Dependency, Instantiation, InstantiationArg};
 use indexmap::IndexMap;
 use std::alloc::Global;
 use warg_values::{Memory, Text};
-use yaml_read::{DeError, MapFill, ReadYaml, YamlDeserializer, from_str};
+use yaml_read::{DeError, MapFill, Marker, ReadYaml, YamlDeserializer, from_str};
 
 /// How a component is composed of others.
 ///
@@ -95,6 +95,19 @@ impl Config {
         // The clauses of a read say nothing of the folder, since no settings hold it.
         config.dir = Text::new(String::new(alloc));
         Ok(config)
+    }
+
+    /// Where in a text reading ends that [`Config::from_text`] refuses: the place of the event that was taken last. For an
+    /// `UnknownField` that is the field's name, and for a `MissingField` the end of the map that lacks it.
+    ///
+    /// It reads the text once more, for the errors that tell no place. `None` where the value is read, and where no
+    /// document begins. Where memory runs out the place is that of the last event before.
+    pub fn refused_place(alloc: Global, text: &str) -> Option<Marker> {
+        let mut de = YamlDeserializer::from_str(alloc, text).ok()?;
+        match Config::read_yaml(alloc, &mut de) {
+            Ok(_) => None,
+            Err(_) => Some(de.place()),
+        }
     }
 
     /// The name of the dependency that an instance is made of: what its instantiation says, or the instance's own

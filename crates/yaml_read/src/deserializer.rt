@@ -20,6 +20,8 @@ use yaml_small::{Event, Marker, Parser, Style};
 pub struct YamlDeserializer<'de> {
     parser: Parser<'de>,
     left: u64,
+    /// The place of the event that was taken last.
+    last: Marker,
 }
 
 impl<'de> YamlDeserializer<'de> {
@@ -33,6 +35,7 @@ impl<'de> YamlDeserializer<'de> {
         let mut de = YamlDeserializer {
             parser: Parser::new(alloc, text),
             left: u64::MAX,
+            last: Marker::START,
         };
         let _ = de.pull(alloc)?;
         let (event, _) = de.front(alloc)?;
@@ -82,6 +85,7 @@ impl<'de> YamlDeserializer<'de> {
         }
         let emitted = self.parser.next_token(alloc)?;
         self.left -= 1;
+        self.last = emitted.1;
         Ok(emitted)
     }
 
@@ -95,6 +99,11 @@ impl<'de> YamlDeserializer<'de> {
         }
         let emitted = self.parser.peek(alloc)?;
         Ok(emitted)
+    }
+
+    /// The place of the event that was taken last; after a refused read, of the last that it took.
+    pub fn place(&self) -> Marker {
+        self.last
     }
 
     /// How many events may still be taken.

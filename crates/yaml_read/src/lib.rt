@@ -18,3 +18,4 @@ pub use error::DeError;
 pub use read::{MapFill, ReadYaml, SeqFill};
 pub use text::from_str;
 pub use wrapper::YamlNodeWrapper;
+pub use yaml_small::Marker;

@@ -87,7 +87,7 @@ impl fmt::Display for Marker {
 
 impl Marker {
     /// The text's start.
-    pub(crate) const START: Marker = Marker {
+    pub const START: Marker = Marker {
         line: 1,
         col: 0,
         index: 0,
