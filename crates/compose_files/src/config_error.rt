@@ -3,9 +3,10 @@
 ghost use Rattle.std.specs.Prelude.{◌≡◌};
 ghost use Rattle.compose_files.specs.declared.config_error.ConfigError.TheVariants.{Memory as no_memory};
 
+use std::fmt;
 use thiserror::Error;
 use warg_base::{FileError, Memory};
-use yaml_read::DeError;
+use yaml_read::{DeError, Marker};
 
 /// Why no configuration is read from a file.
 #[derive(Debug, Drop, Error)]
@@ -29,5 +30,32 @@ impl From<Memory> for ConfigError {
 
     fn from(_error: Memory) -> ConfigError {
         ConfigError::Memory
+    }
+}
+
+/// Why no configuration is read from a file, and where in its text reading ended.
+#[derive(Debug, Drop)]
+pub struct ConfigRefusal {
+    /// Why.
+    pub error: ConfigError,
+    /// The place of the last part that was read, where the error itself tells none.
+    pub place: Option<Marker>,
+}
+
+impl From<ConfigError> for ConfigRefusal {
+    ghost from_gives = { λ error refusal. refusal.error ≡ error };
+
+    fn from(error: ConfigError) -> ConfigRefusal {
+        ConfigRefusal { error, place: None }
+    }
+}
+
+impl fmt::Display for ConfigRefusal {
+    fn fmt<W: fmt::Write>(&self, f: &mut fmt::Formatter<W>) -> fmt::Result {
+        let error = &self.error;
+        match self.place {
+            Some(place) => write!(f, "{place}: {error}"),
+            None => write!(f, "{error}"),
+        }
     }
 }

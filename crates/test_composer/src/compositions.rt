@@ -4,7 +4,7 @@ use crate::world::{
     CALLS_D, CALLS_E, EMPTY, FUNCTION, GIVES, GIVES_BOTH, GIVES_X, OF_DEFINITION, OF_EXPORT,
     OF_FITTING, OF_FOUR, OF_ONE, OF_WHOLE, TAKES, TAKES_E, TAKES_ROOT, TAKES_TWO,
 };
-use compose_files::{ComponentComposer, Config, Files, FromFile};
+use compose_files::{ComponentComposer, Files, read_config};
 use hex::{decode, encode};
 use std::alloc::Global;
 use std::test::Fail;
@@ -36,9 +36,9 @@ fn outcome(
     text: &str,
 ) -> Result<String, Fail> {
     let mut held = files_of(alloc, files, text)?;
-    let config = match Config::from_file(alloc, &mut held, "d/c") {
+    let config = match read_config(alloc, &mut held, "d/c") {
         Ok(config) => config,
-        Err(error) => return Ok(format!(in alloc; "{error}")?),
+        Err(refusal) => return Ok(format!(in alloc; "{refusal}")?),
     };
     match ComponentComposer::new("d/root", &config).compose(alloc, &mut held) {
         Ok(bytes) => Ok(encode(alloc, &bytes)?),
@@ -234,14 +234,33 @@ const NOT_TAKEN: &[Row] = &[
         "dependencies: {b: y}\n",
         "`d/y`: there is no such file: check the path",
     ),
-    (
-        &[("d/root", TAKES)],
-        "colour: red\n",
-        "the configuration: there is no field `colour`; correct its name or remove it",
-    ),
 ];
 
 #[test]
 fn refuses_what_can_not_be_taken(rt: HostRuntime) -> Result<(), Fail> {
     come_out(rt.alloc(), NOT_TAKEN)
+}
+
+/// Fields that are not there, and one that is missing: the place is that of the field, or of the end of its map.
+const NO_FIELDS: &[Row] = &[
+    (
+        &[],
+        "colour: red\n",
+        "line 1, column 1: the configuration: there is no field `colour`; correct its name or remove it",
+    ),
+    (
+        &[],
+        "search-paths: []\ndependencies:\n  b:\n    way: x\n",
+        "line 4, column 5: the configuration: there is no field `way`; correct its name or remove it",
+    ),
+    (
+        &[],
+        "instantiations: {root: {arguments: {b: {export: e}}}}\n",
+        "line 1, column 50: the configuration: the field `instance` is missing; add it",
+    ),
+];
+
+#[test]
+fn tells_the_line_and_the_column_of_a_field(rt: HostRuntime) -> Result<(), Fail> {
+    come_out(rt.alloc(), NO_FIELDS)
 }

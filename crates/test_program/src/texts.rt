@@ -5,7 +5,7 @@ use std::alloc::Global;
 use std::rt::HostRuntime;
 use std::test::Fail;
 use warg_base::{FileError, Text};
-use warg_program::{Access, ComposerError, ConfigError, Form, Stop, Why};
+use warg_program::{Access, ComposerError, ConfigError, ConfigRefusal, Form, Stop, Why};
 
 /// Fails where the text of a stop begins otherwise, or says no more.
 fn says(alloc: Global, stop: Stop<'_>, front: &str) -> Result<(), Fail> {
@@ -66,10 +66,10 @@ fn a_stop_of_a_form_or_a_number_says_which(rt: HostRuntime) -> Result<(), Fail> 
 fn a_stop_of_a_composition_says_what_stands_in_the_way(rt: HostRuntime) -> Result<(), Fail> {
     let alloc = rt.alloc();
     let path = "c.yaml";
-    let error = ConfigError::NotUtf8;
+    let refusal = ConfigRefusal::from(ConfigError::NotUtf8);
     says(
         alloc,
-        Stop::BadConfig { path, error },
+        Stop::BadConfig { path, refusal },
         "c.yaml: the configuration is no UTF-8 text",
     )?;
     says(

@@ -56,7 +56,8 @@ pub record HoldsNone (path : List ℕ) (e : ConfigError) (held : FileMap) : Type
 
 -- why the file at a path gives no configuration
 abbrev pub IsConfigCause : Stop → (path : List ℕ) → (before after : SeenFiles) → Type 0
-IsConfigCause (stop.BadConfig at e) path before after = (at.now ≡ path) × IfSome before.held (HoldsNone path e)
+IsConfigCause (stop.BadConfig at refusal) path before after =
+    (at.now ≡ path) × IfSome before.held (HoldsNone path refusal.error)
 IsConfigCause s path before after = IsReadCause s path before after
 
 -- Nothing is composed of a configuration and files, for this reason, and nothing could be.

@@ -15,7 +15,9 @@ use crate::lines::bytes_line;
 use crate::stop::{Access, Stop};
 use std::alloc::{AllocError, Global};
 use warg_base::{FileError, Files};
-use wasm_compose::composer::{ComponentComposer, ComposerError, ConfigError, FromFile};
+use wasm_compose::composer::{
+    ComponentComposer, ComposerError, ConfigError, ConfigRefusal, read_config,
+};
 use wasm_compose::config::Config;
 
 /// Checks that there is a file at `root`.
@@ -37,11 +39,7 @@ fn check_root<'a, F: Files>(alloc: Global, files: &mut F, root: &'a str) -> Resu
 }
 
 /// The configuration in the file at `path`.
-fn read_config<'a, F: Files>(
-    alloc: Global,
-    files: &mut F,
-    path: &'a str,
-) -> Result<Config, Stop<'a>>
+fn config_at<'a, F: Files>(alloc: Global, files: &mut F, path: &'a str) -> Result<Config, Stop<'a>>
     ensures never_falls { F.faults files.old ≤ F.faults files.new }
     ensures kept { F.told files.new ≡ F.told files.old }
     ensures says { IfOk result (λ config. IfSome (F.told files.old) (λ held.
@@ -50,20 +48,25 @@ fn read_config<'a, F: Files>(
     ensures cause { IfErr result (λ stop. IsConfigCause stop path.now
         (seen_files (F.told files.old) (F.faults files.old)) (seen_files (F.told files.new) (F.faults files.new))) }
 {
-    match Config::from_file(alloc, files, path) {
-        Ok(config) => Ok(config),
-        Err(ConfigError::File(FileError::Missing)) => Err(Stop::Missing { path }),
-        Err(ConfigError::File(FileError::Failed)) => Err(Stop::Fault(Access::Read(path))),
-        Err(ConfigError::File(FileError::Memory)) => Err(Stop::Memory),
-        Err(ConfigError::Memory) => Err(Stop::Memory),
-        Err(ConfigError::NotUtf8) => Err(Stop::BadConfig {
-            path,
-            error: ConfigError::NotUtf8,
-        }),
-        Err(ConfigError::Yaml(error)) => Err(Stop::BadConfig {
-            path,
-            error: ConfigError::Yaml(error),
-        }),
+    let (error, place) = match read_config(alloc, files, path) {
+        Ok(config) => return Ok(config),
+        Err(ConfigRefusal { error, place }) => (error, place),
+    };
+    match error {
+        ConfigError::File(FileError::Missing) => Err(Stop::Missing { path }),
+        ConfigError::File(FileError::Failed) => Err(Stop::Fault(Access::Read(path))),
+        ConfigError::File(FileError::Memory) => Err(Stop::Memory),
+        ConfigError::Memory => Err(Stop::Memory),
+        ConfigError::NotUtf8 => {
+            let error = ConfigError::NotUtf8;
+            let refusal = ConfigRefusal { error, place };
+            Err(Stop::BadConfig { path, refusal })
+        }
+        ConfigError::Yaml(error) => {
+            let error = ConfigError::Yaml(error);
+            let refusal = ConfigRefusal { error, place };
+            Err(Stop::BadConfig { path, refusal })
+        }
     }
 }
 
@@ -72,6 +75,8 @@ fn stop_of<'a>(error: ComposerError) -> Stop<'a>
     ensures { result ≡ stop_of error }
 {
     if let ComposerError::Memory = &error {
+        // A call that is generic is proved once, and not for each of the cases of an error.
+        drop(error);
         return Stop::Memory;
     }
     if let ComposerError::File(_, FileError::Failed) = &error {
@@ -117,7 +122,7 @@ pub fn composed<'a, F: Files>(
         (seen_files (F.told files.old) (F.faults files.old)) (seen_files (F.told files.new) (F.faults files.new))) }
 {
     check_root(alloc, files, root)?;
-    let settings = read_config(alloc, files, config)?;
+    let settings = config_at(alloc, files, config)?;
     let bytes = composed_by(alloc, files, root, &settings)?;
     match bytes_line(alloc, &bytes) {
         Ok(lines) => Ok(Made { bytes, lines }),

@@ -9,7 +9,7 @@ use warg_base::FileError;
 use warg_recorded::FormError;
 use warg_replay::ClientError;
 use wasm_compose::Why;
-use wasm_compose::composer::{ComposerError, ConfigError};
+use wasm_compose::composer::{ComposerError, ConfigRefusal};
 
 /// What was asked of the outside when it failed.
 #[derive(Clone, Copy, Debug)]
@@ -41,19 +41,36 @@ pub enum Stop<'a> {
     /// The words are no command: status 2.
     Usage,
     /// There is no file at this path, which the words name: status 3.
-    Missing { path: &'a str },
+    Missing {
+        path: &'a str,
+    },
     /// Files or the output failed: status 4.
     Fault(Access<'a>),
     /// The file at this path has not this form: status 5.
-    Bad { path: &'a str, form: Form },
+    Bad {
+        path: &'a str,
+        form: Form,
+    },
     /// The file at this path is no component that is carried: status 6.
-    BadComponent { path: &'a str, error: ShapeError },
+    BadComponent {
+        path: &'a str,
+        error: ShapeError,
+    },
     /// What the component at this path imports and exports does not go together: status 6.
-    Incompatible { path: &'a str, why: Why },
+    Incompatible {
+        path: &'a str,
+        why: Why,
+    },
     /// This length, count or index of what was to be written to this path is above 2^32 - 1: status 6.
-    TooLarge { path: &'a str, number: u64 },
+    TooLarge {
+        path: &'a str,
+        number: u64,
+    },
     /// The file at this path holds no configuration: status 6.
-    BadConfig { path: &'a str, error: ConfigError },
+    BadConfig {
+        path: &'a str,
+        refusal: ConfigRefusal,
+    },
     /// The component is not composed: status 6.
     NotComposed(ComposerError),
     /// A file that a composition asks for could not be read or looked for: status 4.
@@ -135,7 +152,7 @@ impl fmt::Display for Stop<'_> {
                 f,
                 "{path}: {number} is more than a component can count: make the component smaller"
             ),
-            Stop::BadConfig { path, error } => write!(f, "{path}: {error}"),
+            Stop::BadConfig { path, refusal } => write!(f, "{path}: {refusal}"),
             Stop::NotComposed(error) => write!(f, "{error}"),
             Stop::Unread(error) => write!(f, "{error}"),
             Stop::Refused(error) => write!(f, "{error}"),

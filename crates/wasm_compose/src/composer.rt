@@ -1,5 +1,6 @@
 //! Composing from a configuration and files: what `compose_files` has, under the path of the Rust crate.
 
 pub use compose_files::{
-    ComponentComposer, ComposerError, ConfigError, FromFile, ROOT_COMPONENT_NAME,
+    ComponentComposer, ComposerError, ConfigError, ConfigRefusal, FromFile, ROOT_COMPONENT_NAME,
+    read_config,
 };
