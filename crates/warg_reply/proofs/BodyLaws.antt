@@ -1,12 +1,11 @@
 -- What the members of bodies mean.
 use Rattle.std.proofs.Common.{◌≡◌, ◌∷◌, [], ℕ, List, true, refl, sym, subst}
-use Rattle.std.specs.Prelude.{Result, Ok, Err, Some, IfOk}
+use Rattle.std.specs.Prelude.{Result, Ok, Err, IfOk}
 use Rattle.base64.specs.Engines.{standard}
 use Rattle.base64.specs.GeneralPurpose.{decode_of}
 use Rattle.serde_json.specs.Data.{Data}
 use Rattle.serde_json.specs.View.{view}
 use Rattle.serde_json.specs.declared.value.Value.{Value}
-use Rattle.warg_hash.specs.Hash.{digest_of, hash_text}
 use Rattle.warg_record.specs.Key.{is_key_text}
 use Rattle.warg_exchange.specs.Body.{each_item, each_member}
 use Rattle.warg_exchange.specs.Requests.{contents_data, checkpoint_data}
@@ -15,15 +14,13 @@ use Rattle.warg_exchange.specs.declared.checkpoint.Checkpoint.{Checkpoint}
 use Rattle.warg_exchange.specs.declared.checkpoint.SignedCheckpoint.{SignedCheckpoint}
 use Rattle.warg_exchange.specs.declared.content.ContentSource.TheVariants.{HttpGet}
 use Rattle.warg_values.specs.declared.memory.Memory.{Memory}
+use Rattle.warg_reply.specs.Order.{NamesItself}
 use Rattle.warg_reply.specs.Bodies.{bundles_data, proof_data, sources_data}
 
 -- what holds of a value's members holds of the value
 pub by_members : (r : Result Value Memory) (d : Data) (P : Data → Type 0) → IfOk r (λ v. view v ≡ d) → P d → IfOk r (λ v. P (view v))
 by_members (Ok v) d P is p = subst P (sym is) p
 by_members (Err e) d P is p = tt
-
-abbrev pub NamesItself : List ℕ → Type 0
-NamesItself digest = digest_of (hash_text digest) ≡ Some digest
 
 pub contents_read : (c : Checkpoint) → NamesItself c.log_root → NamesItself c.map_root → contents_in (contents_data c) ≡ Ok c
 unfolding contents_in

@@ -1,7 +1,7 @@
 -- What the members of errors mean, where an error's value is by its members.
-use Rattle.std.proofs.Common.{◌≡◌, ℕ, List, refl, ap, subst, sym}
+use Rattle.std.proofs.Common.{◌≡◌, ℕ, List, refl}
 use Rattle.std.specs.Prelude.{Result, Ok, Err, IfOk, codes}
-use Rattle.serde_json.specs.Data.{Data, depth, string}
+use Rattle.serde_json.specs.Data.{string}
 use Rattle.serde_json.specs.View.{view}
 use Rattle.serde_json.specs.declared.value.Value.{Value}
 use Rattle.warg_hash.specs.Hash.{hash_text}
@@ -10,7 +10,7 @@ use Rattle.warg_exchange.specs.Requests.{whole_number}
 use Rattle.warg_exchange.specs.Replies.{service_error_in}
 use Rattle.warg_exchange.specs.declared.service.ServiceError.TheVariants.{CheckpointNotFound, LogNotFound, FetchTokenNotFound, RecordNotFound, RecordNotSourcing, NamespaceNotDefined, NamespaceImported, Unauthorized, ConflictPendingPublish, Rejection, ContentDigestNotFound, LeafNotFound, Message}
 use Rattle.warg_reply.specs.Bodies.{kind_data, told_data}
-use Rattle.warg_reply.proofs.BodyLaws.{NamesItself, by_members}
+use Rattle.warg_reply.specs.Order.{NamesItself}
 
 abbrev Values : Type 0
 Values = Result Value Memory

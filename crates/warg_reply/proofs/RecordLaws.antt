@@ -12,7 +12,7 @@ use Rattle.warg_exchange.specs.Body.{Meaning, each_item, list_in, hashed_in}
 use Rattle.warg_exchange.specs.Replies.{published_in, page_in}
 use Rattle.warg_exchange.specs.declared.logs.PublishedRecord.{PublishedRecord}
 use Rattle.warg_reply.specs.Bodies.{published_data, page_data}
-use Rattle.warg_reply.proofs.OrderLaws.{Entries, Reads}
+use Rattle.warg_reply.specs.OrderLaws.{Entries, Reads}
 
 pub published_read : (r : PublishedRecord) (contents : List ℕ) → decode_of standard contents ≡ Ok r.content_bytes → published_in (published_data contents r) ≡ Ok r
 unfolding published_in

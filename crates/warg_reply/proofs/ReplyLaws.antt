@@ -1,7 +1,6 @@
 -- What replies say whose body is a JSON value.
-use Rattle.std.proofs.Common.{◌≡◌, ◌≤◌, ◌∷◌, [], ℕ, List, true, false, refl}
+use Rattle.std.proofs.Common.{◌≡◌, ◌≤◌, ◌∷◌, [], ℕ, List, refl}
 use Rattle.std.specs.Prelude.{Result, Ok, Err, Some, IfOk, IsUtf8, codes}
-use Rattle.std.specs.Str.{is_utf8}
 use Rattle.std.proofs.lemmas.Str.{is_utf8-from_IsUtf8}
 use Rattle.http_header.specs.FieldValue.{plain_value}
 use Rattle.serde_json.specs.Data.{Data, depth}

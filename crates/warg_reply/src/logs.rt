@@ -1,12 +1,13 @@
 //! The JSON of pages of logs.
 
-ghost use Rattle.std.specs.Prelude.{◌≡◌, ◌≤◌, IfOk, Ok};
+ghost use Rattle.std.specs.Prelude.{◌≡◌, ◌≤◌, IfOk, Ok, bytes_eq};
+ghost use Rattle.indexmap.specs.IndexMap.{IsUnique};
 ghost use Rattle.serde_json.specs.Data.{depth};
 ghost use Rattle.serde_json.specs.View.{view};
 ghost use Rattle.warg_exchange.specs.Body.{list_in, hashed_in};
 ghost use Rattle.warg_exchange.specs.Replies.{published_in, page_in};
 ghost use Rattle.warg_reply.specs.Bodies.{published_data, page_data};
-ghost use Rattle.warg_reply.specs.Order.{ascending};
+ghost use Rattle.warg_reply.specs.Order.{ascending, NameThemselves};
 
 use crate::bodies::names_itself;
 use base64::engine::general_purpose::STANDARD;
@@ -62,6 +63,8 @@ fn packages_value(
     packages: &IndexMap<LogId, Sequence<PublishedRecord>>,
 ) -> Result<Value, Memory>
     ensures says { IfOk result (λ v. hashed_in (list_in published_in) (view v) ≡ Ok (ascending packages.now.entries)) }
+    ensures ids { IfOk result (λ _. NameThemselves packages.now.entries) }
+    ensures unique { IsUnique bytes_eq packages.now }
     ensures nests { IfOk result (λ v. depth (view v) ≤ 3) }
 {
     let mut map = Map::new(alloc);
@@ -88,6 +91,8 @@ pub fn page_value(alloc: Global, page: &FetchLogsResponse) -> Result<Value, Memo
       operator = page.now.operator;
       packages = ascending page.now.packages.entries;
     })) }
+    ensures ids { IfOk result (λ _. NameThemselves page.now.packages.entries) }
+    ensures unique { IfOk result (λ _. IsUnique bytes_eq page.now.packages) }
     ensures nests { IfOk result (λ v. depth (view v) ≤ 4) }
 {
     let operator = records_value(alloc, page.operator.as_slice())?;

@@ -1,12 +1,13 @@
 //! Replies of a registry to the requests of an update and of a download.
 
-ghost use Rattle.std.specs.Prelude.{◌≡◌, ◌≤◌, ◌∷◌, [], IfOk, Ok, true, false};
+ghost use Rattle.std.specs.Prelude.{◌≡◌, ◌≤◌, ◌∷◌, [], IfOk, Ok, true, false, bytes_eq};
+ghost use Rattle.indexmap.specs.IndexMap.{IsUnique};
 ghost use Rattle.serde_json.specs.Data.{depth};
 ghost use Rattle.serde_json.specs.Read.{max_depth};
 ghost use Rattle.serde_json.specs.View.{view};
 ghost use Rattle.warg_exchange.specs.Replies.{says, body_of, is_success, refusal_in, checkpoint_in, page_in, bundles_in, proof_in, sources_in};
 ghost use Rattle.warg_exchange.specs.declared.content.ContentSource.TheVariants.{HttpGet as IsHttpGet};
-ghost use Rattle.warg_reply.specs.Order.{ascending};
+ghost use Rattle.warg_reply.specs.Order.{ascending, NameThemselves};
 
 use crate::bodies::{bundles_value, checkpoint_value, proof_value, sources_value};
 use crate::errors::error_value;
@@ -51,11 +52,14 @@ pub fn checkpoint_reply(alloc: Global, checkpoint: &SignedCheckpoint) -> Result<
 
 /// The reply that gives a page of logs, the packages' in the order of their ids' texts.
 pub fn page_reply(alloc: Global, page: &FetchLogsResponse) -> Result<Reply, Memory>
-    ensures { IfOk result (λ reply. says page_in reply ≡ Ok (record {
+    ensures says { IfOk result (λ reply. says page_in reply ≡ Ok (record {
       more = page.now.more;
       operator = page.now.operator;
       packages = ascending page.now.packages.entries;
     })) }
+    // So none of the lists stands in the place of another.
+    ensures ids { IfOk result (λ _. NameThemselves page.now.packages.entries) }
+    ensures unique { IfOk result (λ _. IsUnique bytes_eq page.now.packages) }
 {
     let body = page_value(alloc, page)?;
     json_reply(alloc, FOUND, &body)

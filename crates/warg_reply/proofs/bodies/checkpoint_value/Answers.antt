@@ -2,7 +2,8 @@ use Rattle.std.proofs.Common.{◌≡◌, subst}
 use Rattle.std.specs.Prelude.{Ok}
 use Rattle.warg_exchange.specs.Replies.{checkpoint_in}
 use Rattle.warg_exchange.specs.Requests.{checkpoint_data}
-use Rattle.warg_reply.proofs.BodyLaws.{NamesItself, by_members, checkpoint_read}
+use Rattle.warg_reply.specs.Order.{NamesItself}
+use Rattle.warg_reply.proofs.BodyLaws.{by_members, checkpoint_read}
 use Rattle.warg_reply.proofs.bodies.checkpoint_value.Goals as goal
 
 pub returns-clause-says : goal.returns-clause-says

@@ -1,4 +1,4 @@
-use Rattle.std.proofs.Common.{◌≡◌, ◌≤◌, [], List, ℕ, ap, ◌∙◌, subst, arith, rules}
+use Rattle.std.proofs.Common.{◌≡◌, ◌≤◌, ◌∷◌, ◌++◌, [], List, ℕ, ap, sym, ◌∙◌, subst, arith, rules, append_assoc, append-nil}
 use Rattle.std.specs.Prelude.{Ok, fold}
 use Rattle.std.specs.BTreeMap.{insert_entry}
 use Rattle.serde_json.specs.Data.{members_depth, put}
@@ -8,13 +8,12 @@ use Rattle.warg_hash.specs.Hash.{hash_text}
 use Rattle.warg_exchange.specs.Body.{list_in}
 use Rattle.warg_exchange.specs.Replies.{published_in}
 use Rattle.warg_exchange.specs.declared.logs.PublishedRecord.{PublishedRecord}
-use Rattle.warg_reply.specs.Order.{by_text, ascending}
-use Rattle.warg_reply.proofs.BodyLaws.{NamesItself}
-use Rattle.warg_reply.proofs.OrderLaws.{Entries, ascend_insert, read_put, read_all, members_nest}
+use Rattle.warg_reply.specs.Order.{by_text, ascending, NamesItself, NameThemselves}
+use Rattle.warg_reply.specs.OrderLaws.{Entries, ascend_insert, read_put, read_all, members_nest, named_behind}
 use Rattle.warg_reply.proofs.logs.packages_value.Goals as goal
 
 pub loop-id-init : goal.loop-id-init
-loop-id-init c = ([], tt, rw c.new-map.ensures.empty tt, search rules)
+loop-id-init c = ([], tt, rw c.new-map.ensures.empty tt, search rules, [], tt, search rules)
 
 pub loop-id-preserved : goal.loop-id-preserved
 loop-id-preserved c =
@@ -31,6 +30,9 @@ loop-id-preserved c =
       ascend_insert inv.0 id records inv.1,
       rw is_put (read_put (list_in published_in) 2 (members_view c.loop-id.map.entries) inv.0 id records value names (says, c.in_ok-value.ensures.nests) inv.2),
       left,
+      inv.4 ++ (id, records) ∷ [],
+      named_behind inv.4 id records inv.5 names,
+      append_assoc inv.4 ((id, records) ∷ []) _ ∙ subst (λ (entries : Entries (List PublishedRecord)). inv.4 ++ entries ≡ c.args.packages.now.entries) c.in-Some.ensures.steps inv.6,
     )
 
 pub returns-clause-says : goal.returns-clause-says
@@ -44,3 +46,9 @@ returns-clause-nests c =
     let inv = c.loop-id.invariant in
     let nests : members_depth (members_view c.loop-id.map.entries) ≤ 2 = members_nest (list_in published_in) 2 (members_view c.loop-id.map.entries) inv.0 inv.2 in
     rw (view-Object c.loop-id.map) (omega (arith, nests))
+
+pub returns-clause-ids : goal.returns-clause-ids
+returns-clause-ids c =
+    let inv = c.loop-id.invariant in
+    let all : inv.4 ++ [] ≡ c.args.packages.now.entries = subst (λ (entries : Entries (List PublishedRecord)). inv.4 ++ entries ≡ c.args.packages.now.entries) c.in-None.ensures.steps.0 inv.6 in
+    subst NameThemselves (sym (append-nil inv.4) ∙ all) inv.5

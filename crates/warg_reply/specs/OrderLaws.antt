@@ -14,8 +14,7 @@ use Rattle.indexmap.specs.IndexMap.{insert_entry as insert_last}
 use Rattle.serde_json.specs.Data.{Data, Members, depth, members_depth, no_members, member as member_of, put}
 use Rattle.warg_hash.specs.Hash.{hash_text}
 use Rattle.warg_exchange.specs.Body.{Meaning, each_member, digest_in_text}
-use Rattle.warg_reply.specs.Order.{by_text}
-use Rattle.warg_reply.proofs.BodyLaws.{NamesItself}
+use Rattle.warg_reply.specs.Order.{by_text, NamesItself, NameThemselves}
 
 abbrev pub Entries : Type 0 → Type 0
 Entries X = List (List ℕ × X)
@@ -38,6 +37,11 @@ apart_at true k l is above =
     let same : k ≡ l = (bytes_eq-Decides k l).0 is in
     let less : by_text l l ≡ Less = subst (λ (m : List ℕ). by_text l m ≡ Less) same above in
     absurd (cc (less, tied_itself total l))
+
+-- one more entry behind others
+pub named_behind : {X : Type 0} (entries : Entries X) (k : List ℕ) (x : X) → NameThemselves entries → NamesItself k → NameThemselves (entries ++ (k, x) ∷ [])
+named_behind [] k x all named = (named, tt)
+named_behind (e ∷ entries) k x all named = (all.0, named_behind entries k x all.1 named)
 
 module _ {X : Type 0} where
   all_above : (k l : List ℕ) (es : Entries X) → Above k l → AllByRecursion (λ m. Above l m) (keys_of es) → AllByRecursion (λ m. Above k m) (keys_of es)
