@@ -1,6 +1,6 @@
 -- A page that is put together of logs' records is one of the registry.
 use Rattle.std.proofs.Common.{◌≡◌, ◌<◌, ◌^◌, ◌∷◌, inl, inr, List, ℕ, false, Option, refl, sym, ◌∙◌, subst}
-use Rattle.std.specs.Prelude.{bytes_eq, Contains}
+use Rattle.std.specs.Prelude.{◌↔◌, bytes_eq, Contains}
 use Rattle.std.specs.List.{IsDistinct}
 use Rattle.warg_hash.specs.Hash.{operator_log_id, package_log_id}
 use Rattle.warg_record.specs.Record.{Kind, Package, Operator}
@@ -26,10 +26,11 @@ brings-named h kind id n token log records small model apart is starts last behi
     subst (λ (rs : List PublishedRecord). BringsBehind kind (log_below (registry_of h) n id) log rs false) (sym behind.all) (brings-behind h kind id n behind.place log starts.0 model apart is starts.1 at)
 
 -- what is listed for a package's log that is asked for
-listed-for : (h : Held) (n : ℕ) (logs : Logs) (asked : List Asked) (listed : List Listed) (name : List ℕ) (log : List Kept) → IsDistinct bytes_eq (asked-ids asked) → AreLists (registry_of h) n asked listed → asked ≡ tokens_of logs.packages → Contains logs.packages (name, log)
+listed-for : (h : Held) (n : ℕ) (logs : Logs) (asked : List Asked) (listed : List Listed) (name : List ℕ) (log : List Kept) → IsDistinct bytes_eq (asked-ids asked) → AreLists (registry_of h) n asked listed
+    → ((a : Asked) → Contains (tokens_of logs.packages) a ↔ Contains asked a) → Contains logs.packages (name, log)
     → AreBehind (registry_of h) n (package_log_id name) (last_token log) (brought (package_log_id name) listed)
 listed-for h n logs asked listed name log distinct are is there =
-    brought-behind (registry_of h) n asked listed (package_log_id name, last_token log) distinct are (subst (λ (l : List Asked). Contains l (package_log_id name, last_token log)) (sym is) (package-asked logs.packages (name, log) there))
+    brought-behind (registry_of h) n asked listed (package_log_id name, last_token log) distinct are ((is (package_log_id name, last_token log)).0 (package-asked logs.packages (name, log) there))
 
 pub is-page : (h : Held) (request : FetchLogsRequest) (logs : Logs) (page : Page) → request.log_length < 2 ^ 64 → IsModel h → HasNoClash (registry_of h) → Names (registry_of h) logs request → IsDistinct bytes_eq (asked-ids request.packages.entries) → page.more ≡ false
     → AreBehind (registry_of h) request.log_length operator_log_id request.operator page.operator → AreLists (registry_of h) request.log_length request.packages.entries page.packages → IsPageOf (registry_of h) request.log_length logs page
@@ -43,7 +44,7 @@ is-page h request logs page small model apart names distinct last operator lists
           (listed-for h n logs asked page.packages name log distinct lists names.package_tokens there));
       only_asked = λ id records there.
           let of = listed-asked w n asked page.packages (id, records) lists there in
-          asked-package logs.packages (id, of.0.0) (subst (λ (l : List Asked). Contains l (id, of.0.0)) names.package_tokens of.0.1);
+          asked-package logs.packages (id, of.0.0) ((names.package_tokens (id, of.0.0)).1 of.0.1);
       some_records = λ name records there empty. (listed-asked w n asked page.packages (package_log_id name, records) lists there).1;
     }
 

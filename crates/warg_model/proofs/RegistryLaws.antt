@@ -15,9 +15,9 @@ use Rattle.warg_update.specs.Proved.{checkpoint_text}
 use Rattle.warg_ledger.specs.Registry.{Registry, IsRegistry, log_below}
 use Rattle.warg_model.specs.Records.{accepted_by, records_of}
 use Rattle.warg_model.specs.Signatures.{signature_on, accepted_of}
-use Rattle.warg_model.specs.Held.{Held, IsModel, IsPackageLogId, HasNoClash, registry_of, signed_texts, signatures_of}
+use Rattle.warg_model.specs.Held.{Held, IsModel, IsPackageLogId, HasNoClash, AcceptsSigned, registry_of, signed_texts, signatures_of}
 use Rattle.warg_model.proofs.RecordLaws.{records-append, records-all, signed-records}
-use Rattle.warg_model.proofs.SignatureLaws.{Lists, Passes, lawful-keeps, all-listed, permuted-listed, own-passes, all-weaker, all-mapped, all-front}
+use Rattle.warg_model.proofs.SignatureLaws.{Lists, Passes, lawful-keeps, all-listed, permuted-listed, listed-among, own-passes, all-weaker, all-mapped, all-front}
 
 -- ---- the laws of warg_log that are used
 
@@ -69,36 +69,39 @@ operator-alone h model apart =
 
 -- ---- signatures
 
--- each text that was signed is listed
-pub texts-listed : (h : Held) (listed : List (List ℕ × List ℕ × List ℕ)) → IsPermutation (signatures_of h) listed → AllByRecursion (Lists h.key listed) (signed_texts h)
-texts-listed h listed same = all-weaker (Lists h.key (signatures_of h)) (Lists h.key listed) (λ t. permuted-listed h.key t (signatures_of h) listed same) (signed_texts h) (all-listed h.key (signed_texts h))
+-- each text that was signed is listed, among others, in whatever order
+pub texts-listed : (h : Held) (before after listed : List (List ℕ × List ℕ × List ℕ)) → IsPermutation (before ++ (signatures_of h ++ after)) listed → AcceptsSigned (accepted_of listed) h
+texts-listed h before after listed same =
+    let all = before ++ (signatures_of h ++ after) in
+    all-weaker (Lists h.key (signatures_of h)) (Lists h.key listed) (λ t own. permuted-listed h.key t all listed same (listed-among h.key t before (signatures_of h) after own)) (signed_texts h) (all-listed h.key (signed_texts h))
 
-packages-pass : (h : Held) (listed : List (List ℕ × List ℕ × List ℕ)) → IsPermutation (signatures_of h) listed → AllByRecursion (λ e. Passes Package (accepted_by h.key) (accepted_of listed) e.1) h.published
-packages-pass h listed same =
+packages-pass : (h : Held) (accepts : Accepts) → AcceptsSigned accepts h → AllByRecursion (λ e. Passes Package (accepted_by h.key) accepts e.1) h.published
+packages-pass h accepts own =
     let text : List ℕ × Signed → List ℕ = λ e. signed_text Package e.1.contents in
-    let all = all-mapped (Lists h.key listed) text h.published (all-front (Lists h.key listed) (map text h.published) (map checkpoint_text h.checkpoints) (texts-listed h listed same).1) in
-    all-weaker (λ e. Lists h.key listed (text e)) (λ e. Passes Package (accepted_by h.key) (accepted_of listed) e.1) (λ e. own-passes Package h.key listed e.1) h.published all
+    let Own : List ℕ → Type 0 = λ t. accepts h.key.key t h.key.signature ≡ true in
+    let all = all-mapped Own text h.published (all-front Own (map text h.published) (map checkpoint_text h.checkpoints) own.1) in
+    all-weaker (λ e. Own (text e)) (λ e. Passes Package (accepted_by h.key) accepts e.1) (λ e. own-passes Package h.key accepts e.1) h.published all
 
 -- ---- the registry
 
-operator-lawful : LogLaws → (h : Held) (listed : List (List ℕ × List ℕ × List ℕ)) → IsModel h → IsPermutation (signatures_of h) listed → HasNoClash (registry_of h) → IsLawful Operator (accepted_of listed) (records_of operator_log_id (registry_of h).entries)
-operator-lawful laws h listed model same apart =
-    let own = (laws.more Operator (accepted_by h.key) [] h.opening).1 (laws.none Operator (accepted_by h.key), model.obeys) in
-    subst (IsLawful Operator (accepted_of listed)) (sym (operator-alone h model apart))
-    (lawful-keeps Operator (accepted_by h.key) (accepted_of listed) (h.opening ∷ []) (own-passes Operator h.key listed h.opening (texts-listed h listed same).0, tt) own)
+operator-lawful : LogLaws → (h : Held) (accepts : Accepts) → IsModel h → AcceptsSigned accepts h → HasNoClash (registry_of h) → IsLawful Operator accepts (records_of operator_log_id (registry_of h).entries)
+operator-lawful laws h accepts model own apart =
+    let obeys = (laws.more Operator (accepted_by h.key) [] h.opening).1 (laws.none Operator (accepted_by h.key), model.obeys) in
+    subst (IsLawful Operator accepts) (sym (operator-alone h model apart))
+    (lawful-keeps Operator (accepted_by h.key) accepts (h.opening ∷ []) (own-passes Operator h.key accepts h.opening own.0, tt) obeys)
 
-package-lawful : (h : Held) (listed : List (List ℕ × List ℕ × List ℕ)) (name : List ℕ) → IsModel h → IsPermutation (signatures_of h) listed → HasNoClash (registry_of h)
-    → IsLawful Package (accepted_of listed) (records_of (package_log_id name) (registry_of h).entries)
-package-lawful h listed name model same apart =
+package-lawful : (h : Held) (accepts : Accepts) (name : List ℕ) → IsModel h → AcceptsSigned accepts h → HasNoClash (registry_of h)
+    → IsLawful Package accepts (records_of (package_log_id name) (registry_of h).entries)
+package-lawful h accepts name model own apart =
     let id = package_log_id name in
-    subst (IsLawful Package (accepted_of listed)) (sym (package-alone h name (apart.one_kind name)))
-    (lawful-keeps Package (accepted_by h.key) (accepted_of listed) (records_of id h.published) (records-all (Passes Package (accepted_by h.key) (accepted_of listed)) id h.published (packages-pass h listed same)) (model.lawful id))
+    subst (IsLawful Package accepts) (sym (package-alone h name (apart.one_kind name)))
+    (lawful-keeps Package (accepted_by h.key) accepts (records_of id h.published) (records-all (Passes Package (accepted_by h.key) accepts) id h.published (packages-pass h accepts own)) (model.lawful id))
 
-pub the-registry : LogLaws → (h : Held) (listed : List (List ℕ × List ℕ × List ℕ)) → IsModel h → IsPermutation (signatures_of h) listed → HasNoClash (registry_of h) → IsRegistry (accepted_of listed) (registry_of h)
-the-registry laws h listed model same apart = record {
+pub the-registry : LogLaws → (h : Held) (accepts : Accepts) → IsModel h → AcceptsSigned accepts h → HasNoClash (registry_of h) → IsRegistry accepts (registry_of h)
+the-registry laws h accepts model own apart = record {
   lawful = λ kind id n is. elim is [
-    | inl of ↦ rw (of.0, of.1) (below-lawful laws Operator (accepted_of listed) (registry_of h) n operator_log_id (operator-lawful laws h listed model same apart))
-    | inr of ↦ rw (of.0, of.2) (below-lawful laws Package (accepted_of listed) (registry_of h) n (package_log_id of.1) (package-lawful h listed of.1 model same apart))
+    | inl of ↦ rw (of.0, of.1) (below-lawful laws Operator accepts (registry_of h) n operator_log_id (operator-lawful laws h accepts model own apart))
+    | inr of ↦ rw (of.0, of.2) (below-lawful laws Package accepts (registry_of h) n (package_log_id of.1) (package-lawful h accepts of.1 model own apart))
   ];
   one_key = apart.one_key;
 }

@@ -6,6 +6,7 @@ use Rattle.std.specs.Option.{option_or, option_eq}
 use Rattle.std.specs.List.{AllByRecursion, list_any}
 use Rattle.std.specs.List.Sorted.{IsPermutation}
 use Rattle.std.proofs.lemmas.Slice.Eq.{bytes_eq-Decides}
+use Rattle.std.proofs.lemmas.List.Folds.{list_any-append}
 use Rattle.std.proofs.lemmas.List.Sorted.{list_any-IsPermutation}
 use Rattle.sha2.specs.Sha256.{sha256}
 use Rattle.warg_record.specs.Record.{Kind}
@@ -16,7 +17,7 @@ use Rattle.warg_log.specs.Rules.{Accepts, Breach, broken, BadSignature, Protocol
 use Rattle.warg_log.specs.declared.head.Head.{Head}
 use Rattle.warg_model.specs.declared.key.SigningKey.{SigningKey}
 use Rattle.warg_model.specs.Records.{accepted_by}
-use Rattle.warg_model.specs.Signatures.{signature_on, accepted_of}
+use Rattle.warg_model.specs.Signatures.{signature_on}
 
 -- ---- another verifier
 
@@ -105,18 +106,25 @@ all-listed k (t ∷ texts) =
 pub permuted-listed : (k : SigningKey) (text : List ℕ) (listed other : List (List ℕ × List ℕ × List ℕ)) → IsPermutation listed other → Lists k listed text → Lists k other text
 permuted-listed k text listed other same h = sym (list_any-IsPermutation (is_listed k.key (sha256 text) k.signature) listed other same) ∙ h
 
+-- and among others
+pub listed-among : (k : SigningKey) (text : List ℕ) (before listed after : List (List ℕ × List ℕ × List ℕ)) → Lists k listed text → Lists k (before ++ (listed ++ after)) text
+listed-among k text before listed after own =
+    let is = is_listed k.key (sha256 text) k.signature in
+    list_any-append is before (listed ++ after)
+    ∙ or-right (list_any is before) (list_any is (listed ++ after)) (list_any-append is listed after ∙ or-left (list_any is listed) (list_any is after) own)
+
 pub and-both : (b c : Bool) → (b && c) ≡ true → (b ≡ true) × (c ≡ true)
 and-both true c h = (refl, h)
 and-both false c h = absurd cc
 
--- what the key's own signature passes, the list does
-pub own-passes : (kind : Kind) (k : SigningKey) (listed : List (List ℕ × List ℕ × List ℕ)) (s : Signed) → Lists k listed (signed_text kind s.contents) → Passes kind (accepted_by k) (accepted_of listed) s
-own-passes kind k listed s lists key accepted =
+-- what the key's own signature passes, a verifier does that accepts it
+pub own-passes : (kind : Kind) (k : SigningKey) (accepts : Accepts) (s : Signed) → accepts k.key (signed_text kind s.contents) k.signature ≡ true → Passes kind (accepted_by k) accepts s
+own-passes kind k accepts s own key accepted =
     let both = and-both (bytes_eq key k.key) (bytes_eq s.signature k.signature) accepted in
     let same_key : key ≡ k.key = (bytes_eq-Decides key k.key).0 both.0 in
     let same_signature : s.signature ≡ k.signature = (bytes_eq-Decides s.signature k.signature).0 both.1 in
     let text = signed_text kind s.contents in
-    ap (λ (x : List ℕ). accepted_of listed x text s.signature) same_key ∙ ap (λ (x : List ℕ). accepted_of listed k.key text x) same_signature ∙ lists
+    ap (λ (x : List ℕ). accepts x text s.signature) same_key ∙ ap (λ (x : List ℕ). accepts k.key text x) same_signature ∙ own
 
 -- ---- the parts of a list of texts
 

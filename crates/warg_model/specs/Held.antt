@@ -1,5 +1,5 @@
 -- What a registry of one key holds, and what its calls make of it.
-use Rattle.std.specs.Prelude.{◌≡◌, ◌≢◌, ℕ, ◌+◌, if◌then◌else◌, List, [], ◌∷◌, ◌++◌, length, map, find, codes, decimal, Contains, Option, Some, None, IfSome, option_and_then}
+use Rattle.std.specs.Prelude.{◌≡◌, ◌≢◌, ℕ, ◌+◌, true, if◌then◌else◌, List, [], ◌∷◌, ◌++◌, length, map, find, codes, decimal, Contains, Option, Some, None, IfSome, option_and_then}
 use Rattle.std.specs.List.{AllByRecursion}
 use Rattle.semver.specs.Parse.{Parts}
 use Rattle.sha2.specs.Sha256.{sha256}
@@ -9,7 +9,7 @@ use Rattle.warg_record.specs.Record.{Package, Operator, PlainEntry, Init, Releas
 use Rattle.warg_record.specs.Envelope.{Signed}
 use Rattle.warg_log.specs.History.{releases_of, same_version}
 use Rattle.warg_log.specs.Lawful.{IsLawful, IsRead}
-use Rattle.warg_log.specs.Rules.{entries_of, breach_of, is_first, signed_text}
+use Rattle.warg_log.specs.Rules.{Accepts, entries_of, breach_of, is_first, signed_text}
 use Rattle.warg_proof.specs.LogTree.{root}
 use Rattle.warg_proof.specs.MapTree.{map_root}
 use Rattle.warg_proof.specs.MapProofs.{log_key}
@@ -126,6 +126,10 @@ signed_texts h =
 -- the signature of each of them
 abbrev pub signatures_of : Held → List (List ℕ × List ℕ × List ℕ)
 signatures_of h = map (signature_on h.key) (signed_texts h)
+
+-- a verifier accepts the key's signature of each of them
+abbrev pub AcceptsSigned : Accepts → Held → Type 0
+AcceptsSigned accepts h = AllByRecursion (λ text. accepts h.key.key text h.key.signature ≡ true) (signed_texts h)
 
 -- ---- when it is sound
 

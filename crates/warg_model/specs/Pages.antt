@@ -1,5 +1,5 @@
 -- What a registry publishes of a log, and what it answers to a request for logs.
-use Rattle.std.specs.Prelude.{◌≡◌, ◌≢◌, ℕ, ◌+◌, ◌&&◌, if◌then◌else◌, List, [], ◌∷◌, ◌++◌, map, take, bytes_eq, decimal, slice_get, Contains, Option, Some, None, IfSome, option_map}
+use Rattle.std.specs.Prelude.{◌≡◌, ◌≢◌, ◌↔◌, ℕ, ◌+◌, ◌&&◌, if◌then◌else◌, List, [], ◌∷◌, ◌++◌, map, take, bytes_eq, decimal, slice_get, Contains, Option, Some, None, IfSome, option_map}
 use Rattle.warg_hash.specs.Hash.{hash_text, operator_log_id, package_log_id}
 use Rattle.warg_record.specs.Envelope.{Signed}
 use Rattle.warg_exchange.specs.declared.logs.FetchLogsRequest.{FetchLogsRequest}
@@ -75,10 +75,15 @@ IsLogsFault w n asked e = (a : List ℕ × Option (List ℕ)) × Contains asked 
 abbrev pub StartsWith : List Kept → List Kept → Type 0
 StartsWith whole log = (rest : List Kept) × (whole ≡ log ++ rest)
 
--- a request names the last records of logs that begin the registry's
-pub record Names (w : Registry) (logs : Logs) (request : FetchLogsRequest) : Type 0 where
-  pub operator_begins : StartsWith (log_below w request.log_length operator_log_id) logs.operator
+-- tokens name the last records of logs that begin a registry's below a length: of each log its own, in whatever order
+pub record NameLast (w : Registry) (n : ℕ) (operator : Option (List ℕ)) (packages : List (List ℕ × Option (List ℕ)))
+    (logs : Logs) : Type 0 where
+  pub operator_begins : StartsWith (log_below w n operator_log_id) logs.operator
   pub packages_begin : (name : List ℕ) (log : List Kept) → Contains logs.packages (name, log)
-      → StartsWith (log_below w request.log_length (package_log_id name)) log
-  pub operator_token : request.operator ≡ last_token logs.operator
-  pub package_tokens : request.packages.entries ≡ tokens_of logs.packages
+      → StartsWith (log_below w n (package_log_id name)) log
+  pub operator_token : operator ≡ last_token logs.operator
+  pub package_tokens : (a : List ℕ × Option (List ℕ)) → Contains (tokens_of logs.packages) a ↔ Contains packages a
+
+-- a request names them
+abbrev pub Names : Registry → Logs → FetchLogsRequest → Type 0
+Names w logs request = NameLast w request.log_length request.operator request.packages.entries logs

@@ -32,6 +32,7 @@ use crate::error::{LogsError, ModelError};
 use crate::growth::Growth;
 use crate::hashes::RegistryHashes;
 use crate::key::SigningKey;
+use crate::laws::what_is_signed_is_accepted;
 use crate::page::{place_named, push_behind};
 use crate::record::{follow, next_record, signed_text_of};
 use indexmap::IndexMap;
@@ -41,7 +42,7 @@ use warg_exchange::{
     Checkpoint, FetchLogsRequest, FetchLogsResponse, PublishedRecord, SignedCheckpoint,
 };
 use warg_hash::{AnyHash, LogId, PackageName, RecordId};
-use warg_log::laws::{fronts_are_lawful, lawful_record_by_record, releases_have_the_form};
+use warg_log::laws::{lawful_record_by_record, releases_have_the_form};
 use warg_log::{ListedVerifier, LogState};
 use warg_proof::LogLeaf;
 use warg_record::{
@@ -368,8 +369,7 @@ impl ModelRegistry {
             IsSigned (accepted_of v)
             (log_below (registry_of (held self.now)) c.contents.log_length operator_log_id) c)) }
     {
-        lawful_record_by_record();
-        fronts_are_lawful();
+        what_is_signed_is_accepted();
         let mut listed = Vec::new(alloc);
         self.list_signatures(alloc, &mut listed)?;
         Ok(ListedVerifier::new(listed))
