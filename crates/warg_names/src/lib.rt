@@ -13,6 +13,7 @@ mod same;
 mod texts;
 mod tree;
 
+pub use cut::behind;
 pub use error::ImportNameError;
 pub use import::{Import, ImportKind};
 pub use mark::marked;

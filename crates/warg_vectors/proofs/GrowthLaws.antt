@@ -81,6 +81,10 @@ taken-up-below old new gs g t =
     sym (length-map new named_view) ∙ ap length (taken-up-seen old new gs g t l) ∙ length-append l.front (l.last ∷ map grown_one t.back) in
     omega (arith, long, l.count)
 
+-- the next one has a place among the registries
+pub next-below : (old new : List NamedRegistry) (all gs : List Growth) (g : Growth) → all ≡ gs ++ g ∷ [] → AreTakenUp old new all → length gs < length new
+next-below old new all gs g is t = taken-up-below old new gs g (subst (AreTakenUp old new) is t)
+
 pub one-more-taken-up : (old new : List NamedRegistry) (gs : List Growth) (g : Growth) (p q : NamedRegistry) → AreTakenUp old new (gs ++ g ∷ []) → slice_get new (length gs) ≡ Some p
     → (IsGrowthOf (named_view p).held g → named_view q ≡ grown_one (named_view p)) → (IsGrowthOf (named_view p).held g → IsSoundNamed p → IsSoundNamed q)
     → AreTakenUp old (set new (length gs) q) gs

@@ -1,9 +1,13 @@
 mod AnswerLaws
 mod AskLaws
-mod FrontLaws
+mod BodyLaws
 mod GrowthLaws
+mod JsonLaws
 mod ListLaws
 mod MentionLaws
+mod NamedLaws
+mod OrderLaws
 mod PlaceLaws
 mod RequestLaws
+mod SignedLaws
 mod SoundLaws

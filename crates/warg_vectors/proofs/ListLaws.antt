@@ -90,6 +90,10 @@ pub when-ok : {X E : Type 0} (P Q : X → Type 0) (r : Result X E) → ((x : X) 
 when-ok P Q (Ok x) more is = more x is
 when-ok P Q (Err e) more is = tt
 
+pub when-all-ok : {X E : Type 0} (P A B Q : X → Type 0) (r : Result X E) → ((x : X) → P x → A x → B x → Q x) → IfOk r P → IfOk r A → IfOk r B → IfOk r Q
+when-all-ok P A B Q (Ok x) more is first second = more x is first second
+when-all-ok P A B Q (Err e) more is first second = tt
+
 -- ---- what holds of each of a list
 
 pub all-set : {X : Type 0} (P : X → Type 0) (xs : List X) (i : ℕ) (y : X) → AllByRecursion P xs → P y → AllByRecursion P (set xs i y)

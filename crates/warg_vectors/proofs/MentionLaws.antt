@@ -90,6 +90,11 @@ registry-at name rs place p stands there =
     let s = place-stands name (map named_view rs) place stands in
     s.is ∙ ap (λ (r : Named). Some r.held) (view-at name rs place p s there)
 
+-- so it is among registries that are the same
+pub called-at : (name : Option (List ℕ)) (rs : List NamedRegistry) (named : List Named) (place : ℕ) (p : NamedRegistry) → place_in (map named_view rs) name ≡ Some place → p ≡ slice_index_or rs place p → map named_view rs ≡ named
+    → registry_in named name ≡ Some (named_view p).held
+called-at name rs named place p stands is same = subst (λ (l : List Named). registry_in l name ≡ Some (named_view p).held) same (registry-at name rs place p stands (lent-at name rs place p stands is))
+
 pub changed-at : (name : Option (List ℕ)) (rs : List NamedRegistry) (place : ℕ) (p q : NamedRegistry) (f : Held → Held) → place_in (map named_view rs) name ≡ Some place
     → slice_get rs place ≡ Some p → named_view q ≡ record (named_view p) { held = f (named_view p).held } → map named_view (set rs place q) ≡ changed f name (map named_view rs)
 changed-at name rs place p q f stands there is =

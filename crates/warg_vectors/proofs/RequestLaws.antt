@@ -2,11 +2,13 @@
 use Rattle.std.proofs.Common.{◌≡◌, ◌++◌, [], ℕ, List, Option, Some, None, refl, ◌∙◌, ap}
 use Rattle.std.specs.Prelude.{codes}
 use Rattle.hex.specs.Hex.{encode_lower}
+use Rattle.serde_json.specs.Data.{Data}
 use Rattle.warg_hash.specs.Hash.{digest_of, hash_text}
 use Rattle.warg_exchange.specs.declared.exchange.Method.TheVariants.{Get}
-use Rattle.warg_exchange.specs.Requests.{Asker, checkpoint_request, sources_request, plain_get}
-use Rattle.warg_vectors.specs.Asked.{Checkpoint, OfRegistry, Sources, Content, home, content_url, behind, asked_at, asked_by, path_asked, content_asked, sources_asked, registry_of_request}
-use Rattle.warg_vectors.proofs.FrontLaws.{behind-append}
+use Rattle.warg_exchange.specs.Requests.{Asker, checkpoint_request, post_request, sources_request, plain_get}
+use Rattle.warg_vectors.specs.Asked.{Checkpoint, OfRegistry, Sources, Content, home, content_url, asked_at, asked_by, path_asked, content_asked, sources_asked, registry_of_request}
+use Rattle.warg_names.specs.Cut.{behind}
+use Rattle.warg_names.specs.CutLaws.{behind-append}
 
 -- a request without a body, for a path behind the registries' URL
 get-read : (base path : List ℕ) → base ≡ home → asked_at Get (behind home (base ++ path)) [] ≡ path_asked path
@@ -20,6 +22,11 @@ pub header-read : (registry token : Option (List ℕ)) → registry_of_request (
 header-read (Some name) token = refl
 header-read None (Some t) = refl
 header-read None None = refl
+
+pub posted-read : (registry token : Option (List ℕ)) (path : List ℕ) (d : Data) → registry_of_request (post_request (record { base = []; token = token; registry = registry }) path d) ≡ registry
+posted-read (Some name) token path d = refl
+posted-read None (Some t) path d = refl
+posted-read None None path d = refl
 
 sources-at : (text digest : List ℕ) → digest_of text ≡ Some digest → path_asked (codes "v1/content/" ++ text) ≡ Sources digest
 unfolding behind

@@ -16,9 +16,9 @@ use Rattle.warg_prover.specs.Asked.{inclusion_needs, consistency_needs}
 use Rattle.warg_reply.specs.Order.{ascending}
 use Rattle.warg_ledger.specs.Registry.{Registry, entry_texts}
 use Rattle.warg_ledger.specs.Replies.{AreWhole}
-use Rattle.warg_ledger.specs.Honest.{GivesHeads, GivesGrowth}
-use Rattle.warg_model.specs.Held.{Held, registry_of}
-use Rattle.warg_model.specs.Pages.{AreBehind, AreLists, IsLogFault}
+use Rattle.warg_ledger.specs.Honest.{GivesPage, GivesHeads, GivesGrowth}
+use Rattle.warg_model.specs.Held.{Held, HasNoClash, registry_of}
+use Rattle.warg_model.specs.Pages.{AreBehind, AreLists, IsLogFault, NameLast}
 use Rattle.warg_model.specs.declared.error.LogsError.{LogsError}
 use Rattle.warg_model.specs.declared.error.LogsError.TheVariants as logs
 use Rattle.warg_vectors.specs.Asked as asked
@@ -62,10 +62,18 @@ pub record RefusesLog (w : Registry) (n : ℕ) (asked : List (List ℕ × Option
   pub of_fault : IsErrorOf fault error
   pub refuses : Refuses error reply
 
+-- such a page comes; and where the tokens name the last records of logs that begin the registry's, it is a page of an
+-- honest registry behind these logs, but for a clash
+pub record GivesLogs (w : Registry) (n : ℕ) (operator : Option (List ℕ)) (packages : List (List ℕ × Option (List ℕ)))
+    (reply : Reply) : Type 0 where
+  pub page : Page
+  pub came : says page_in reply ≡ Ok page
+  pub is : IsPage w n operator packages page
+  pub gives : HasNoClash w → (logs : Logs) → NameLast w n operator packages logs → GivesPage w n logs reply
+
 abbrev pub IsPageReply : Registry → ℕ → Option (List ℕ) → List (List ℕ × Option (List ℕ)) → Reply → Type 0
 IsPageReply w n operator packages reply =
-    ((page : Page) × (says page_in reply ≡ Ok page) × IsPage w n operator packages page)
-    ⊎ RefusesLog w n ((operator_log_id, operator) ∷ packages) reply
+    GivesLogs w n operator packages reply ⊎ RefusesLog w n ((operator_log_id, operator) ∷ packages) reply
 
 -- ---- proofs
 

@@ -1,10 +1,11 @@
 -- What a request asks: by its method, its URL and its body, as clients make requests.
-use Rattle.std.specs.Prelude.{ℕ, ◌==◌, List, [], ◌∷◌, ◌++◌, if◌then◌else◌, codes, bytes_eq, find, Option, Some, None, option_map, Ok, Err}
+use Rattle.std.specs.Prelude.{ℕ, List, ◌++◌, if◌then◌else◌, codes, bytes_eq, find, Option, Some, None, option_map, Ok, Err}
 use Rattle.hex.specs.Hex.{encode_lower}
 use Rattle.http_header.specs.FieldValue.{FieldValue}
 use Rattle.serde_json.specs.Data.{Data}
 use Rattle.warg_values.specs.Reading.{◌>>=◌}
 use Rattle.warg_hash.specs.Hash.{digest_of}
+use Rattle.warg_names.specs.Cut.{behind}
 use Rattle.warg_exchange.specs.declared.exchange.Request.{Request}
 use Rattle.warg_exchange.specs.declared.exchange.Method.{Method}
 use Rattle.warg_exchange.specs.declared.exchange.Method.TheVariants.{Get, Post, Put}
@@ -40,12 +41,6 @@ registry_header request = option_map (λ h. h.1) (find (λ h. bytes_eq h.0 (code
 -- the registry that a request names, none where it means the home registry
 abbrev pub registry_of_request : Request → Option (List ℕ)
 registry_of_request request = option_map (λ v. v.bytes) (registry_header request)
-
--- what stands behind a front, where a text begins with it
-unfoldable pub behind : List ℕ → List ℕ → Option (List ℕ)
-behind [] text = Some text
-behind (c ∷ front) [] = None
-behind (c ∷ front) (b ∷ text) = if b == c then behind front text else None
 
 -- ---- without a body
 

@@ -98,8 +98,9 @@ fn page_answer(
     named: &NamedRegistry,
     asked: &FetchLogsRequest,
 ) -> Result<Reply, Memory>
-    ensures { IfOk result (IsPageReply (registry_of (held named.now.registry)) asked.now.log_length
-        asked.now.operator asked.now.packages.entries) }
+    ensures { IfOk result (λ reply. IsSoundNamed named.now
+        → IsPageReply (registry_of (held named.now.registry)) asked.now.log_length
+        asked.now.operator asked.now.packages.entries reply) }
 {
     match named.registry.page(alloc, asked) {
         Ok(page) => page_reply(alloc, &page),
@@ -114,8 +115,9 @@ fn logs_answer(
     latest: u64,
     asked: FetchLogsRequest,
 ) -> Result<Reply, Memory>
-    ensures { IfOk result (IsPageReply (registry_of (held named.now.registry)) (min asked.log_length latest)
-        asked.operator asked.packages.entries) }
+    ensures { IfOk result (λ reply. IsSoundNamed named.now
+        → IsPageReply (registry_of (held named.now.registry)) (min asked.log_length latest)
+        asked.operator asked.packages.entries reply) }
 {
     let FetchLogsRequest {
         log_length,

@@ -4,7 +4,8 @@ ghost use Rattle.std.specs.Prelude.{◌≡◌, ◌++◌, codes, find, bytes_eq, 
 ghost use Rattle.serde_json.specs.View.{view};
 ghost use Rattle.warg_hash.specs.Hash.{digest_of};
 ghost use Rattle.warg_json.specs.Answers.{BodyGives};
-ghost use Rattle.warg_vectors.specs.Asked.{registry_header, behind as behind_of, content_asked, sources_asked, digest_asked, path_asked, logs_in, inclusion_in, consistency_in, value_asked as value_asked_at, body_asked as body_asked_at, meant_asked, asked_by};
+ghost use Rattle.warg_names.specs.Cut.{behind as behind_of};
+ghost use Rattle.warg_vectors.specs.Asked.{registry_header, content_asked, sources_asked, digest_asked, path_asked, logs_in, inclusion_in, consistency_in, value_asked as value_asked_at, body_asked as body_asked_at, meant_asked, asked_by};
 ghost use Rattle.warg_vectors.specs.AskViews.{registry_ask_view, ask_view};
 
 use http_header::HeaderValue;
@@ -14,6 +15,7 @@ use std::alloc::Global;
 use warg_exchange::{ConsistencyRequest, FetchLogsRequest, InclusionRequest, Method, Request};
 use warg_hash::{AnyHash, LogId, NameError};
 use warg_json::{BodyError, optional, required, value_in_bytes};
+use warg_names::behind;
 use warg_values::{Memory, Sequence, Text};
 
 /// Where the registries are.
@@ -66,13 +68,6 @@ pub fn registry_named(request: &Request) -> Option<&HeaderValue>
     ensures { option_map (λ v. v.now) result ≡ registry_header request.now }
 {
     first_header("warg-registry", request)
-}
-
-/// What stands behind a front, where the text begins with it.
-fn behind<'a>(front: &str, text: &'a str) -> Option<&'a str>
-    ensures { option_copied result ≡ behind_of front.now text.now }
-{
-    text.strip_prefix(front)
 }
 
 /// The digest that a text names.

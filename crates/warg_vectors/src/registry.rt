@@ -6,8 +6,9 @@ ghost use Rattle.std.specs.List.Sorted.{IsPermutation};
 ghost use Rattle.sha2.specs.Sha256.{sha256};
 ghost use Rattle.semver.specs.Grammar.{IsValid};
 ghost use Rattle.semver.specs.Identifiers.{parts_of};
-ghost use Rattle.warg_model.specs.Held.{Held, release_in, content_in as digest_in, signatures_of, with_release, with_yank, opened as held_opened};
+ghost use Rattle.warg_model.specs.Held.{Held, AcceptsSigned, release_in, content_in as digest_in, signatures_of, with_release, with_yank, opened as held_opened};
 ghost use Rattle.warg_model.specs.Growths.{IsGrowthOf};
+ghost use Rattle.warg_model.specs.Signatures.{accepted_of};
 ghost use Rattle.warg_model.specs.State.{held};
 ghost use Rattle.warg_model.specs.declared.error.ModelError.TheVariants.{ReleaseAgain, NotReleased, BadVersion, Memory as WantsMemory};
 ghost use Rattle.warg_vectors.specs.Named.{key_of as signing_key, same_name};
@@ -20,6 +21,7 @@ use semver::Version;
 use std::alloc::Global;
 use warg_hash::{AnyHash, PackageName};
 use warg_log::ListedVerifier;
+use warg_model::laws::what_is_listed_is_accepted;
 use warg_model::{Growth, ModelError, ModelRegistry as OneRegistry, RegistryHashes};
 use warg_record::{PublicKey, Signature};
 use warg_url::RegistryDomain;
@@ -443,8 +445,11 @@ impl ModelRegistry {
 
     /// A verifier of its own that lists each registry's signature of each text that it signed.
     pub fn verifier(&self, alloc: Global) -> Result<ListedVerifier, Memory>
-        ensures { IfOk result (λ v. IsPermutation (signatures_in (world self.now)) v) }
+        ensures listed { IfOk result (λ v. IsPermutation (signatures_in (world self.now)) v) }
+        ensures accepts { IfOk result (λ v.
+            AllByRecursion (λ r. AcceptsSigned (accepted_of v) r.held) (world self.now).registries) }
     {
+        what_is_listed_is_accepted();
         let listed = signatures_of_all(alloc, self.registries.as_slice())?;
         Ok(ListedVerifier::new(listed))
     }

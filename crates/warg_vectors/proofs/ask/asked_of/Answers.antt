@@ -1,5 +1,6 @@
 use Rattle.std.proofs.Common.{◌≡◌, ◌∙◌, ℕ, List, Some, rules, sym, ap}
-use Rattle.warg_vectors.specs.Asked.{asked_at, asked_by, home, behind, path_asked, body_asked, meant_asked}
+use Rattle.warg_names.specs.Cut.{behind}
+use Rattle.warg_vectors.specs.Asked.{asked_at, asked_by, home, path_asked, body_asked, meant_asked}
 use Rattle.warg_vectors.specs.AskViews.{ask_view}
 use Rattle.warg_vectors.proofs.ListLaws.{when-ok}
 use Rattle.warg_vectors.proofs.ask.asked_of.Goals as goal

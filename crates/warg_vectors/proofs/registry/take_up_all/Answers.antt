@@ -5,7 +5,7 @@ use Rattle.warg_model.specs.Growths.{IsGrowthOf}
 use Rattle.warg_vectors.specs.State.{named_view, IsSoundNamed}
 use Rattle.warg_vectors.specs.World.{grown_one}
 use Rattle.warg_vectors.specs.declared.registry.NamedRegistry.{NamedRegistry}
-use Rattle.warg_vectors.proofs.GrowthLaws.{AreTakenUp, one-more-taken-up, taken-up-below, all-taken-up}
+use Rattle.warg_vectors.proofs.GrowthLaws.{AreTakenUp, one-more-taken-up, taken-up-below, next-below, all-taken-up}
 use Rattle.warg_vectors.proofs.registry.take_up_all.Goals as goal
 
 pub loop-growth-preserved-then-place-registries : goal.loop-growth-preserved-then-place-registries
@@ -26,20 +26,17 @@ loop-growth-preserved-then-place-registries c all =
 
 pub loop-growth-preserved-else-place-registries : goal.loop-growth-preserved-else-place-registries
 loop-growth-preserved-else-place-registries c all =
-    let t = subst (AreTakenUp c.args.registries.now c.loop-growth.registries) c.in-Some.ensures.items (c.loop-growth.invariant all) in
-    let below = taken-up-below c.args.registries.now c.loop-growth.registries c.pop.new.self.items c.in-Some.growth t in
+    let below = next-below c.args.registries.now c.loop-growth.registries _ c.pop.new.self.items c.in-Some.growth c.in-Some.ensures.items (c.loop-growth.invariant all) in
     absurd (omega (arith, below, c.if-place-registries.false, c.len-place.ensures, c.pop.new.self.ok.0))
 
 pub loop-growth-preserved-else-place-registries-2 : goal.loop-growth-preserved-else-place-registries-2
 loop-growth-preserved-else-place-registries-2 c all =
-    let t = subst (AreTakenUp c.args.registries.now c.loop-growth.registries) c.in-Some.ensures.items (c.loop-growth.invariant all) in
-    let below = taken-up-below c.args.registries.now c.loop-growth.registries c.pop.new.self.items c.in-Some.growth t in
+    let below = next-below c.args.registries.now c.loop-growth.registries _ c.pop.new.self.items c.in-Some.growth c.in-Some.ensures.items (c.loop-growth.invariant all) in
     absurd (omega (arith, below, c.if-place-registries.false, c.len-place.ensures, c.pop.new.self.ok.0))
 
 pub loop-growth-preserved : goal.loop-growth-preserved
 loop-growth-preserved c all =
-    let t = subst (AreTakenUp c.args.registries.now c.loop-growth.registries) c.in-Some.ensures.items (c.loop-growth.invariant all) in
-    let below = taken-up-below c.args.registries.now c.loop-growth.registries c.pop.new.self.items c.in-Some.growth t in
+    let below = next-below c.args.registries.now c.loop-growth.registries _ c.pop.new.self.items c.in-Some.growth c.in-Some.ensures.items (c.loop-growth.invariant all) in
     absurd (omega (arith, below, c.if-place-registries.false, c.len-place.ensures, c.pop.new.self.ok.0))
 
 pub returns-clause-grown : goal.returns-clause-grown

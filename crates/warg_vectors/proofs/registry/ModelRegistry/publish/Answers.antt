@@ -1,13 +1,13 @@
-use Rattle.std.proofs.Common.{◌≡◌, List, ℕ, Some, None, ◌∙◌, ap, subst, length, map, take, arith}
+use Rattle.std.proofs.Common.{◌≡◌, List, ℕ, None, ◌∙◌, ap, subst, length, map, take, arith}
 use Rattle.std.specs.Prelude.{option_copied, IsSome}
 use Rattle.sha2.specs.Sha256.{sha256}
 use Rattle.semver.specs.Identifiers.{parts_of}
 use Rattle.warg_model.specs.Held.{Held, release_in, with_release}
 use Rattle.warg_vectors.specs.Named.{key_of}
 use Rattle.warg_vectors.specs.State.{named_view, IsSoundNamed}
-use Rattle.warg_vectors.specs.World.{Named, registry_in, changed}
+use Rattle.warg_vectors.specs.World.{changed, mentioned}
 use Rattle.warg_vectors.proofs.ListLaws.{on-ok, on-err, all-set, all-at}
-use Rattle.warg_vectors.proofs.MentionLaws.{within, lent-at, mentioned-holds, mentioned-was, mentioned-front, opened-none, registry-at, changed-at, unchanged-at}
+use Rattle.warg_vectors.proofs.MentionLaws.{within, lent-at, mentioned-holds, mentioned-was, mentioned-front, opened-none, called-at, changed-at, unchanged-at}
 use Rattle.warg_vectors.proofs.registry.ModelRegistry.publish.Goals as goal
 
 pub index_mut-requires : goal.index_mut-requires
@@ -38,13 +38,9 @@ returns-clause-absent c =
     let name = option_copied c.args.registry in
     let package_name = c.args.name.now in
     let version = parts_of c.args.version.now in
-    let rs = c.mention.new.registries.items in
     let olds = map named_view c.args.self.now.registries.items in
-    let place = c.in_ok-place.place in
     let p = c.index_mut.result.now in
-    let stands = c.in_ok-place.ensures.place in
-    let there = lent-at name rs place p c.in_ok-place.ensures.place c.index_mut.ensures.value in
-    let called = subst (λ (l : List Named). registry_in l name ≡ Some (named_view p).held) c.in_ok-place.ensures.mentioned (registry-at name rs place p stands there) in
+    let called = called-at name c.mention.new.registries.items (mentioned olds name) c.in_ok-place.place p c.in_ok-place.ensures.place c.index_mut.ensures.value c.in_ok-place.ensures.mentioned in
     on-ok c.publish_in.result (λ none. mentioned-holds name olds (named_view p).held (λ h. release_in h package_name version ≡ None) called none) c.publish_in.ensures.absent
 
 pub returns-clause-sound : goal.returns-clause-sound
@@ -65,13 +61,9 @@ returns-clause-again c again =
     let name = option_copied c.args.registry in
     let package_name = c.args.name.now in
     let version = parts_of c.args.version.now in
-    let rs = c.mention.new.registries.items in
     let olds = map named_view c.args.self.now.registries.items in
-    let place = c.in_ok-place.place in
     let p = c.index_mut.result.now in
-    let stands = c.in_ok-place.ensures.place in
-    let there = lent-at name rs place p c.in_ok-place.ensures.place c.index_mut.ensures.value in
-    let called = subst (λ (l : List Named). registry_in l name ≡ Some (named_view p).held) c.in_ok-place.ensures.mentioned (registry-at name rs place p stands there) in
+    let called = called-at name c.mention.new.registries.items (mentioned olds name) c.in_ok-place.place p c.in_ok-place.ensures.place c.index_mut.ensures.value c.in_ok-place.ensures.mentioned in
     let some = c.publish_in.ensures.again again in (
       (named_view p).held,
       mentioned-was name olds (named_view p).held called (λ new. opened-none (key_of (length olds)) package_name version (subst (λ (h : Held). IsSome (release_in h package_name version)) new some)),
