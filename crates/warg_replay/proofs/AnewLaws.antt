@@ -73,8 +73,7 @@ module _ {T : Type 0} (Steps : T → Asked → T → Type 0) (accepts : Accepts)
         parts = planned.parts;
         session = subst (λ a. IsSession a old.asker IsComponent (wanted found.settings) nothing nothing_known planned.parts) is.accepts_so planned.session;
         once = planned.once;
-        ended = new.transcript.link;
-        replied = subst (λ l. Exchanges Steps l xs new.transcript.link) is.link planned.kept.passed;
+        replied = (new.transcript.link, subst (λ l. Exchanges Steps l xs new.transcript.link) is.link planned.kept.passed);
         plan = subst (λ a. IsPlanOf a old.asker IsComponent nothing xs (wanted found.settings) es) is.accepts_so planned.plan;
         digests = planned.digests;
         linked = linked;

@@ -26,7 +26,7 @@ use Rattle.warg_client.specs.ClientError.TheVariants as told
 use Rattle.warg_client.specs.Undisturbed.{IsUnreplied, pages_of_parts, registry_in}
 use Rattle.warg_client.specs.Complete.{IsValidCall}
 use Rattle.warg_client.specs.Assembled.{wanted}
-use Rattle.warg_replay.specs.Anew.{AsksHome, HaveNotFailed, IsAnewFault, IsAssembledAnew, IsRefusedAnew, nothing, page_limit, says}
+use Rattle.warg_replay.specs.Anew.{AsksHome, HaveNotFailed, IsAnewFault, IsAssembledAnew, IsAssembledBy, IsRefusedAnew, nothing, page_limit}
 use Rattle.warg_replay.specs.Replay.{IsAnew, IsRefused, IsReplayFault, IsReplayable, IsReplayed}
 
 -- recorded replies at the beginning
@@ -39,10 +39,10 @@ unfolding Exchanges
 replies_of [] old new same = sym (ap (λ r. r.left) same)
 replies_of (x ∷ xs) old new h = h.1.1 ∙ ap (λ rest. x.reply ∷ rest) (replies_of xs h.0 new h.2)
 
--- what is assembled over recorded replies has the first of them
-pub replayed : (accepts : Accepts) (replies : List Reply) (link : Recorded) (text lock bytes : List ℕ) (left : List (List ℕ)) (es : List Entry) → link ≡ begun replies
-    → IsAssembledAnew IsRecordedStep accepts link text es left lock bytes → IsReplayed accepts replies text es left lock bytes
-replayed accepts replies link text lock bytes left es is made = record {
+-- what is assembled by exchanges of which one thing holds is so by those of which another follows
+by_replies : {A B : List Exchange → Type 0} → ((xs : List Exchange) → A xs → B xs) → (accepts : Accepts) (text : List ℕ) (es : List Entry) (left : List (List ℕ)) (lock bytes : List ℕ)
+    → IsAssembledBy A accepts text es left lock bytes → IsAssembledBy B accepts text es left lock bytes
+by_replies follows accepts text es left lock bytes made = record {
   settings = made.settings;
   reads = made.reads;
   asks = made.asks;
@@ -50,12 +50,18 @@ replayed accepts replies link text lock bytes left es is made = record {
   parts = made.parts;
   session = made.session;
   once = made.once;
-  replied = record { unused = made.ended.left; are = sym (ap (λ l. l.left) is) ∙ replies_of (flat_map exchanges_in made.parts) link made.ended made.replied };
+  replied = follows (flat_map exchanges_in made.parts) made.replied;
   plan = made.plan;
   digests = made.digests;
   linked = made.linked;
   allowed = made.allowed;
 }
+
+-- what is assembled over recorded replies has the first of them
+pub replayed : (accepts : Accepts) (replies : List Reply) (link : Recorded) (text lock bytes : List ℕ) (left : List (List ℕ)) (es : List Entry) → link ≡ begun replies
+    → IsAssembledAnew IsRecordedStep accepts link text es left lock bytes → IsReplayed accepts replies text es left lock bytes
+replayed accepts replies link text lock bytes left es is made =
+    by_replies (λ xs replied. record { unused = replied.0.left; are = sym (ap (λ l. l.left) is) ∙ replies_of xs link replied.0 replied.1 }) accepts text es left lock bytes made
 
 -- why nothing is assembled
 refused_over : (accepts : Accepts) (replies : List Reply) (e : ClientError) (text : List ℕ) → IsRefusedAnew IsRecordedStep accepts (begun replies) e text → IsRefused accepts replies e text

@@ -9,6 +9,7 @@ use Rattle.warg_log.specs.Rules.{Accepts}
 use Rattle.warg_hint.specs.Hint.{is_same}
 use Rattle.warg_hint.specs.declared.decide.AlwaysDecide.{AlwaysDecide}
 use Rattle.warg_exchange.specs.Requests.{Asker}
+use Rattle.warg_exchange.specs.declared.exchange.Exchange.{Exchange}
 use Rattle.warg_api.specs.Asking.{asker}
 use Rattle.warg_api.specs.Link.{Asked, Exchanges}
 use Rattle.compose_config.specs.Plan.{Settings}
@@ -94,25 +95,29 @@ pub record IsAnewOver {T : Type 0} (accepts : Accepts) (told : T) (s : Seen T Al
   pub steady : HaveNotFailed s.faults
   pub can_be_read : ReadsStores s
 
+-- Exchanges of which this holds are those to a session of the plan of a text, from nothing that was known, which updates each
+-- package once. The entries are the plan over the logs that these exchanges alone prove; each content has its digest; and the
+-- bytes have exactly one reading, whose image is that of the plan. So has the lock, which leaves imports of these names open;
+-- and none is left open where the text disallows it.
+pub record IsAssembledBy (Replied : List Exchange → Type 0) (accepts : Accepts) (text : List ℕ) (entries : List Entry)
+    (left : List (List ℕ)) (lock bytes : List ℕ) : Type 0 where
+  pub settings : Settings
+  pub reads : IsPlanText text settings
+  pub asks : Registry → Asker
+  pub home : AsksHome asks
+  pub parts : List Part
+  pub session : IsSession accepts asks IsComponent (wanted settings) nothing nothing_known parts
+  pub once : AreOnce parts
+  pub replied : Replied (flat_map exchanges_in parts)
+  pub plan : IsPlanOf accepts asks IsComponent nothing (flat_map exchanges_in parts) (wanted settings) entries
+  pub digests : AllByRecursion (λ e. sha256 e.content ≡ e.digest) entries
+  pub linked : IsPlanLinked entries left lock bytes
+  pub allowed : IsAllowed settings.disallow_imports entries
+
 module _ {T : Type 0} (Steps : T → Asked → T → Type 0) (accepts : Accepts) (told : T) where
-  -- Over a link of which this was told, exchanges are those to a session of the plan of a text, from nothing that was known,
-  -- which updates each package once. The entries are the plan over the logs that these exchanges alone prove; each content
-  -- has its digest; and the bytes have exactly one reading, whose image is that of the plan. So has the lock, which leaves
-  -- imports of these names open; and none is left open where the text disallows it.
-  pub record IsAssembledAnew (text : List ℕ) (entries : List Entry) (left : List (List ℕ)) (lock bytes : List ℕ) : Type 0 where
-    pub settings : Settings
-    pub reads : IsPlanText text settings
-    pub asks : Registry → Asker
-    pub home : AsksHome asks
-    pub parts : List Part
-    pub session : IsSession accepts asks IsComponent (wanted settings) nothing nothing_known parts
-    pub once : AreOnce parts
-    pub ended : T
-    pub replied : Exchanges Steps told (flat_map exchanges_in parts) ended
-    pub plan : IsPlanOf accepts asks IsComponent nothing (flat_map exchanges_in parts) (wanted settings) entries
-    pub digests : AllByRecursion (λ e. sha256 e.content ≡ e.digest) entries
-    pub linked : IsPlanLinked entries left lock bytes
-    pub allowed : IsAllowed settings.disallow_imports entries
+  -- the same by exchanges over a link of which this was told
+  abbrev pub IsAssembledAnew : List ℕ → List Entry → List (List ℕ) → (lock bytes : List ℕ) → Type 0
+  IsAssembledAnew = IsAssembledBy (λ xs. (ended : T) × Exchanges Steps told xs ended) accepts
 
   -- Such a client refuses the text, or does not find its plan, or does not link it, by the cause that an assembly has. Where
   -- nothing stood in the way of it, memory was short, or the link gave no reply.

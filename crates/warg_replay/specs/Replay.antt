@@ -2,7 +2,6 @@
 pub use Rattle.warg_replay.specs.Anew.{HaveNotFailed, accepts_listed, nothing, page_limit, says}
 use Rattle.std.specs.Prelude.{◌≡◌, ◌≤◌, ◌⊎◌, ℕ, List, [], Ok}
 use Rattle.std.specs.List.{AllByRecursion, flat_map}
-use Rattle.sha2.specs.Sha256.{sha256}
 use Rattle.warg_log.specs.Rules.{Accepts}
 use Rattle.warg_hint.specs.declared.decide.AlwaysDecide.{AlwaysDecide}
 use Rattle.warg_exchange.specs.declared.exchange.Reply.{Reply}
@@ -14,36 +13,20 @@ use Rattle.compose_config.specs.Plan.{Settings}
 use Rattle.warg_plan.specs.Walk.{Entry, nothing_known}
 use Rattle.warg_store.specs.Held.{Registry}
 use Rattle.warg_assemble.specs.Parts.{Part, exchanges_in, learnt_by}
-use Rattle.warg_assemble.specs.Session.{walked, AreOnce, IsSession, IsPlanOf}
+use Rattle.warg_assemble.specs.Session.{walked, IsSession}
 use Rattle.warg_client.specs.Seen.{Seen}
-use Rattle.warg_compose.specs.Linked.{IsLinkable, IsPlanLinked}
-use Rattle.warg_compose.specs.Open.{IsAllowed}
+use Rattle.warg_compose.specs.Linked.{IsLinkable}
 use Rattle.warg_compose.specs.Read.{IsComponent}
 use Rattle.warg_client.specs.Undisturbed.{pages_of_parts, registry_in}
 use Rattle.warg_client.specs.Text.{IsPlanText}
 use Rattle.warg_client.specs.ClientError.{ClientError}
 use Rattle.warg_client.specs.ClientError.TheVariants as error
 use Rattle.warg_client.specs.Assembled.{IsAssembleFault, wanted}
-use Rattle.warg_replay.specs.Anew.{AsksHome, IsAnewOver}
+use Rattle.warg_replay.specs.Anew.{AsksHome, IsAnewOver, IsAssembledBy}
 
--- The first replies are those to a session of the plan of a text, from nothing that was known, which updates each package
--- once. The entries are the plan over the logs that these exchanges alone prove; each content has its digest; and the bytes
--- have exactly one reading, whose image is that of the plan. So has the lock, which leaves imports of these names open; and
--- none is left open where the text disallows it.
-pub record IsReplayed (accepts : Accepts) (replies : List Reply) (text : List ℕ) (entries : List Entry)
-    (left : List (List ℕ)) (lock bytes : List ℕ) : Type 0 where
-  pub settings : Settings
-  pub reads : IsPlanText text settings
-  pub asks : Registry → Asker
-  pub home : AsksHome asks
-  pub parts : List Part
-  pub session : IsSession accepts asks IsComponent (wanted settings) nothing nothing_known parts
-  pub once : AreOnce parts
-  pub replied : AreRepliesOf (flat_map exchanges_in parts) replies
-  pub plan : IsPlanOf accepts asks IsComponent nothing (flat_map exchanges_in parts) (wanted settings) entries
-  pub digests : AllByRecursion (λ e. sha256 e.content ≡ e.digest) entries
-  pub linked : IsPlanLinked entries left lock bytes
-  pub allowed : IsAllowed settings.disallow_imports entries
+-- the component of the plan of a text (`IsAssembledBy`), where the first replies are those to its session
+abbrev pub IsReplayed : Accepts → List Reply → List ℕ → List Entry → List (List ℕ) → (lock bytes : List ℕ) → Type 0
+IsReplayed accepts replies = IsAssembledBy (λ xs. AreRepliesOf xs replies) accepts
 
 -- A text is that of a plan that can be linked, which a session finds from nothing that was known, and the first replies
 -- are those of the session. The names of its registries are values of headers, and it asks for no more
