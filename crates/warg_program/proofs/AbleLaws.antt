@@ -110,7 +110,7 @@ module _ (one_document : OneDocument) where
     read_short _ path bytes there h = absurd h
 
     config_short : (s : Stop) → IsConfigCause s can.config before after → IsShortOfMemory s
-    config_short (stop.BadConfig at e) h = absurd ((told_of (HoldsNone can.config e) h.1).none can.composable.settings can.composable.says)
+    config_short (stop.BadConfig at refusal) h = absurd ((told_of (HoldsNone can.config refusal.error) h.1).none can.composable.settings can.composable.says)
     config_short s h = by s h
       where
         by : (s : Stop) → IsReadCause s can.config before after → IsShortOfMemory s

@@ -37,7 +37,7 @@ module _ (old mid after : SeenFiles) (kept : mid.held ≡ old.held) (rises : old
 
 -- ---- the stop of an error
 
-abbrev is_memory : ClientError → Bool
+abbrev pub is_memory : ClientError → Bool
 is_memory error.Memory = true
 is_memory _ = false
 

@@ -55,8 +55,7 @@ made_lines lock bundle = codes "lock " ++ digest_of lock ++ codes "bundle " ++ d
 -- of the component
 abbrev pub assembly_lines : List Entry → List (List ℕ) → List ℕ → List ℕ → List ℕ
 assembly_lines entries left lock bundle =
-    flat_map entry_line entries ++ flat_map left_line left ++ codes "lock " ++ digest_of lock ++ codes "bundle "
-    ++ digest_of bundle
+    flat_map entry_line entries ++ flat_map left_line left ++ made_lines lock bundle
 
 -- the lines of the demo world: how many entries its plan has, and how many imports it leaves open; and those of the lock and
 -- of the component

@@ -24,4 +24,4 @@ pub use program::{outcome, run};
 pub use stop::{Access, Form, Stop};
 pub use warg_replay::ClientError;
 pub use wasm_compose::Why;
-pub use wasm_compose::composer::{ComposerError, ConfigError};
+pub use wasm_compose::composer::{ComposerError, ConfigError, ConfigRefusal};

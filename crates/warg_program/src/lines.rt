@@ -175,8 +175,8 @@ fn line_of(alloc: Global, stop: &Stop<'_>) -> Result<String, AllocError>
         Stop::BadComponent { .. } => String::from_str(alloc, "refused BadComponent\n"),
         Stop::Incompatible { .. } => String::from_str(alloc, "refused Incompatible\n"),
         Stop::TooLarge { .. } => String::from_str(alloc, "refused TooLarge\n"),
-        Stop::BadConfig { error, .. } => {
-            let name = config_variant(error);
+        Stop::BadConfig { refusal, .. } => {
+            let name = config_variant(&refusal.error);
             format!(in alloc; "refused {name}\n")
         }
         Stop::NotComposed(error) => {
