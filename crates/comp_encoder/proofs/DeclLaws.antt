@@ -10,7 +10,7 @@ use Rattle.comp_format.specs.CoreTypes.{ModuleDeclTree, ModuleDecls, module_decl
 use Rattle.comp_format.specs.Definitions as tree
 use Rattle.comp_format.specs.Definitions.{DeclTree, Decls, decls_of, definition_text, decl_text, decls_text}
 use Rattle.comp_format.specs.Views.{module_decl_tree, module_tree, decl_tree, component_type_tree, instance_type_tree}
-use Rattle.comp_format.proofs.ViewLaws.{module_is, modules_counted, component_is, instance_is, component_counted, instance_counted}
+use Rattle.comp_format.specs.ViewLaws.{module_is, modules_counted, component_is, instance_is, component_counted, instance_counted}
 use Rattle.comp_encoder.specs.Largest.{module_decl_largest, module_largest, decl_largest, decls_largest}
 use Rattle.comp_encoder.specs.Texts.{TextsOfModuleDecl, TextsOfModule, TextsOfDecl, TextsOfDecls}
 

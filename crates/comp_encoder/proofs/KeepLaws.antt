@@ -15,13 +15,13 @@ use Rattle.comp_format.specs.Definitions.{TypeTree, DefForm, definition_text}
 use Rattle.comp_format.specs.Parts.{CoreInstanceForm, InstanceForm, AliasForm, core_instance_at, instance_at, alias_at, core_instance_text, instance_text, alias_text}
 use Rattle.comp_format.specs.Items.{ImportTree, ExportTree, ItemTree, Custom, CoreModule, CoreMade, CoreTy, Component, Instance, Aliased, Ty, Canonical, Import, Export, ImportForm, ExportForm, import_at, export_at, import_text, export_text}
 use Rattle.comp_format.specs.Fits.{FitsAnyName, FitsItem, FitsCoreInstance, FitsCore, FitsDefinition, FitsInstance, FitsAlias, FitsCanon, FitsImport, FitsExport, IsCoreModule, IsComponent}
-use Rattle.comp_format.proofs.VectorLaws.{IsComplete, any_name_again, any_name_written}
-use Rattle.comp_format.proofs.CanonLaws.{canon_again, canon_written}
-use Rattle.comp_format.proofs.PartLaws.{core_instance_again, core_instance_written, instance_again, instance_written, alias_again, alias_written}
-use Rattle.comp_format.proofs.CoreTypeLaws.{core_again, core_written}
-use Rattle.comp_format.proofs.DefinitionLaws.{definition_again, definition_written}
-use Rattle.comp_format.proofs.ScopeLaws.{core_within, definition_within}
-use Rattle.comp_format.proofs.ItemLaws.{import_again, import_written, export_again, export_written}
+use Rattle.comp_format.specs.VectorLaws.{IsComplete, any_name_again, any_name_written}
+use Rattle.comp_format.specs.CanonLaws.{canon_again, canon_written}
+use Rattle.comp_format.specs.PartLaws.{core_instance_again, core_instance_written, instance_again, instance_written, alias_again, alias_written}
+use Rattle.comp_format.specs.CoreTypeLaws.{core_again, core_written}
+use Rattle.comp_format.specs.DefinitionLaws.{definition_again, definition_written}
+use Rattle.comp_format.specs.ScopeLaws.{core_within, definition_within}
+use Rattle.comp_format.specs.ItemLaws.{import_again, import_written, export_again, export_written}
 use Rattle.comp_encoder.specs.Writing.{is_shared, is_plain, item_id, item_text}
 use Rattle.comp_encoder.specs.Builder.{IsBytesOf, item_of, read_as, custom_of}
 

@@ -3,9 +3,9 @@ use Rattle.std.proofs.Common.{◌≡◌, ℕ, ◌<◌, ◌^◌, List, [], ◌∷
 use Rattle.std.proofs.lemmas.List.{append-nil}
 use Rattle.comp_format.specs.Numbers.{number_text}
 use Rattle.comp_format.specs.Sections.{Section, none, more, Framed, ContentForm, Reads, section_id, section_items, content_at, header}
-use Rattle.comp_format.proofs.NumberLaws.{number_written}
-use Rattle.comp_format.proofs.SectionLaws.{section_again}
-use Rattle.comp_format.proofs.ScopeLaws.{section_within}
+use Rattle.comp_format.specs.NumberLaws.{number_written}
+use Rattle.comp_format.specs.SectionLaws.{section_again}
+use Rattle.comp_format.specs.ScopeLaws.{section_within}
 use Rattle.comp_encoder.specs.Builder.{Whole, IsKept, items_read}
 
 -- a section's content is read as the section

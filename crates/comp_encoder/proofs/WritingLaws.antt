@@ -18,13 +18,13 @@ use Rattle.comp_format.specs.Parts.{CoreInstanceForm, InstanceForm, AliasForm, c
 use Rattle.comp_format.specs.Items.{ImportTree, ExportTree, ItemTree, Custom, CoreModule, CoreMade, CoreTy, Component, Instance, Aliased, Ty, Canonical, Import, Export, ImportForm, ExportForm, import_text, export_text}
 use Rattle.comp_format.specs.Sections.{Section, Named, CoreModules, CoreInstances, CoreTypes, Nested, Instances, Aliases, Types, Canons, Imports, Exports, Sections, none, more, Framed, Whole, ContentForm, SectionsForm, Reads, section_id, section_items, items_in}
 use Rattle.comp_format.specs.Fits.{FitsCoreInstance, FitsCore, FitsInstance, FitsAlias, FitsDefinition, FitsCanon, FitsImport, FitsExport, FitsItem}
-use Rattle.comp_format.proofs.NumberLaws.{number_written}
-use Rattle.comp_format.proofs.VectorLaws.{vector_written, any_name_written}
-use Rattle.comp_format.proofs.PartLaws.{core_instance_written, instance_written, alias_written}
-use Rattle.comp_format.proofs.CoreTypeLaws.{core_written}
-use Rattle.comp_format.proofs.DefinitionLaws.{definition_written}
-use Rattle.comp_format.proofs.CanonLaws.{canon_written}
-use Rattle.comp_format.proofs.ItemLaws.{import_written, export_written}
+use Rattle.comp_format.specs.NumberLaws.{number_written}
+use Rattle.comp_format.specs.VectorLaws.{vector_written, any_name_written}
+use Rattle.comp_format.specs.PartLaws.{core_instance_written, instance_written, alias_written}
+use Rattle.comp_format.specs.CoreTypeLaws.{core_written}
+use Rattle.comp_format.specs.DefinitionLaws.{definition_written}
+use Rattle.comp_format.specs.CanonLaws.{canon_written}
+use Rattle.comp_format.specs.ItemLaws.{import_written, export_written}
 use Rattle.comp_encoder.specs.Builder.{IsContentOf}
 use Rattle.comp_encoder.specs.Writing.{Entry, Single, GivenSection, WrittenSection, IsShort, items_of, item_id, item_text, is_shared, is_plain, alone, joins, joined, sections_of, content_text, section_text, component_text}
 

@@ -87,7 +87,7 @@ fn write_core_desc(out: &mut Sink, desc: CoreDesc) -> Result<(), Memory>
 
 /// A core type.
 #[cycle(core_writing)]
-#[tactic(auto, using(comp_format::proofs::ViewLaws::core_func, comp_format::proofs::ViewLaws::core_module, crate::proofs::LargestLaws::none_among), unfolding(comp_format::specs::CoreTypes::core_text, crate::specs::Largest::core_largest, crate::specs::Texts::TextsOfCore))]
+#[tactic(auto, using(comp_format::specs::ViewLaws::core_func, comp_format::specs::ViewLaws::core_module, crate::proofs::LargestLaws::none_among), unfolding(comp_format::specs::CoreTypes::core_text, crate::specs::Largest::core_largest, crate::specs::Texts::TextsOfCore))]
 pub fn write_core(out: &mut Sink, ty: &CoreType) -> Result<(), Memory>
     ensures text { OnOk result (out.new.bytes.items ≡ out.old.bytes.items ++ core_text (core_tree ty.now)) }
     ensures largest { OnOk result (out.new.largest ≡ max out.old.largest (core_largest (core_tree ty.now))) }
@@ -106,7 +106,7 @@ pub fn write_core(out: &mut Sink, ty: &CoreType) -> Result<(), Memory>
 
 /// A type of core modules.
 #[cycle(core_writing)]
-#[tactic(auto, using(comp_format::proofs::ViewLaws::module_is, comp_format::proofs::ViewLaws::modules_counted), unfolding(comp_format::specs::CoreTypes::core_text, crate::specs::Largest::core_largest, crate::specs::Texts::TextsOfCore))]
+#[tactic(auto, using(comp_format::specs::ViewLaws::module_is, comp_format::specs::ViewLaws::modules_counted), unfolding(comp_format::specs::CoreTypes::core_text, crate::specs::Largest::core_largest, crate::specs::Texts::TextsOfCore))]
 pub fn write_module(out: &mut Sink, ty: &ModuleType) -> Result<(), Memory>
     ensures text { OnOk result
         (out.new.bytes.items ≡ out.old.bytes.items ++ core_text (tree.Module (module_tree ty.now))) }
@@ -142,7 +142,7 @@ fn write_module_decls(out: &mut Sink, decls: &[ModuleDecl]) -> Result<(), Memory
 
 /// A declaration of a type of core modules.
 #[cycle(core_writing)]
-#[tactic(auto, using(comp_format::proofs::ViewLaws::module_decl_import, comp_format::proofs::ViewLaws::module_decl_core_ty, comp_format::proofs::ViewLaws::module_decl_alias, comp_format::proofs::ViewLaws::module_decl_export), unfolding(comp_format::specs::CoreTypes::module_decl_text, crate::specs::Largest::module_decl_largest, crate::specs::Texts::TextsOfModuleDecl))]
+#[tactic(auto, using(comp_format::specs::ViewLaws::module_decl_import, comp_format::specs::ViewLaws::module_decl_core_ty, comp_format::specs::ViewLaws::module_decl_alias, comp_format::specs::ViewLaws::module_decl_export), unfolding(comp_format::specs::CoreTypes::module_decl_text, crate::specs::Largest::module_decl_largest, crate::specs::Texts::TextsOfModuleDecl))]
 fn write_module_decl(out: &mut Sink, decl: &ModuleDecl) -> Result<(), Memory>
     ensures text { OnOk result
         (out.new.bytes.items ≡ out.old.bytes.items ++ module_decl_text (module_decl_tree decl.now)) }

@@ -65,7 +65,7 @@ fn write_optional(out: &mut Sink, index: Option<u32>) -> Result<(), Memory>
 
 /// A type.
 #[cycle(writing)]
-#[tactic(auto, using(comp_format::proofs::ViewLaws::type_defined, comp_format::proofs::ViewLaws::type_func, comp_format::proofs::ViewLaws::type_component, comp_format::proofs::ViewLaws::type_instance, comp_format::proofs::ViewLaws::type_resource), unfolding(comp_format::specs::Definitions::definition_text, crate::specs::Largest::definition_largest, crate::specs::Texts::TextsOfType))]
+#[tactic(auto, using(comp_format::specs::ViewLaws::type_defined, comp_format::specs::ViewLaws::type_func, comp_format::specs::ViewLaws::type_component, comp_format::specs::ViewLaws::type_instance, comp_format::specs::ViewLaws::type_resource), unfolding(comp_format::specs::Definitions::definition_text, crate::specs::Largest::definition_largest, crate::specs::Texts::TextsOfType))]
 pub fn write_type(out: &mut Sink, ty: &DefType) -> Result<(), Memory>
     ensures text { OnOk result (out.new.bytes.items ≡ out.old.bytes.items ++ definition_text (type_tree ty.now)) }
     ensures largest { OnOk result (out.new.largest ≡ max out.old.largest (definition_largest (type_tree ty.now))) }
@@ -89,7 +89,7 @@ pub fn write_type(out: &mut Sink, ty: &DefType) -> Result<(), Memory>
 
 /// A type of components.
 #[cycle(writing)]
-#[tactic(auto, using(comp_format::proofs::ViewLaws::component_is, comp_format::proofs::ViewLaws::component_counted), unfolding(comp_format::specs::Definitions::definition_text, crate::specs::Largest::definition_largest, crate::specs::Texts::TextsOfType))]
+#[tactic(auto, using(comp_format::specs::ViewLaws::component_is, comp_format::specs::ViewLaws::component_counted), unfolding(comp_format::specs::Definitions::definition_text, crate::specs::Largest::definition_largest, crate::specs::Texts::TextsOfType))]
 pub fn write_component(out: &mut Sink, ty: &ComponentType) -> Result<(), Memory>
     ensures text { OnOk result
         (out.new.bytes.items ≡ out.old.bytes.items ++ definition_text (tree.Component (component_type_tree ty.now))) }
@@ -104,7 +104,7 @@ pub fn write_component(out: &mut Sink, ty: &ComponentType) -> Result<(), Memory>
 
 /// A type of instances.
 #[cycle(writing)]
-#[tactic(auto, using(comp_format::proofs::ViewLaws::instance_is, comp_format::proofs::ViewLaws::instance_counted), unfolding(comp_format::specs::Definitions::definition_text, crate::specs::Largest::definition_largest, crate::specs::Texts::TextsOfType))]
+#[tactic(auto, using(comp_format::specs::ViewLaws::instance_is, comp_format::specs::ViewLaws::instance_counted), unfolding(comp_format::specs::Definitions::definition_text, crate::specs::Largest::definition_largest, crate::specs::Texts::TextsOfType))]
 pub fn write_instance(out: &mut Sink, ty: &InstanceType) -> Result<(), Memory>
     ensures text { OnOk result
         (out.new.bytes.items ≡ out.old.bytes.items ++ definition_text (tree.Instance (instance_type_tree ty.now))) }
@@ -139,7 +139,7 @@ fn write_decls(out: &mut Sink, decls: &[Decl]) -> Result<(), Memory>
 
 /// A declaration.
 #[cycle(writing)]
-#[tactic(auto, using(comp_format::proofs::ViewLaws::decl_core_ty, comp_format::proofs::ViewLaws::decl_ty, comp_format::proofs::ViewLaws::decl_alias, comp_format::proofs::ViewLaws::decl_import, comp_format::proofs::ViewLaws::decl_export), unfolding(comp_format::specs::Definitions::decl_text, crate::specs::Largest::decl_largest, crate::specs::Texts::TextsOfDecl))]
+#[tactic(auto, using(comp_format::specs::ViewLaws::decl_core_ty, comp_format::specs::ViewLaws::decl_ty, comp_format::specs::ViewLaws::decl_alias, comp_format::specs::ViewLaws::decl_import, comp_format::specs::ViewLaws::decl_export), unfolding(comp_format::specs::Definitions::decl_text, crate::specs::Largest::decl_largest, crate::specs::Texts::TextsOfDecl))]
 fn write_decl(out: &mut Sink, decl: &Decl) -> Result<(), Memory>
     ensures text { OnOk result (out.new.bytes.items ≡ out.old.bytes.items ++ decl_text (decl_tree decl.now)) }
     ensures largest { OnOk result (out.new.largest ≡ max out.old.largest (decl_largest (decl_tree decl.now))) }

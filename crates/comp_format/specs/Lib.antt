@@ -13,3 +13,15 @@ pub mod Sections
 pub mod Fits
 pub mod Forms
 pub mod Spaces
+pub mod NumberLaws
+pub mod VectorLaws
+pub mod TypeLaws
+pub mod PartLaws
+pub mod CoreTypeLaws
+pub mod DefinitionLaws
+pub mod CanonLaws
+pub mod ItemLaws
+pub mod SectionLaws
+pub mod ScopeLaws
+pub mod DepthLaws
+pub mod ViewLaws

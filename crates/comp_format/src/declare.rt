@@ -51,7 +51,7 @@ impl InstanceType {
     /// Declares a type, which is no resource.
     ///
     /// `TooLarge` has the number of declarations with this one, where that is above 2^32 - 1. A refusal adds nothing.
-    #[tactic(auto, using(crate::proofs::ViewLaws::instance_pushed, crate::proofs::ViewLaws::instance_counted))]
+    #[tactic(auto, using(crate::specs::ViewLaws::instance_pushed, crate::specs::ViewLaws::instance_counted))]
     pub fn ty(&mut self, _alloc: Global, ty: DefType) -> Result<(), EncodeError>
         ensures added { OnOk result
             (instance_type_tree self.new ≡ with_decl (instance_type_tree self.old) (tree.Ty (type_tree ty))) }
@@ -68,7 +68,7 @@ impl InstanceType {
     /// Declares a core type.
     ///
     /// `TooLarge` has the number of declarations with this one, where that is above 2^32 - 1. A refusal adds nothing.
-    #[tactic(auto, using(crate::proofs::ViewLaws::instance_pushed, crate::proofs::ViewLaws::instance_counted))]
+    #[tactic(auto, using(crate::specs::ViewLaws::instance_pushed, crate::specs::ViewLaws::instance_counted))]
     pub fn core_ty(&mut self, _alloc: Global, ty: CoreType) -> Result<(), EncodeError>
         ensures added { OnOk result
             (instance_type_tree self.new ≡ with_decl (instance_type_tree self.old) (tree.CoreTy (core_tree ty))) }
@@ -86,7 +86,7 @@ impl InstanceType {
     /// scope.
     ///
     /// `TooLarge` has the number of declarations with this one, where that is above 2^32 - 1. A refusal adds nothing.
-    #[tactic(auto, using(crate::proofs::ViewLaws::instance_pushed, crate::proofs::ViewLaws::instance_counted))]
+    #[tactic(auto, using(crate::specs::ViewLaws::instance_pushed, crate::specs::ViewLaws::instance_counted))]
     pub fn alias(&mut self, _alloc: Global, alias: Alias) -> Result<(), EncodeError>
         ensures added { OnOk result
             (instance_type_tree self.new ≡ with_decl (instance_type_tree self.old) (tree.Aliased alias)) }
@@ -104,7 +104,7 @@ impl InstanceType {
     ///
     /// `TooLarge` has the length of `name`, or the number of declarations with this one, where that is above
     /// 2^32 - 1. A refusal adds nothing.
-    #[tactic(auto, using(crate::proofs::ViewLaws::instance_pushed, crate::proofs::ViewLaws::instance_counted))]
+    #[tactic(auto, using(crate::specs::ViewLaws::instance_pushed, crate::specs::ViewLaws::instance_counted))]
     pub fn export(&mut self, alloc: Global, name: &str, ty: TypeRef) -> Result<(), EncodeError>
         ensures added { OnOk result
             (instance_type_tree self.new ≡ with_decl (instance_type_tree self.old) (tree.Export name.now ty)) }
@@ -134,7 +134,7 @@ impl ComponentType {
     /// Declares a type, which is no resource.
     ///
     /// `TooLarge` has the number of declarations with this one, where that is above 2^32 - 1. A refusal adds nothing.
-    #[tactic(auto, using(crate::proofs::ViewLaws::component_pushed, crate::proofs::ViewLaws::component_counted))]
+    #[tactic(auto, using(crate::specs::ViewLaws::component_pushed, crate::specs::ViewLaws::component_counted))]
     pub fn ty(&mut self, _alloc: Global, ty: DefType) -> Result<(), EncodeError>
         ensures added { OnOk result
             (component_type_tree self.new ≡ with_decl (component_type_tree self.old) (tree.Ty (type_tree ty))) }
@@ -151,7 +151,7 @@ impl ComponentType {
     /// Declares a core type.
     ///
     /// `TooLarge` has the number of declarations with this one, where that is above 2^32 - 1. A refusal adds nothing.
-    #[tactic(auto, using(crate::proofs::ViewLaws::component_pushed, crate::proofs::ViewLaws::component_counted))]
+    #[tactic(auto, using(crate::specs::ViewLaws::component_pushed, crate::specs::ViewLaws::component_counted))]
     pub fn core_ty(&mut self, _alloc: Global, ty: CoreType) -> Result<(), EncodeError>
         ensures added { OnOk result
             (component_type_tree self.new ≡ with_decl (component_type_tree self.old) (tree.CoreTy (core_tree ty))) }
@@ -169,7 +169,7 @@ impl ComponentType {
     /// scope.
     ///
     /// `TooLarge` has the number of declarations with this one, where that is above 2^32 - 1. A refusal adds nothing.
-    #[tactic(auto, using(crate::proofs::ViewLaws::component_pushed, crate::proofs::ViewLaws::component_counted))]
+    #[tactic(auto, using(crate::specs::ViewLaws::component_pushed, crate::specs::ViewLaws::component_counted))]
     pub fn alias(&mut self, _alloc: Global, alias: Alias) -> Result<(), EncodeError>
         ensures added { OnOk result
             (component_type_tree self.new ≡ with_decl (component_type_tree self.old) (tree.Aliased alias)) }
@@ -187,7 +187,7 @@ impl ComponentType {
     ///
     /// `TooLarge` has the length of `name`, or the number of declarations with this one, where that is above
     /// 2^32 - 1. A refusal adds nothing.
-    #[tactic(auto, using(crate::proofs::ViewLaws::component_pushed, crate::proofs::ViewLaws::component_counted))]
+    #[tactic(auto, using(crate::specs::ViewLaws::component_pushed, crate::specs::ViewLaws::component_counted))]
     pub fn import(&mut self, alloc: Global, name: &str, ty: TypeRef) -> Result<(), EncodeError>
         ensures added { OnOk result
             (component_type_tree self.new ≡ with_decl (component_type_tree self.old) (tree.Import name.now ty)) }
@@ -207,7 +207,7 @@ impl ComponentType {
     ///
     /// `TooLarge` has the length of `name`, or the number of declarations with this one, where that is above
     /// 2^32 - 1. A refusal adds nothing.
-    #[tactic(auto, using(crate::proofs::ViewLaws::component_pushed, crate::proofs::ViewLaws::component_counted))]
+    #[tactic(auto, using(crate::specs::ViewLaws::component_pushed, crate::specs::ViewLaws::component_counted))]
     pub fn export(&mut self, alloc: Global, name: &str, ty: TypeRef) -> Result<(), EncodeError>
         ensures added { OnOk result
             (component_type_tree self.new ≡ with_decl (component_type_tree self.old) (tree.Export name.now ty)) }
@@ -237,7 +237,7 @@ impl ModuleType {
     /// Declares a core type.
     ///
     /// `TooLarge` has the number of declarations with this one, where that is above 2^32 - 1. A refusal adds nothing.
-    #[tactic(auto, using(crate::proofs::ViewLaws::module_pushed, crate::proofs::ViewLaws::modules_counted))]
+    #[tactic(auto, using(crate::specs::ViewLaws::module_pushed, crate::specs::ViewLaws::modules_counted))]
     pub fn core_ty(&mut self, _alloc: Global, ty: CoreType) -> Result<(), EncodeError>
         ensures added { OnOk result
             (module_tree self.new ≡ with_module_decl (module_tree self.old) (core.CoreTy (core_tree ty))) }
@@ -254,7 +254,7 @@ impl ModuleType {
     /// Declares an alias of the core type of this index of the scope that is `count` scopes further out.
     ///
     /// `TooLarge` has the number of declarations with this one, where that is above 2^32 - 1. A refusal adds nothing.
-    #[tactic(auto, using(crate::proofs::ViewLaws::module_pushed, crate::proofs::ViewLaws::modules_counted))]
+    #[tactic(auto, using(crate::specs::ViewLaws::module_pushed, crate::specs::ViewLaws::modules_counted))]
     pub fn alias(&mut self, _alloc: Global, count: u32, index: u32) -> Result<(), EncodeError>
         ensures added { OnOk result
             (module_tree self.new ≡ with_module_decl (module_tree self.old) (core.OuterAlias count index)) }
@@ -272,7 +272,7 @@ impl ModuleType {
     ///
     /// `TooLarge` has the length of `name`, or the number of declarations with this one, where that is above
     /// 2^32 - 1. A refusal adds nothing.
-    #[tactic(auto, using(crate::proofs::ViewLaws::module_pushed, crate::proofs::ViewLaws::modules_counted))]
+    #[tactic(auto, using(crate::specs::ViewLaws::module_pushed, crate::specs::ViewLaws::modules_counted))]
     pub fn export(&mut self, alloc: Global, name: &str, desc: CoreDesc) -> Result<(), EncodeError>
         ensures added { OnOk result
             (module_tree self.new ≡ with_module_decl (module_tree self.old) (core.Export name.now desc)) }
@@ -291,7 +291,7 @@ impl ModuleType {
     ///
     /// `TooLarge` has the length of `module` or `name`, or the number of declarations with this one, where that is
     /// above 2^32 - 1. A refusal adds nothing.
-    #[tactic(auto, using(crate::proofs::ViewLaws::module_pushed, crate::proofs::ViewLaws::modules_counted))]
+    #[tactic(auto, using(crate::specs::ViewLaws::module_pushed, crate::specs::ViewLaws::modules_counted))]
     pub fn import(
         &mut self,
         alloc: Global,

@@ -10,8 +10,8 @@ use Rattle.comp_format.specs.Items.{ItemTree, Component}
 use Rattle.comp_format.specs.CoreTypes.{core_at}
 use Rattle.comp_format.specs.Definitions.{definition_at}
 use Rattle.comp_format.specs.Sections.{Section, Nested, Sections, more, Reads, section_items, items_in, frame_at, section_at, behind_at, headed_at, header, content_with, content_at, sections_at, component_at}
-use Rattle.comp_format.proofs.SectionLaws.{frame_form, framed_shorter, component_form, section_framed}
-use Rattle.comp_format.proofs.DepthLaws.{component_within}
+use Rattle.comp_format.specs.SectionLaws.{frame_form, framed_shorter, component_form, section_framed}
+use Rattle.comp_format.specs.DepthLaws.{component_within}
 use Rattle.comp_reader.specs.declared.error.ReadError.{ReadError}
 use Rattle.comp_reader.specs.declared.error.ReadError.TheVariants as errors
 use Rattle.comp_reader.specs.declared.refusal.Refusal.{Refusal}

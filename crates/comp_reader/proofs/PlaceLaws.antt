@@ -15,13 +15,13 @@ use Rattle.comp_format.specs.Canons.{CanonForm, canon_at}
 use Rattle.comp_format.specs.Parts.{CoreInstanceForm, InstanceForm, AliasForm, core_instance_at, instance_at, alias_at}
 use Rattle.comp_format.specs.Items.{ItemTree, CoreMade, CoreTy, Instance, Aliased, Ty, Canonical, Import, Export, ImportForm, ExportForm, import_at, export_at}
 use Rattle.comp_format.specs.Sections.{Section, Named, CoreModules, CoreInstances, CoreTypes, Nested, Instances, Aliases, Types, Canons, Imports, Exports, Sections, none, more, Framed, Whole, ContentForm, SectionsForm, Reads, header, section_id, section_items, items_in, frame_at}
-use Rattle.comp_format.proofs.NumberLaws.{number_again}
-use Rattle.comp_format.proofs.CanonLaws.{canon_again}
-use Rattle.comp_format.proofs.PartLaws.{core_instance_again, instance_again, alias_again}
-use Rattle.comp_format.proofs.ItemLaws.{import_again, export_again}
-use Rattle.comp_format.proofs.SectionLaws.{frame_again, framed_shorter}
-use Rattle.comp_format.proofs.DepthLaws.{Below, core_or_deep, definition_or_deep}
-use Rattle.comp_format.proofs.ScopeLaws.{UsesUp, core_used, definition_used, alias_used, instance_used, core_instance_used, canon_used, import_used, export_used}
+use Rattle.comp_format.specs.NumberLaws.{number_again}
+use Rattle.comp_format.specs.CanonLaws.{canon_again}
+use Rattle.comp_format.specs.PartLaws.{core_instance_again, instance_again, alias_again}
+use Rattle.comp_format.specs.ItemLaws.{import_again, export_again}
+use Rattle.comp_format.specs.SectionLaws.{frame_again, framed_shorter}
+use Rattle.comp_format.specs.DepthLaws.{Below, core_or_deep, definition_or_deep}
+use Rattle.comp_format.specs.ScopeLaws.{UsesUp, core_used, definition_used, alias_used, instance_used, core_instance_used, canon_used, import_used, export_used}
 use Rattle.comp_reader.specs.declared.refusal.Refusal.{Refusal}
 use Rattle.comp_reader.specs.declared.refusal.Refusal.TheVariants as refusals
 use Rattle.comp_reader.specs.declared.places.ItemPlace.{ItemPlace}

@@ -6,10 +6,10 @@ use Rattle.comp_format.specs.Fault.{Fault}
 use Rattle.comp_format.specs.Numbers.{FormOf, number_at}
 use Rattle.comp_format.specs.Vectors.{ReaderOf, Many, many_at}
 use Rattle.comp_format.specs.Sections.{Whole}
-use Rattle.comp_format.proofs.NumberLaws.{number_again, leb_shorter}
-use Rattle.comp_format.proofs.VectorLaws.{IsComplete}
-use Rattle.comp_format.proofs.DepthLaws.{Below, first_below}
-use Rattle.comp_format.proofs.ScopeLaws.{UsesUp, many_used}
+use Rattle.comp_format.specs.NumberLaws.{number_again, leb_shorter}
+use Rattle.comp_format.specs.VectorLaws.{IsComplete}
+use Rattle.comp_format.specs.DepthLaws.{Below, first_below}
+use Rattle.comp_format.specs.ScopeLaws.{UsesUp, many_used}
 use Rattle.comp_reader.specs.declared.refusal.Refusal.{Refusal}
 use Rattle.comp_reader.specs.Refusal.{Fails}
 use Rattle.comp_reader.specs.Places.{ValueFirst, behind_many_at}

@@ -5,8 +5,8 @@ use Rattle.comp_format.specs.Items.{ItemTree}
 use Rattle.comp_format.specs.Fits.{IsComponent}
 use Rattle.comp_format.specs.Fault.{Fault}
 use Rattle.comp_format.specs.Sections.{Sections, Nested, Reads, component_at, items_in}
-use Rattle.comp_format.proofs.ScopeLaws.{section_within}
-use Rattle.comp_format.proofs.SectionLaws.{component_again, component_form}
+use Rattle.comp_format.specs.ScopeLaws.{section_within}
+use Rattle.comp_format.specs.SectionLaws.{component_again, component_form}
 use Rattle.comp_entity.specs.declared.entity.Entity.{Entity}
 use Rattle.comp_entity.specs.Entity.{EntityTree}
 use Rattle.comp_entity.specs.Views.{entity_tree, named_entities}

@@ -1,5 +1,2 @@
-pub mod Pieces
-pub mod Lists
-pub mod Maps
 pub mod Nodes
 pub mod Characters

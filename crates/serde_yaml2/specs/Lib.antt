@@ -7,3 +7,6 @@ pub mod ReturnLaws
 pub mod NodeReturns
 pub mod NodeReturnLaws
 pub mod SeenLaws
+pub mod PieceLaws
+pub mod ListLaws
+pub mod MapLaws

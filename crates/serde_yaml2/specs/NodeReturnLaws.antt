@@ -19,7 +19,7 @@ use Rattle.yaml_text.specs.Written.{ReadsBack, ElementsReadBack, MembersReadBack
 use Rattle.yaml_read.specs.Any.{data_of, items_from, entries_from, kind_data, listed, mapped}
 use Rattle.yaml_read.specs.Collections.{pushed}
 use Rattle.yaml_read.specs.Nodes.{value_of}
-use Rattle.yaml_read.proofs.Numbers.{numeral_true}
+use Rattle.yaml_read.specs.NumberLaws.{numeral_true}
 use Rattle.serde_yaml2.specs.Nodes.{data_written, items_written, members_written}
 use Rattle.serde_yaml2.specs.NodeReturns.{DataReturns, ItemsReturn, MembersReturn, entries_in}
 use Rattle.serde_yaml2.specs.Returns.{IsBetween}

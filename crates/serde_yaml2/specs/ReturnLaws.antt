@@ -20,7 +20,7 @@ use Rattle.yaml_read.specs.Scalar.{truth, character, number_or, unsigned, signed
 use Rattle.yaml_read.specs.Collections.{pushed}
 use Rattle.yaml_read.specs.Nodes.{value_of, plain_node, option_node, mapped_node, seq_as, map_as, pair_node, triple_node}
 use Rattle.yaml_read.specs.Entries.{seen_entry}
-use Rattle.yaml_read.proofs.Numbers.{unsigned_is, signed_is}
+use Rattle.yaml_read.specs.NumberLaws.{unsigned_is, signed_is}
 use Rattle.serde_yaml2.specs.Values.{character_of, optional, list_of, map_of, pair_of, triple_of}
 use Rattle.serde_yaml2.specs.Returns.{IsBetween, stands_for_nothing, OptionReturns, EntryReturns, MapReturns}
 

@@ -95,7 +95,7 @@ impl YamlSerializer {
     }
 
     /// A text, in quotes or as a block of lines.
-    #[tactic(auto, using(crate::proofs::Pieces::cut_held))]
+    #[tactic(auto, using(crate::specs::PieceLaws::cut_held))]
     pub fn write_text(&mut self, value: &str) -> Result<(), Errors>
         ensures { Writes result (output_of self.old) (spec.text value.now) (output_of self.new) }
     {
@@ -177,7 +177,7 @@ impl YamlSerializer {
     }
 
     /// Begins a list or map of so many parts: writes what stands for none.
-    #[tactic(auto, using(crate::proofs::Pieces::cut_none))]
+    #[tactic(auto, using(crate::specs::PieceLaws::cut_none))]
     pub(crate) fn begin(&mut self, len: usize, empty: &str) -> Result<(), Errors>
         ensures { Puts result (output_of self.old) (head len empty.now) 1 (output_of self.new) }
     {
@@ -261,7 +261,7 @@ impl YamlSerializer {
     }
 
     /// A piece of text.
-    #[tactic(auto, using(crate::proofs::Pieces::cut_none))]
+    #[tactic(auto, using(crate::specs::PieceLaws::cut_none))]
     pub(crate) fn push(&mut self, piece: &str) -> Result<(), Errors>
         ensures { Pushes result (output_of self.old) piece.now (output_of self.new) }
     {

@@ -10,7 +10,7 @@ use Rattle.warg_record.specs.Envelope.{Signed, IsEnvelopeOf, IsMessageOf}
 use Rattle.warg_record.specs.Key.{IsKeyText, is_key_text}
 use Rattle.warg_record.specs.Reading.{record_of}
 use Rattle.warg_record.specs.Record.{Kind, PlainRecord}
-use Rattle.warg_record.proofs.RecordLaws.{record_of-again, record_of-sound}
+use Rattle.warg_record.specs.RecordLaws.{record_of-again, record_of-sound}
 use Rattle.warg_log.specs.Breaches.{IsBreach, wants_memory}
 use Rattle.warg_log.specs.Lawful.{IsLawful}
 use Rattle.warg_log.specs.Rules.{Breach, any_signature, breach_of}

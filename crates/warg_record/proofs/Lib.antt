@@ -1,10 +1,2 @@
-pub mod KeyLaws
-pub mod VersionLaws
-pub mod TextLaws
-pub mod Steps
 pub mod Loop
-pub mod WireLaws
-pub mod FieldsLaws
-pub mod EntryLaws
-pub mod RecordLaws
 pub mod ValidLaws

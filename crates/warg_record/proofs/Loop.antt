@@ -6,8 +6,8 @@ use Rattle.warg_record.specs.declared.error.EnvelopeError.{EnvelopeError}
 use Rattle.warg_record.specs.declared.error.EnvelopeError.TheVariants as error
 use Rattle.warg_record.specs.Answer.{Refuses}
 use Rattle.warg_record.specs.Reading.{◌>>=◌, varint_at, counted_at, field_at, each_field}
-use Rattle.warg_record.proofs.Steps.{bind_some, guard_some, pass_some, some_is, never}
-use Rattle.warg_record.proofs.WireLaws.{varint_at-sound}
+use Rattle.warg_record.specs.StepLaws.{bind_some, guard_some, pass_some, some_is, never}
+use Rattle.warg_record.specs.WireLaws.{varint_at-sound}
 
 -- a number takes a byte at least
 pub varint_at-shorter : (k : ℕ) (bytes : List ℕ) (x : ℕ × List ℕ) → varint_at k bytes ≡ Some x → length x.1 < length bytes

@@ -16,8 +16,8 @@ use Rattle.semver.specs.Order.{pre_cmp, build_cmp}
 use Rattle.semver.specs.OrderLaws.{order_ties, pre_total, pre-anti, build_total, build-anti}
 use Rattle.semver.specs.contracts.VersionOrd.TheImpl.{cmp-value}
 use Rattle.warg_record.specs.Reading.{version_of}
-use Rattle.warg_record.proofs.Steps.{some_is}
-use Rattle.warg_record.proofs.TextLaws.{version_of-sound, version_of-again}
+use Rattle.warg_record.specs.StepLaws.{some_is}
+use Rattle.warg_record.specs.TextLaws.{version_of-sound, version_of-again}
 
 pub tied : (o : Ordering) → (ordering_index o == 1) ≡ is_eq o
 tied Less = refl

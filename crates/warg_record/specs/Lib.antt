@@ -5,3 +5,11 @@ pub mod Reading
 pub mod Answer
 pub mod View
 pub mod Envelope
+pub mod KeyLaws
+pub mod VersionLaws
+pub mod TextLaws
+pub mod StepLaws
+pub mod WireLaws
+pub mod FieldsLaws
+pub mod EntryLaws
+pub mod RecordLaws

@@ -5,7 +5,7 @@ use Rattle.std.proofs.lemmas.Bool.{cases_Bool}
 use Rattle.yaml_scan.specs.Bytes.{is_space, is_white, is_clean}
 use Rattle.yaml_scan.specs.Lines.{is_over, is_passed, ends}
 use Rattle.yaml_small.specs.Places.{At, past, over}
-use Rattle.yaml_small.proofs.Marks.{and_parts, and_false}
+use Rattle.yaml_small.specs.MarkLaws.{and_parts, and_false}
 
 -- a choice that is made
 pub if_true : {A : Type 0} (b : Bool) (x y : A) → b ≡ true → cond b x y ≡ x

@@ -11,8 +11,8 @@ use Rattle.yaml_small.specs.Scalars.{Fault, Form}
 use Rattle.yaml_small.specs.Grammar.{closes_value, is_flow_colon}
 use Rattle.yaml_small.specs.Step.{Transition, transition, missing_transition, open_at, after_key_at, list_done, map_done, seq_done, pairs_done, root_done, done_at, step_at}
 use Rattle.yaml_small.specs.Stream.{State, top_of, changed, behind, Runs}
-use Rattle.yaml_small.proofs.Grows.{the_end, SameMode}
-use Rattle.yaml_small.proofs.Runs.{runs_of, from_of, step_of, top_pushed, state}
+use Rattle.yaml_small.specs.GrowthLaws.{the_end, SameMode}
+use Rattle.yaml_small.specs.RunLaws.{runs_of, from_of, step_of, top_pushed, state}
 use Rattle.yaml_completion.proofs.Along.{not_true, Along, stays, further}
 use Rattle.yaml_completion.proofs.Contents.{Ready}
 use Rattle.yaml_completion.proofs.Scans.{begins_low}

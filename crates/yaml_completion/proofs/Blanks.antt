@@ -7,9 +7,9 @@ use Rattle.yaml_small.specs.Trees.{Scalar, scalar_event}
 use Rattle.yaml_small.specs.Places.{next_at, at_dash}
 use Rattle.yaml_small.specs.Scalars.{quoted_at, scalar_token_at, key_at, is_key}
 use Rattle.yaml_small.specs.Step.{transition, settled, missing_transition, inline_at, node_at, below, item_at, under, value_at, explicit_at, key_transition, key_step, step_at}
-use Rattle.yaml_small.proofs.Grows.{the_end}
-use Rattle.yaml_small.proofs.Marks.{and_false}
-use Rattle.yaml_small.proofs.Runs.{state}
+use Rattle.yaml_small.specs.GrowthLaws.{the_end}
+use Rattle.yaml_small.specs.MarkLaws.{and_false}
+use Rattle.yaml_small.specs.RunLaws.{state}
 use Rattle.yaml_completion.proofs.Along.{if_false}
 use Rattle.yaml_completion.proofs.Contents.{place, next_end}
 use Rattle.yaml_completion.proofs.Frames.{in_flow, nested}

@@ -13,9 +13,9 @@ use Rattle.yaml_small.specs.Places.{At, past, over, next_at, begins, is_end, is_
 use Rattle.yaml_small.specs.Scalars.{Fault, NotCarried, is_scalar_token, is_key, begins_block}
 use Rattle.yaml_small.specs.Step.{Transition, list_start, map_start, inline_at, node_at, below, tabbed, item_at, under, value_at, explicit_at, key_step, line_fault, block_end, list_done, map_done}
 use Rattle.yaml_small.specs.Stream.{changed}
-use Rattle.yaml_small.proofs.Grows.{the_end}
-use Rattle.yaml_small.proofs.Runs.{popped}
-use Rattle.yaml_small.proofs.Marks.{and_parts, and_false, or_true, or_parts, both, no_key, opener_no_dash, seq_opens, map_opens}
+use Rattle.yaml_small.specs.GrowthLaws.{the_end}
+use Rattle.yaml_small.specs.RunLaws.{popped}
+use Rattle.yaml_small.specs.MarkLaws.{and_parts, and_false, or_true, or_parts, both, no_key, opener_no_dash, seq_opens, map_opens}
 use Rattle.yaml_completion.proofs.Along.{stays, ahead, further, is_solid, not_ended, solid_white}
 use Rattle.yaml_completion.proofs.Contents.{place}
 use Rattle.yaml_completion.proofs.ScalarTokens.{scalar_token_place, key_place, key_ok, same_key}

@@ -7,8 +7,8 @@ use Rattle.yaml_scan.specs.Lines.{is_over, is_passed, is_white_line, is_dashes, 
 use Rattle.yaml_scan.specs.Block.{is_document_mark, is_deeper, indent_of, is_inside, block_lines, behind_block, content, all_clean, between, is_joined, together, with_end, block_text}
 use Rattle.yaml_small.specs.Places.{At, next_at, begins, at_dashes, at_dots, is_dash}
 use Rattle.yaml_small.specs.Scalars.{Form, NotCarried, ScalarToken, scalar_token, folded_style, gathered, headed, is_indicator, block_at}
-use Rattle.yaml_small.proofs.Grows.{the_end}
-use Rattle.yaml_small.proofs.Marks.{and_parts, or_parts, or_true, both}
+use Rattle.yaml_small.specs.GrowthLaws.{the_end}
+use Rattle.yaml_small.specs.MarkLaws.{and_parts, or_parts, or_true, both}
 use Rattle.yaml_completion.proofs.Along.{if_true, if_false, joined, Along, Before, all_of, stops, counted, is_solid, solid_white, white_space, space_white}
 use Rattle.yaml_completion.proofs.Contents.{Instead, Ready, Reads, place, next_reads, next_end, next_passed, passed_on, last_passed, not_end}
 use Rattle.yaml_completion.proofs.ScalarTokens.{read_scalar_token, scalar_token_is}

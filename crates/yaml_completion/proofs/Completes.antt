@@ -9,10 +9,10 @@ use Rattle.yaml_small.specs.Places.{At, next_at}
 use Rattle.yaml_small.specs.Scalars.{NotCarried, open_fault}
 use Rattle.yaml_small.specs.Grammar.{without_mark, first_at}
 use Rattle.yaml_small.specs.Stream.{State, start, Runs}
-use Rattle.yaml_small.proofs.Scans.{lines_of-open}
-use Rattle.yaml_small.proofs.Marks.{and_false}
-use Rattle.yaml_small.proofs.Runs.{state}
-use Rattle.yaml_small.proofs.FoundText.{found}
+use Rattle.yaml_small.specs.ScanLaws.{lines_of-open}
+use Rattle.yaml_small.specs.MarkLaws.{and_false}
+use Rattle.yaml_small.specs.RunLaws.{state}
+use Rattle.yaml_small.specs.FoundTextLaws.{found}
 use Rattle.yaml_completion.specs.Completion.{Completed}
 use Rattle.yaml_completion.proofs.Along.{if_true, if_false, joined, Along, onward}
 use Rattle.yaml_completion.proofs.Contents.{Ready, next_reads}

@@ -11,9 +11,9 @@ use Rattle.yaml_small.specs.Places.{At, past, flow_next}
 use Rattle.yaml_small.specs.Grammar.{closes_value, is_flow_colon}
 use Rattle.yaml_small.specs.Step.{missing_transition, seq_entry, pairs_entry, open_at, after_key_at, seq_done, pairs_done, done_at, step_at}
 use Rattle.yaml_small.specs.Stream.{State}
-use Rattle.yaml_small.proofs.Grows.{the_end, SameMode}
-use Rattle.yaml_small.proofs.Marks.{and_parts, and_false, both}
-use Rattle.yaml_small.proofs.Runs.{state}
+use Rattle.yaml_small.specs.GrowthLaws.{the_end, SameMode}
+use Rattle.yaml_small.specs.MarkLaws.{and_parts, and_false, both}
+use Rattle.yaml_small.specs.RunLaws.{state}
 use Rattle.yaml_completion.proofs.Final.{FinalAt, final_at, comma_next}
 use Rattle.yaml_completion.proofs.ScalarTokens.{scalar_token_reads, plain_stops}
 use Rattle.yaml_completion.proofs.Along.{if_true, if_false, is_solid}

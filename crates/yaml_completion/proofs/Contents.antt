@@ -4,7 +4,7 @@ use Rattle.std.proofs.lemmas.Bool.{cases_Bool}
 use Rattle.yaml_scan.specs.Bytes.{is_space, is_white, spaces}
 use Rattle.yaml_scan.specs.Lines.{is_passed}
 use Rattle.yaml_small.specs.Places.{At, over, next_at, is_end}
-use Rattle.yaml_small.proofs.Grows.{the_end}
+use Rattle.yaml_small.specs.GrowthLaws.{the_end}
 use Rattle.yaml_completion.proofs.Along.{joined, Along, Before, all_of, stops, parted, counted, dropped, gone_over, is_solid, solid_white, white_space, space_white, solid_over, passes}
 
 -- other content at the same column

@@ -3,8 +3,8 @@ use Rattle.std.proofs.Common.{◌≡◌, ℕ, ◌⊎◌, List, [], ◌∷◌, �
 use Rattle.std.proofs.lemmas.Bool.{cases_Bool, eqb-true}
 use Rattle.yaml_scan.specs.Lines.{lines_of, lengthened, begins_feed}
 use Rattle.yaml_small.specs.Scalars.{NotCarried, open_fault}
-use Rattle.yaml_small.proofs.Scans.{lines_of-open}
-use Rattle.yaml_small.proofs.Marks.{and_parts, and_false}
+use Rattle.yaml_small.specs.ScanLaws.{lines_of-open}
+use Rattle.yaml_small.specs.MarkLaws.{and_parts, and_false}
 
 -- The text in front of the place, and behind it; and other text may stand there that begins with no line feed.
 pub record Divided (text : List ℕ) (before : List (List ℕ)) (front line : List ℕ) (later : List (List ℕ)) : Type 0 where

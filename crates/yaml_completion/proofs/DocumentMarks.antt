@@ -4,7 +4,7 @@ use Rattle.std.specs.List.{starts_with}
 use Rattle.yaml_scan.specs.Bytes.{ends_mark}
 use Rattle.yaml_scan.specs.Plain.{plain_len}
 use Rattle.yaml_small.specs.Places.{at_mark}
-use Rattle.yaml_small.proofs.Marks.{or_true}
+use Rattle.yaml_small.specs.MarkLaws.{or_true}
 use Rattle.yaml_completion.proofs.Contents.{place}
 use Rattle.yaml_completion.proofs.Scans.{Near, Looks, looks_behind, looks_far}
 use Rattle.yaml_completion.proofs.Stops.{no_dash, no_dot}

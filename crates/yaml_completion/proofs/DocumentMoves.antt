@@ -10,8 +10,8 @@ use Rattle.yaml_small.specs.declared.state.Frame.{Frame}
 use Rattle.yaml_small.specs.Places.{At, past, next_at, begins, is_end, at_dashes, at_dots}
 use Rattle.yaml_small.specs.Scalars.{Form, NotCarried}
 use Rattle.yaml_small.specs.Step.{transition, missing_transition, line_fault, dots_end, root_done, document_at, last_at}
-use Rattle.yaml_small.proofs.Grows.{the_end}
-use Rattle.yaml_small.proofs.Marks.{and_parts}
+use Rattle.yaml_small.specs.GrowthLaws.{the_end}
+use Rattle.yaml_small.specs.MarkLaws.{and_parts}
 use Rattle.yaml_completion.proofs.Along.{stays, ahead, is_solid}
 use Rattle.yaml_completion.proofs.Contents.{Ready, place}
 use Rattle.yaml_completion.proofs.Scans.{low_control, three}

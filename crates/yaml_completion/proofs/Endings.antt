@@ -10,9 +10,9 @@ use Rattle.yaml_small.specs.declared.state.Frame.TheVariants.{InList, InMap, InS
 use Rattle.yaml_small.specs.Places.{At, past, over, next_at, flow_next, begins, list_ends, map_ends}
 use Rattle.yaml_small.specs.Step.{Transition, transition, missing_transition, block_end, closed, seq_entry, pairs_entry, seq_done, pairs_done, list_done, map_done, root_done, done_at, document_at, last_at, step_at}
 use Rattle.yaml_small.specs.Stream.{State, top_of, behind, Runs}
-use Rattle.yaml_small.proofs.Grows.{the_end}
-use Rattle.yaml_small.proofs.Marks.{and_parts, or_true}
-use Rattle.yaml_small.proofs.Runs.{runs_of, top_pushed, length_pushed, popped, state, done, landed, settled_lands}
+use Rattle.yaml_small.specs.GrowthLaws.{the_end}
+use Rattle.yaml_small.specs.MarkLaws.{and_parts, or_true}
+use Rattle.yaml_small.specs.RunLaws.{runs_of, top_pushed, length_pushed, popped, state, done, landed, settled_lands}
 use Rattle.yaml_completion.proofs.Along.{not_true, if_true, if_false, is_solid, not_ended, solid_white, gone_over}
 use Rattle.yaml_completion.proofs.Contents.{place, next_end}
 use Rattle.yaml_completion.proofs.Frames.{is_flow, sits, nested, in_flow, flow_push, nested_pop, agreed, innermost}

@@ -5,7 +5,7 @@ use Rattle.yaml_scan.specs.Bytes.{is_space, is_white, is_flow_mark, is_control, 
 use Rattle.yaml_scan.specs.Lines.{ends}
 use Rattle.yaml_scan.specs.Plain.{parts, plain_len}
 use Rattle.yaml_small.specs.Places.{At, over, next_at, flow_next, begins, is_end}
-use Rattle.yaml_small.proofs.Marks.{and_parts, or_parts, not_so, both}
+use Rattle.yaml_small.specs.MarkLaws.{and_parts, or_parts, not_so, both}
 use Rattle.yaml_completion.proofs.Along.{not_true, if_false, not_ended, gone_over}
 use Rattle.yaml_completion.proofs.Contents.{place, Parting, by_tab, by_line_end, by_nothing, comma_behind}
 use Rattle.yaml_completion.proofs.Scans.{begins_low, low, white_low, low_control, Near, near_of, looks_same}

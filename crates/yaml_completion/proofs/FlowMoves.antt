@@ -12,7 +12,7 @@ use Rattle.yaml_small.specs.Places.{At, past, over, next_at, flow_next, begins, 
 use Rattle.yaml_small.specs.Scalars.{ScalarToken, scalar_token_at}
 use Rattle.yaml_small.specs.Grammar.{closes_value, is_flow_colon}
 use Rattle.yaml_small.specs.Step.{inline_at, seq_entry, pairs_entry, flow_fault, flow_value, after_key_at, seq_fault, seq_done, pairs_done}
-use Rattle.yaml_small.proofs.Marks.{and_parts, both}
+use Rattle.yaml_small.specs.MarkLaws.{and_parts, both}
 use Rattle.yaml_completion.proofs.Along.{if_false, all_of, is_solid}
 use Rattle.yaml_completion.proofs.Contents.{Instead, place, spaced_at}
 use Rattle.yaml_completion.proofs.Scans.{begins_low, first_of, same_begins, same_parts, Looks, looks_comma, looks_bracket, looks_brace, looks_colon, near_of}

@@ -2,7 +2,7 @@
 use Rattle.std.proofs.Common.{◌≡◌, ◌⊎◌, List, [], ◌∷◌, ◌++◌, Bool, true, false, not, ◌&&◌, refl, sym, ap, ◌∙◌, inl, inr}
 use Rattle.yaml_small.specs.declared.state.Frame.{Frame}
 use Rattle.yaml_small.specs.declared.state.Frame.TheVariants.{InList, InMap, InSeq, InPairs}
-use Rattle.yaml_small.proofs.Marks.{and_parts}
+use Rattle.yaml_small.specs.MarkLaws.{and_parts}
 
 abbrev pub is_flow : Frame → Bool
 is_flow (InList col) = false

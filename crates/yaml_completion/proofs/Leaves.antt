@@ -15,10 +15,10 @@ use Rattle.yaml_small.specs.Scalars.{TooDeep, ScalarToken, scalar_token_at, bloc
 use Rattle.yaml_small.specs.Grammar.{is_quoted}
 use Rattle.yaml_small.specs.Step.{Transition, transition, opened, settled, scalar_token_transition, block_transition, missing_transition, key_transition, flow_key, closed, block_end}
 use Rattle.yaml_small.specs.Stream.{changed}
-use Rattle.yaml_small.proofs.Grows.{the_end, SameMode}
-use Rattle.yaml_small.proofs.Runs.{popped}
-use Rattle.yaml_small.proofs.Marks.{and_parts, both}
-use Rattle.yaml_small.proofs.Depth.{settled_change}
+use Rattle.yaml_small.specs.GrowthLaws.{the_end, SameMode}
+use Rattle.yaml_small.specs.RunLaws.{popped}
+use Rattle.yaml_small.specs.MarkLaws.{and_parts, both}
+use Rattle.yaml_small.specs.DepthLaws.{settled_change}
 use Rattle.yaml_completion.proofs.Along.{not_true, if_true, if_false, Along, stays, ahead, further, all_of, white_ends}
 use Rattle.yaml_completion.proofs.Contents.{place, spaced_at, tab_if, end_behind, by_tab, comma_behind, next_end, next_below}
 use Rattle.yaml_completion.proofs.Scans.{begins_low, first_of, looks_same, Near, near_of}

@@ -12,9 +12,9 @@ use Rattle.yaml_small.specs.Scalars.{Fault, ScalarToken, scalar_token_at, is_key
 use Rattle.yaml_small.specs.Grammar.{closes_value, is_flow_colon, is_quoted}
 use Rattle.yaml_small.specs.Step.{Transition, transition}
 use Rattle.yaml_small.specs.Stream.{changed}
-use Rattle.yaml_small.proofs.Grows.{the_end, SameMode}
-use Rattle.yaml_small.proofs.Found.{transition_is}
-use Rattle.yaml_small.proofs.Marks.{both}
+use Rattle.yaml_small.specs.GrowthLaws.{the_end, SameMode}
+use Rattle.yaml_small.specs.FoundLaws.{transition_is}
+use Rattle.yaml_small.specs.MarkLaws.{both}
 use Rattle.yaml_completion.proofs.Along.{if_true, if_false, Along}
 use Rattle.yaml_completion.proofs.Contents.{Instead, Ready, end_behind, Parting, comma_behind}
 use Rattle.yaml_completion.proofs.Scans.{begins_low, Near}

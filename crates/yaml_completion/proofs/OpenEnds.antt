@@ -4,7 +4,7 @@ use Rattle.std.proofs.lemmas.Bool.{cases_Bool}
 use Rattle.yaml_scan.specs.Bytes.{is_white}
 use Rattle.yaml_scan.specs.Lines.{is_passed, ends}
 use Rattle.yaml_small.specs.Places.{At, over, next_at, flow_next, is_end}
-use Rattle.yaml_small.proofs.Marks.{both}
+use Rattle.yaml_small.specs.MarkLaws.{both}
 use Rattle.yaml_completion.proofs.Along.{if_true, if_false, parted, is_solid, solid_white, solid_over, passes, white_ends, gone_over}
 use Rattle.yaml_completion.proofs.Contents.{place}
 use Rattle.yaml_completion.proofs.Tokens.{token_of, token_stands, token_passed}

@@ -8,7 +8,7 @@ use Rattle.yaml_scan.specs.Plain.{parts, with_byte, plain_len}
 use Rattle.yaml_small.specs.Grammar.{is_quoted}
 use Rattle.yaml_small.specs.Places.{At, past, over, begins, is_colon}
 use Rattle.yaml_small.specs.Scalars.{Fault, Form, ScalarToken, plain_at, scalar_token_at, colon_behind, key_at, is_scalar_token, is_key}
-use Rattle.yaml_small.proofs.Marks.{and_parts, and_false, not_so, both}
+use Rattle.yaml_small.specs.MarkLaws.{and_parts, and_false, not_so, both}
 use Rattle.yaml_completion.proofs.Along.{not_true, all_of, stops, gone_over}
 use Rattle.yaml_completion.proofs.Contents.{place, Spaced, spaced_at, tab_if, Parting, by_tab, by_line_end, by_nothing, comma_behind}
 use Rattle.yaml_completion.proofs.Scans.{begins_low, three, low_control, NearTo, Looks, looks_same, near_of, looks_behind, looks_far}

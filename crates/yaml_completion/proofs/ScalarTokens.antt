@@ -12,7 +12,7 @@ use Rattle.yaml_small.specs.Trees.{Scalar}
 use Rattle.yaml_small.specs.Grammar.{is_quoted}
 use Rattle.yaml_small.specs.Places.{At, past, over, begins, at_dashes, at_dots, at_mark, is_dash, is_colon}
 use Rattle.yaml_small.specs.Scalars.{Fault, Form, is_plain, ScalarToken, scalar_token, begins_at, start_fault, plain_at, quoted_at, scalar_token_at, colon_behind, key_at, is_scalar_token, is_key}
-use Rattle.yaml_small.proofs.Marks.{and_parts, and_false, or_parts, not_so, both, scalar_token_opener}
+use Rattle.yaml_small.specs.MarkLaws.{and_parts, and_false, or_parts, not_so, both, scalar_token_opener}
 use Rattle.yaml_completion.proofs.Along.{if_true, if_false, Along, ahead, further, all_of, parted, is_solid, dropped, gone_over}
 use Rattle.yaml_completion.proofs.Contents.{place}
 use Rattle.yaml_completion.proofs.DocumentMarks.{Unmarking, LastByte, last_byte, Behind, behind_near, same_at_mark}

@@ -10,7 +10,7 @@ use Rattle.yaml_scan.specs.Quoted.{digits_wanted, escaped}
 use Rattle.yaml_scan.specs.QuotedLaws.{found_is, same_text, same_rest, texted, text_on}
 use Rattle.yaml_scan.specs.QuotedScan.{Found, Open, Bad, with_text, single_at, Turn, text_turn, escape_turn, hex_turn, digit_turn, turn_at, continued, closes, double_at, double_quoted_at}
 use Rattle.yaml_small.specs.Places.{begins}
-use Rattle.yaml_small.proofs.Marks.{and_parts, and_false, not_so, both}
+use Rattle.yaml_small.specs.MarkLaws.{and_parts, and_false, not_so, both}
 
 abbrev pub first_of : List ℕ → Option ℕ
 first_of [] = None

@@ -3,7 +3,7 @@ use Rattle.std.proofs.Common.{zero, suc, arith, ◌≡◌, ℕ, List, [], ◌∷
 use Rattle.std.proofs.lemmas.Bool.{cases_Bool, eqb-true}
 use Rattle.yaml_scan.specs.Bytes.{is_space, is_white, is_flow_mark, is_control, ends_mark}
 use Rattle.yaml_scan.specs.Plain.{parts, ends_plain, with_byte, plain_len}
-use Rattle.yaml_small.proofs.Marks.{and_false, or_true, or_parts, not_so, both}
+use Rattle.yaml_small.specs.MarkLaws.{and_false, or_true, or_parts, not_so, both}
 use Rattle.yaml_completion.proofs.Scans.{begins_low, low_control, Near}
 
 -- where no plain scalar goes on, none does behind white space either

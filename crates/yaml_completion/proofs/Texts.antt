@@ -2,7 +2,7 @@
 use Rattle.std.proofs.Common.{◌≡◌, ℕ, List, [], ◌∷◌, ◌++◌, Bool, true, false, not, cond, ◌&&◌, eqb, refl, sym, ap, ◌∙◌, append-nil}
 use Rattle.yaml_scan.specs.Lines.{lines_of, lengthened, begins_feed}
 use Rattle.yaml_small.specs.Places.{At}
-use Rattle.yaml_small.proofs.Marks.{and_parts}
+use Rattle.yaml_small.specs.MarkLaws.{and_parts}
 use Rattle.yaml_completion.proofs.Along.{joined}
 
 -- no line feed

@@ -4,8 +4,8 @@ use Rattle.std.proofs.lemmas.Bool.{cases_Bool, eqb-true}
 use Rattle.yaml_scan.specs.Bytes.{is_space, is_white, spaces}
 use Rattle.yaml_scan.specs.Lines.{is_passed, ends}
 use Rattle.yaml_small.specs.Places.{At, over, next_at, flow_next, begins}
-use Rattle.yaml_small.proofs.Grows.{the_end}
-use Rattle.yaml_small.proofs.Marks.{and_parts, not_so, both}
+use Rattle.yaml_small.specs.GrowthLaws.{the_end}
+use Rattle.yaml_small.specs.MarkLaws.{and_parts, not_so, both}
 use Rattle.yaml_completion.proofs.Along.{if_true, if_false, joined, Along, ahead, all_of, stops, parted, solid_white, white_space, solid_over, passes, not_ended, gone_over}
 use Rattle.yaml_completion.proofs.Contents.{Instead, Reads, place, next_end, next_passed, next_stands, spaced, not_end, passed_on, Below, below_line}
 use Rattle.yaml_completion.proofs.Scans.{low, white_low, first_of, Looks, looks_same, looks_far}

@@ -8,7 +8,7 @@ use Rattle.yaml_small.specs.Scalars.{Fault}
 use Rattle.yaml_small.specs.Step.{Transition}
 use Rattle.std.proofs.lemmas.Bool.{eqb-true}
 use Rattle.yaml_scan.specs.Lines.{is_dashes}
-use Rattle.yaml_small.proofs.Marks.{and_parts}
+use Rattle.yaml_small.specs.MarkLaws.{and_parts}
 use Rattle.yaml_completion.proofs.Along.{ahead, further, all_of, stops, counted, is_solid, solid_white, white_space, gone_over}
 use Rattle.yaml_completion.proofs.Contents.{Instead, Ready, place, next_below, Spaced, spaced_at}
 use Rattle.yaml_completion.proofs.Scans.{low_control}

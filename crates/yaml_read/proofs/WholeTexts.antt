@@ -10,10 +10,10 @@ use Rattle.yaml_small.specs.Grammar.{Carried}
 use Rattle.yaml_small.specs.Step.{step_at}
 use Rattle.yaml_small.specs.Stream.{State, next, start, Runs}
 use Rattle.yaml_small.specs.declared.error.ScanError.TheVariants as scans
-use Rattle.yaml_small.proofs.FoundText.{found}
-use Rattle.yaml_small.proofs.Carries.{is_carried}
-use Rattle.yaml_small.proofs.EmittedText.{carried_emitted}
-use Rattle.yaml_small.proofs.Live.{stream_end}
+use Rattle.yaml_small.specs.FoundTextLaws.{found}
+use Rattle.yaml_small.specs.CarriedLaws.{is_carried}
+use Rattle.yaml_small.specs.EmittedTextLaws.{carried_emitted}
+use Rattle.yaml_small.specs.LiveLaws.{stream_end}
 use Rattle.yaml_read.specs.declared.error.DeError.{DeError}
 use Rattle.yaml_read.specs.declared.error.DeError.TheVariants as errors
 use Rattle.yaml_read.specs.Answers.{ReadGives, ReadFails}

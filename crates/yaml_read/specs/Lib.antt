@@ -18,3 +18,5 @@ pub mod Same
 pub mod Fed
 pub mod SameLaws
 pub mod Wrapped
+pub mod NumberLaws
+pub mod EntryLaws

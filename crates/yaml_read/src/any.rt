@@ -135,7 +135,7 @@ impl<'de> YamlDeserializer<'de> {
 
     /// The entries of a map up to its end, at most so many.
     #[cycle(data)]
-    #[tactic(auto, using(crate::proofs::AnyLoops::members_step, crate::proofs::Loops::entries_over, crate::proofs::Loops::entries_start, crate::proofs::EntryLemmas::seen_insert))]
+    #[tactic(auto, using(crate::proofs::AnyLoops::members_step, crate::proofs::Loops::entries_over, crate::proofs::Loops::entries_start, crate::specs::EntryLaws::seen_insert))]
     fn entries_within(
         &mut self,
         alloc: Global,

@@ -20,7 +20,7 @@ use Rattle.yaml_small.specs.Places.{At, over, next_at, flow_next, is_end, begins
 use Rattle.yaml_small.specs.Scalars.{Fault, Form, NotCarried, TooDeep, Cut, ScalarToken, begins_at, is_not_carried, is_tabbed, start_fault, plain_at, open_fault, quoted_at, scalar_token_at, colon_behind, key_at, is_key, begins_block, is_indicator, gathered, headed, block_at}
 use Rattle.yaml_small.specs.Step.{Transition, transition, opened, list_start, map_start, scalar_token_transition, block_transition, inline_at, node_at, below, tabbed, item_at, under, value_at, explicit_at, key_transition, key_step, seq_entry, flow_key, pairs_entry, open_at, flow_fault, flow_value, after_key_at, seq_fault, seq_done, pairs_done, line_fault, list_done, map_done, dots_end, root_done, done_at, document_at, last_at, step_at}
 use Rattle.yaml_small.specs.Stream.{State, top_of, start, Runs, next, moved, begins_collection, WouldBegin}
-use Rattle.yaml_small.proofs.Depth.{always_within}
+use Rattle.yaml_small.specs.DepthLaws.{always_within}
 
 abbrev is_deep : Fault → Bool
 is_deep Form = false

@@ -20,8 +20,8 @@ use Rattle.yaml_small.specs.Scalars.{Fault, Form, NotCarried, TooDeep, ScalarTok
 use Rattle.yaml_small.specs.Grammar.{closes_value, is_flow_colon}
 use Rattle.yaml_small.specs.Step.{Transition, transition, opened, list_start, map_start, settled, scalar_token_transition, block_transition, missing_transition, inline_at, node_at, below, tabbed, item_at, under, value_at, explicit_at, key_transition, key_step, seq_entry, flow_key, pairs_entry, open_at, flow_fault, flow_value, after_key_at, seq_fault, seq_done, pairs_done, line_fault, list_done, map_done, dots_end, root_done, done_at, document_at, last_at, step_at}
 use Rattle.yaml_small.specs.Stream.{State, top_of, changed, behind, moved, start, next, Runs}
-use Rattle.yaml_small.proofs.Runs.{step_of, length_pushed, pair_is}
-use Rattle.yaml_small.proofs.Found.{transition_is}
+use Rattle.yaml_small.specs.RunLaws.{step_of, length_pushed, pair_is}
+use Rattle.yaml_small.specs.FoundLaws.{transition_is}
 
 -- how much text is left
 abbrev size : List (List ℕ) → ℕ

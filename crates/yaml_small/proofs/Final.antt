@@ -16,9 +16,9 @@ use Rattle.yaml_small.specs.Scalars.{Fault, Form, NotCarried, TooDeep, Cut, scal
 use Rattle.yaml_small.specs.Grammar.{closes_value, is_flow_colon, is_quoted, without_mark, Carried}
 use Rattle.yaml_small.specs.Step.{Transition, transition, opened, list_start, map_start, scalar_token_transition, missing_transition, inline_at, node_at, below, tabbed, item_at, under, value_at, explicit_at, key_transition, key_step, seq_entry, flow_key, pairs_entry, open_at, flow_fault, flow_value, after_key_at, seq_done, pairs_done, line_fault, list_done, map_done, dots_end, root_done, done_at, document_at, last_at, step_at}
 use Rattle.yaml_small.specs.Stream.{State, top_of, changed, behind, moved, start, next, Runs, Refuses, IsFinal}
-use Rattle.yaml_small.proofs.Runs.{step_of, from_of}
-use Rattle.yaml_small.proofs.Unique.{refused_not_carried}
-use Rattle.yaml_small.proofs.Grows.{grown, the_end, Grows, Over, SameMode, quiet, chosen, faults, continues, at_next, at_token, settles, reads, block_reads, block_grown, scalar_token_grown, key_grown, same_key, next_grown}
+use Rattle.yaml_small.specs.RunLaws.{step_of, from_of}
+use Rattle.yaml_small.specs.UniqueLaws.{refused_not_carried}
+use Rattle.yaml_small.specs.GrowthLaws.{grown, the_end, Grows, Over, SameMode, quiet, chosen, faults, continues, at_next, at_token, settles, reads, block_reads, block_grown, scalar_token_grown, key_grown, same_key, next_grown}
 use Rattle.yaml_scan.specs.Block.{is_deeper}
 use Rattle.std.proofs.lemmas.Bool.{le-leb}
 

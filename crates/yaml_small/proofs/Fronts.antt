@@ -7,8 +7,8 @@ use Rattle.yaml_small.specs.Trees.{Tree}
 use Rattle.yaml_small.specs.Scalars.{Fault, NotCarried, open_fault}
 use Rattle.yaml_small.specs.Grammar.{without_mark, Carried}
 use Rattle.yaml_small.specs.Stream.{Refuses, IsFinal, ends_return}
-use Rattle.yaml_small.proofs.Scans.{lines_of-open}
-use Rattle.yaml_small.proofs.Marks.{and_false}
+use Rattle.yaml_small.specs.ScanLaws.{lines_of-open}
+use Rattle.yaml_small.specs.MarkLaws.{and_false}
 use Rattle.yaml_small.proofs.Final.{refused_for_good}
 
 lengthened-more : (c : ℕ) (lines more : List (List ℕ)) → open_fault lines ≡ NotCarried → lengthened c (lines ++ more) ≡ lengthened c lines ++ more

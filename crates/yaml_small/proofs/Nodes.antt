@@ -8,7 +8,7 @@ use Rattle.yaml_small.specs.Step.{Transition, node_at, inline_at, list_start}
 use Rattle.yaml_small.specs.ScalarTokens.{if_read}
 use Rattle.yaml_small.specs.Steps.{step_view, key_or_scalar}
 use Rattle.yaml_small.specs.Answers.{ScanGives}
-use Rattle.yaml_small.proofs.Marks.{scalar_token_opener}
+use Rattle.yaml_small.specs.MarkLaws.{scalar_token_opener}
 
 scanned : (depth : ℕ) (parent : Option ℕ) (a : At) (w : ScalarToken) → is_dash a.line ≡ false → scalar_token_at false a ≡ Ok w → node_at depth parent a ≡ key_or_scalar depth a w
 unfolding node_at key_at inline_at

@@ -6,7 +6,7 @@ use Rattle.yaml_small.specs.Scalars.{Fault}
 use Rattle.yaml_small.specs.Grammar.{Carried}
 use Rattle.yaml_small.specs.Stream.{Emits, Refuses}
 use Rattle.yaml_small.proofs.Ends.{text_outcome}
-use Rattle.yaml_small.proofs.FoundText.{found}
+use Rattle.yaml_small.specs.FoundTextLaws.{found}
 
 pub emitted_or_refused : (text : List ℕ) → ((es : List Event) × Emits text es) ⊎ ((fault : Fault) × Refuses text fault)
 emitted_or_refused text =

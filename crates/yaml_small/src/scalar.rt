@@ -168,7 +168,7 @@ fn quoted_of<'a>(
 }
 
 /// Why a quoted scalar that its line cuts off does not go on: not in another line.
-#[tactic(auto, using(crate::proofs::Scans::lines_open))]
+#[tactic(auto, using(crate::specs::ScanLaws::lines_open))]
 fn open_error(place: Place<'_>) -> ScanError
     ensures { FailsAs result (spec.open_fault (lines_behind (option_copied place.entry.later))) }
 {

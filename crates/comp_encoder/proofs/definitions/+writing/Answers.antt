@@ -2,7 +2,7 @@ use Rattle.std.proofs.Common.{◌≡◌, ◌+◌, ◌∷◌, ◌++◌, [], map, 
 use Rattle.std.proofs.lemmas.List.{take_more, map_push}
 use Rattle.comp_format.specs.Definitions.{definition_text}
 use Rattle.comp_format.specs.Views.{decl_tree}
-use Rattle.comp_format.proofs.ViewLaws.{type_resource}
+use Rattle.comp_format.specs.ViewLaws.{type_resource}
 use Rattle.comp_encoder.proofs.DeclLaws.{component_text_is, instance_text_is, decls_text_push, decls_largest_push, decls_texts_push}
 use Rattle.comp_encoder.proofs.definitions.+writing.Goals as goal
 

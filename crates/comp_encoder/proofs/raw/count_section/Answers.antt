@@ -3,7 +3,7 @@ use Rattle.std.specs.Prelude.{IfOk, slice_index}
 use Rattle.comp_format.specs.declared.error.EncodeError.{EncodeError}
 use Rattle.comp_format.specs.Items.{ItemTree, item_tree}
 use Rattle.comp_format.specs.Sections.{Reads, section_items}
-use Rattle.comp_format.proofs.SectionLaws.{reads_once}
+use Rattle.comp_format.specs.SectionLaws.{reads_once}
 use Rattle.comp_format.specs.Spaces.{space_of}
 use Rattle.comp_encoder.specs.Writing.{numbered}
 use Rattle.comp_encoder.proofs.RawLaws.{one_section}

@@ -1,4 +1,4 @@
-use Rattle.comp_format.proofs.DepthLaws.{component_within}
+use Rattle.comp_format.specs.DepthLaws.{component_within}
 use Rattle.comp_format.proofs.laws.each_component_is_read.Goals as goal
 
 pub returns : goal.returns

@@ -1,4 +1,4 @@
-use Rattle.comp_format.proofs.SectionLaws.{reads_once}
+use Rattle.comp_format.specs.SectionLaws.{reads_once}
 use Rattle.comp_format.proofs.laws.one_reading.Goals as goal
 
 pub returns : goal.returns

@@ -1,4 +1,4 @@
-use Rattle.comp_format.proofs.SectionLaws.{component_form}
+use Rattle.comp_format.specs.SectionLaws.{component_form}
 use Rattle.comp_format.proofs.laws.what_is_read_is_a_component.Goals as goal
 
 pub returns : goal.returns

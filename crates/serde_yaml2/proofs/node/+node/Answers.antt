@@ -5,9 +5,9 @@ use Rattle.yaml_small.specs.Trees.{depth}
 use Rattle.yaml_text.specs.Written.{Written, new_line, tree_of, written}
 use Rattle.serde_yaml2.specs.Nodes.{node_written}
 use Rattle.serde_yaml2.specs.Output.{Output, output_of, Writes, below}
-use Rattle.serde_yaml2.proofs.Pieces.{puts_first, puts_front}
-use Rattle.serde_yaml2.proofs.Lists as lists
-use Rattle.serde_yaml2.proofs.Maps as maps
+use Rattle.serde_yaml2.specs.PieceLaws.{puts_first, puts_front}
+use Rattle.serde_yaml2.specs.ListLaws as lists
+use Rattle.serde_yaml2.specs.MapLaws as maps
 use Rattle.serde_yaml2.proofs.Nodes.{array_written, hash_written}
 use Rattle.serde_yaml2.proofs.node.+node.Goals as goal
 

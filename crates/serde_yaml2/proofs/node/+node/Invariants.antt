@@ -1,8 +1,8 @@
 use Rattle.std.proofs.Common.{◌≡◌, ◌+◌, ◌-◌, ◌*◌, ◌≤◌}
 use Rattle.serde_yaml2.specs.Nodes.{node_written}
 use Rattle.serde_yaml2.specs.Output.{appended, output_of}
-use Rattle.serde_yaml2.proofs.Lists.{so_far, deep_so_far}
-use Rattle.serde_yaml2.proofs.Maps.{map_so_far, deep_map_so_far}
+use Rattle.serde_yaml2.specs.ListLaws.{so_far, deep_so_far}
+use Rattle.serde_yaml2.specs.MapLaws.{map_so_far, deep_map_so_far}
 use Rattle.serde_yaml2.proofs.node.+node.Given as goal
 
 -- the levels that are left

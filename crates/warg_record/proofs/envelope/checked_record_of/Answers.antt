@@ -1,6 +1,6 @@
 use Rattle.std.proofs.Common.{arith}
 use Rattle.warg_record.specs.View.{record_view}
-use Rattle.warg_record.proofs.RecordLaws.{gives_found, gives_form}
+use Rattle.warg_record.specs.RecordLaws.{gives_found, gives_form}
 use Rattle.warg_record.proofs.envelope.checked_record_of.Goals as goal
 
 pub returns-clause-ok : goal.returns-clause-ok

@@ -1,4 +1,4 @@
-use Rattle.warg_record.proofs.TextLaws.{key_of-none}
+use Rattle.warg_record.specs.TextLaws.{key_of-none}
 use Rattle.warg_record.proofs.fields.key_of.Goals as goal
 
 pub returns-in-Err-Form : goal.returns-in-Err-Form

@@ -1,7 +1,7 @@
 use Rattle.std.proofs.Common.{◌≡◌, ◌<◌, ◌++◌, ◌∷◌, [], length, map, sym, ap, ◌∙◌, arith}
 use Rattle.std.specs.Prelude.{Err}
 use Rattle.warg_record.specs.declared.error.EnvelopeError.{EnvelopeError}
-use Rattle.warg_record.proofs.EntryLaws.{entry-again, entry_refuses}
+use Rattle.warg_record.specs.EntryLaws.{entry-again, entry_refuses}
 use Rattle.std.proofs.lemmas.Bool.{eqb-true, eqb-false}
 use Rattle.std.proofs.lemmas.List.{map_push}
 use Rattle.std.proofs.lemmas.Result.{err_from_is_err_and}

@@ -1,5 +1,5 @@
 use Rattle.std.proofs.Common.{arith}
-use Rattle.warg_record.proofs.WireLaws.{varint_in-appended}
+use Rattle.warg_record.specs.WireLaws.{varint_in-appended}
 use Rattle.warg_record.proofs.writing.+push_varint.Goals as goal
 
 pub returns : goal.returns

@@ -1,4 +1,4 @@
-use Rattle.yaml_read.proofs.Numbers.{signed_is, signed_high, signed_low, signed_none}
+use Rattle.yaml_read.specs.NumberLaws.{signed_is, signed_high, signed_low, signed_none}
 use Rattle.std.proofs.Common.{sym, subst, w64, ℤ, FitsSigned}
 use Rattle.std.proofs.lemmas.Int.{to_z-of_z}
 use Rattle.yaml_read.proofs.deserializer.signed_number.Goals as goal

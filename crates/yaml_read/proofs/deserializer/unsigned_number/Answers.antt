@@ -1,4 +1,4 @@
-use Rattle.yaml_read.proofs.Numbers.{unsigned_is, unsigned_large, unsigned_none}
+use Rattle.yaml_read.specs.NumberLaws.{unsigned_is, unsigned_large, unsigned_none}
 use Rattle.std.proofs.Common.{sym, arith}
 use Rattle.yaml_read.proofs.deserializer.unsigned_number.Goals as goal
 

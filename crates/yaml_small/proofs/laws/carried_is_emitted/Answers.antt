@@ -1,4 +1,4 @@
-use Rattle.yaml_small.proofs.EmittedText.{carried_emitted}
+use Rattle.yaml_small.specs.EmittedTextLaws.{carried_emitted}
 use Rattle.yaml_small.proofs.laws.carried_is_emitted.Goals as goal
 
 pub returns : goal.returns

@@ -1,4 +1,4 @@
-use Rattle.yaml_small.proofs.Depth.{always_within}
+use Rattle.yaml_small.specs.DepthLaws.{always_within}
 use Rattle.yaml_small.proofs.laws.depth_is_bounded.Goals as goal
 
 pub returns : goal.returns

@@ -1,4 +1,4 @@
-use Rattle.yaml_small.proofs.FoundText.{found}
+use Rattle.yaml_small.specs.FoundTextLaws.{found}
 use Rattle.yaml_small.proofs.laws.emitted_is_carried.Goals as goal
 
 pub returns : goal.returns

@@ -1,4 +1,4 @@
-use Rattle.yaml_small.proofs.Live.{stream_end}
+use Rattle.yaml_small.specs.LiveLaws.{stream_end}
 use Rattle.yaml_small.proofs.laws.end_is_last.Goals as goal
 
 pub returns : goal.returns

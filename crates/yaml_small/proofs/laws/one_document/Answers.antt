@@ -1,4 +1,4 @@
-use Rattle.yaml_small.proofs.Unique.{one_document}
+use Rattle.yaml_small.specs.UniqueLaws.{one_document}
 use Rattle.yaml_small.proofs.laws.one_document.Goals as goal
 
 pub returns : goal.returns

@@ -1,4 +1,4 @@
-use Rattle.yaml_small.proofs.Unique.{stream_one}
+use Rattle.yaml_small.specs.UniqueLaws.{stream_one}
 use Rattle.yaml_small.proofs.laws.one_tree.Goals as goal
 
 pub returns : goal.returns

@@ -1,4 +1,4 @@
-use Rattle.yaml_small.proofs.Unique.{refused_not_carried}
+use Rattle.yaml_small.specs.UniqueLaws.{refused_not_carried}
 use Rattle.yaml_small.proofs.laws.refused_is_not_carried.Goals as goal
 
 pub returns : goal.returns

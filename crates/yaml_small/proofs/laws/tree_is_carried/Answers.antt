@@ -1,4 +1,4 @@
-use Rattle.yaml_small.proofs.Carries.{is_carried}
+use Rattle.yaml_small.specs.CarriedLaws.{is_carried}
 use Rattle.yaml_small.proofs.laws.tree_is_carried.Goals as goal
 
 pub returns : goal.returns

@@ -5,7 +5,7 @@ use Rattle.std.specs.List.{AllByRecursion}
 use Rattle.comp_format.specs.declared.error.EncodeError.{EncodeError}
 use Rattle.comp_format.specs.Items.{ItemTree}
 use Rattle.comp_format.specs.Sections.{Reads}
-use Rattle.comp_format.proofs.SectionLaws.{reads_once}
+use Rattle.comp_format.specs.SectionLaws.{reads_once}
 use Rattle.comp_encoder.specs.Builder.{Kept, IsKept, entries_of}
 use Rattle.comp_encoder.specs.Writing.{IsShort, items_of, sections_of, component_text}
 use Rattle.comp_encoder.proofs.SectionLaws.{entries_fit}

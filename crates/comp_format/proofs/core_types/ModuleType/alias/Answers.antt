@@ -1,7 +1,7 @@
 use Rattle.std.proofs.Common.{ap, ◌∙◌}
 use Rattle.comp_format.specs.CoreTypes.{ModuleDeclTree, with_module_decl}
 use Rattle.comp_format.specs.Views.{module_tree}
-use Rattle.comp_format.proofs.ViewLaws.{module_pushed, module_decl_alias}
+use Rattle.comp_format.specs.ViewLaws.{module_pushed, module_decl_alias}
 use Rattle.comp_format.proofs.core_types.ModuleType.alias.Goals as goal
 
 pub returns-clause-added : goal.returns-clause-added

@@ -1,7 +1,7 @@
 use Rattle.std.proofs.Common.{ap, ◌∙◌}
 use Rattle.comp_format.specs.Definitions.{DeclTree, with_decl}
 use Rattle.comp_format.specs.Views.{component_type_tree}
-use Rattle.comp_format.proofs.ViewLaws.{component_pushed, decl_ty}
+use Rattle.comp_format.specs.ViewLaws.{component_pushed, decl_ty}
 use Rattle.comp_format.proofs.types.ComponentType.ty.Goals as goal
 
 pub returns-clause-added : goal.returns-clause-added

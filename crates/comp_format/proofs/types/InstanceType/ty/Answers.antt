@@ -1,7 +1,7 @@
 use Rattle.std.proofs.Common.{ap, ◌∙◌}
 use Rattle.comp_format.specs.Definitions.{DeclTree, with_decl}
 use Rattle.comp_format.specs.Views.{instance_type_tree}
-use Rattle.comp_format.proofs.ViewLaws.{instance_pushed, decl_ty}
+use Rattle.comp_format.specs.ViewLaws.{instance_pushed, decl_ty}
 use Rattle.comp_format.proofs.types.InstanceType.ty.Goals as goal
 
 pub returns-clause-added : goal.returns-clause-added

@@ -3,7 +3,7 @@ use Rattle.std.proofs.lemmas.Result.{err_from_is_err_and}
 use Rattle.yaml_small.specs.Trees.{depth}
 use Rattle.yaml_text.specs.Written.{tree_of}
 use Rattle.serde_yaml2.specs.Output.{output_of, list_output, nested}
-use Rattle.serde_yaml2.proofs.Pieces.{puts_front}
+use Rattle.serde_yaml2.specs.PieceLaws.{puts_front}
 use Rattle.serde_yaml2.proofs.collection.SequenceSerializer.element.Goals as goal
 
 pub returns-in_err-push-clause-puts : goal.returns-in_err-push-clause-puts

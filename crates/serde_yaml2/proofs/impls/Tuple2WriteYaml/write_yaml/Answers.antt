@@ -1,7 +1,7 @@
 use Rattle.std.proofs.Common.{rules, [], ◌∷◌}
 use Rattle.std.proofs.lemmas.Result.{err_from_is_err_and, IfErr-at_err}
 use Rattle.serde_yaml2.specs.Output.{output_of, list_output, IsCut}
-use Rattle.serde_yaml2.proofs.Lists.{list_refused, item_done, item_refused}
+use Rattle.serde_yaml2.specs.ListLaws.{list_refused, item_done, item_refused}
 use Rattle.serde_yaml2.proofs.impls.Tuple2WriteYaml.write_yaml.Goals as goal
 
 pub returns-in_err-list : goal.returns-in_err-list

@@ -1,7 +1,7 @@
 use Rattle.std.proofs.Common.{rules, ◌≡◌, sym, ap, ◌∙◌, arith}
 use Rattle.std.proofs.lemmas.Result.{err_from_is_err_and}
 use Rattle.serde_yaml2.specs.Output.{Output, output_of, map_output, map_name}
-use Rattle.serde_yaml2.proofs.Maps.{each_done, each_fits, each_key_refused, each_value_refused, none_there}
+use Rattle.serde_yaml2.specs.MapLaws.{each_done, each_fits, each_key_refused, each_value_refused, none_there}
 use Rattle.serde_yaml2.proofs.list.IndexMapTextWriteYaml.write_yaml.Goals as goal
 use Rattle.serde_yaml2.proofs.list.IndexMapTextWriteYaml.write_yaml.Goals.{in-Some+in_ok-key+in_ok-value, in_default}
 

@@ -1,6 +1,6 @@
 use Rattle.std.proofs.Common.{◌≡◌, ◌+◌, ◌≤◌}
 use Rattle.serde_yaml2.specs.Output.{appended, output_of, map_output, map_name}
-use Rattle.serde_yaml2.proofs.Maps.{map_so_far, deep_map_so_far}
+use Rattle.serde_yaml2.specs.MapLaws.{map_so_far, deep_map_so_far}
 use Rattle.serde_yaml2.proofs.list.IndexMapTextWriteYaml.write_yaml.Given as goal
 
 -- the entries up to the index were written

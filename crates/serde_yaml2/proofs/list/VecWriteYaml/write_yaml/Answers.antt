@@ -2,7 +2,7 @@ use Rattle.std.proofs.Common.{rules, ◌≡◌, ℕ, ◌<◌, length, map, get_o
 use Rattle.std.proofs.lemmas.Result.{err_from_is_err_and, IfErr-at_err}
 use Rattle.std.proofs.lemmas.List.{length-map}
 use Rattle.serde_yaml2.specs.Output.{Output, output_of, list_output, list_head, IsCut}
-use Rattle.serde_yaml2.proofs.Lists.{list_refused, each_done, each_fits, each_refused}
+use Rattle.serde_yaml2.specs.ListLaws.{list_refused, each_done, each_fits, each_refused}
 use Rattle.serde_yaml2.proofs.list.VecWriteYaml.write_yaml.Goals as goal
 
 pub returns-in_err-list : goal.returns-in_err-list

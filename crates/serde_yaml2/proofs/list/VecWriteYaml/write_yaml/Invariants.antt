@@ -1,6 +1,6 @@
 use Rattle.std.proofs.Common.{◌≡◌, ◌+◌, ◌≤◌}
 use Rattle.serde_yaml2.specs.Output.{appended, output_of, list_output, list_name}
-use Rattle.serde_yaml2.proofs.Lists.{so_far, deep_so_far}
+use Rattle.serde_yaml2.specs.ListLaws.{so_far, deep_so_far}
 use Rattle.serde_yaml2.proofs.list.VecWriteYaml.write_yaml.Given as goal
 
 -- the items up to the index were written

@@ -2,7 +2,7 @@ use Rattle.std.proofs.Common.{◌∷◌, []}
 use Rattle.std.proofs.lemmas.Result.{err_from_is_err_and}
 use Rattle.yaml_text.specs.Texts.{indentation}
 use Rattle.serde_yaml2.specs.Output.{output_of}
-use Rattle.serde_yaml2.proofs.Pieces.{pushes_first}
+use Rattle.serde_yaml2.specs.PieceLaws.{pushes_first}
 use Rattle.serde_yaml2.proofs.serializer.YamlSerializer.new_line.Goals as goal
 
 pub returns-in_err-push : goal.returns-in_err-push

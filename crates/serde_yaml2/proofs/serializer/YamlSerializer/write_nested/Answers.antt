@@ -3,7 +3,7 @@ use Rattle.std.proofs.lemmas.Result.{err_from_is_err_and}
 use Rattle.yaml_small.specs.Trees.{depth}
 use Rattle.yaml_text.specs.Written.{new_line, tree_of}
 use Rattle.serde_yaml2.specs.Output.{Output, Pushes, output_of, below}
-use Rattle.serde_yaml2.proofs.Pieces.{puts_first, puts_last}
+use Rattle.serde_yaml2.specs.PieceLaws.{puts_first, puts_last}
 use Rattle.serde_yaml2.proofs.serializer.YamlSerializer.write_nested.Goals as goal
 
 pub returns-in_err-write_below : goal.returns-in_err-write_below

@@ -1,6 +1,6 @@
 use Rattle.std.proofs.lemmas.Result.{err_from_is_err_and}
 use Rattle.serde_yaml2.specs.Output.{output_of}
-use Rattle.serde_yaml2.proofs.Pieces.{variant_puts}
+use Rattle.serde_yaml2.specs.PieceLaws.{variant_puts}
 use Rattle.serde_yaml2.proofs.serializer.YamlSerializer.write_newtype_variant.Goals as goal
 
 pub returns-in_err-push-2 : goal.returns-in_err-push-2

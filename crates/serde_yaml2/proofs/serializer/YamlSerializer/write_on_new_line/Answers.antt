@@ -2,7 +2,7 @@ use Rattle.std.proofs.lemmas.Result.{err_from_is_err_and}
 use Rattle.yaml_small.specs.Trees.{depth}
 use Rattle.yaml_text.specs.Written.{new_line, tree_of, written}
 use Rattle.serde_yaml2.specs.Output.{output_of}
-use Rattle.serde_yaml2.proofs.Pieces.{puts_front}
+use Rattle.serde_yaml2.specs.PieceLaws.{puts_front}
 use Rattle.serde_yaml2.proofs.serializer.YamlSerializer.write_on_new_line.Goals as goal
 
 pub returns-in_err-new_line : goal.returns-in_err-new_line

@@ -1,6 +1,6 @@
 use Rattle.std.proofs.lemmas.Bool.{both_ways}
 use Rattle.std.proofs.lemmas.Result.{err_from_is_err_and}
-use Rattle.warg_record.proofs.KeyLaws.{is_key_text-sound, is_key_text-complete}
+use Rattle.warg_record.specs.KeyLaws.{is_key_text-sound, is_key_text-complete}
 use Rattle.warg_record.proofs.key.PublicKey.new.Goals as goal
 
 pub returns-in_err-check_form-clause-form : goal.returns-in_err-check_form-clause-form

@@ -1,5 +1,5 @@
 use Rattle.std.proofs.Common.{IsUtf8, subst}
-use Rattle.warg_record.proofs.KeyLaws.{is_key_text-sound}
+use Rattle.warg_record.specs.KeyLaws.{is_key_text-sound}
 use Rattle.warg_record.proofs.key.Signature.as_str.Goals as goal
 
 pub returns-clause-form : goal.returns-clause-form

@@ -1,7 +1,7 @@
 use Rattle.std.proofs.Common.{arith}
 use Rattle.warg_record.specs.Record.{Package}
 use Rattle.warg_record.specs.View.{package_entry_view}
-use Rattle.warg_record.proofs.EntryLaws.{entry_found, entry_refused}
+use Rattle.warg_record.specs.EntryLaws.{entry_found, entry_refused}
 use Rattle.warg_record.proofs.package.PackageEntryLogEntry.read.Goals as goal
 
 pub returns-clause-ok : goal.returns-clause-ok

@@ -4,7 +4,7 @@ use Rattle.std.proofs.lemmas.Result.{err_from_is_err_and, IfErr-at_err}
 use Rattle.yaml_text.specs.Written as spec
 use Rattle.serde_yaml2.specs.declared.error.Errors.{Errors}
 use Rattle.serde_yaml2.specs.Output.{output_of, map_output, IsCut}
-use Rattle.serde_yaml2.proofs.Maps.{map_refused, key_refused, value_refused, entry_done}
+use Rattle.serde_yaml2.specs.MapLaws.{map_refused, key_refused, value_refused, entry_done}
 use Rattle.yaml_example.proofs.sample.SampleFieldsWriteYaml.write_yaml.Goals as goal
 
 end_is : (r : Result (Unit {0}) Errors) → IsOk r → r ≡ Ok tt

@@ -4,7 +4,7 @@ use Rattle.yaml_small.specs.View.{view}
 use Rattle.yaml_read.specs.Any.{data_at}
 use Rattle.yaml_read.specs.Entries.{seen_entry}
 use Rattle.yaml_read.specs.Answers.{source_of}
-use Rattle.yaml_read.proofs.EntryLemmas.{seen_insert}
+use Rattle.yaml_read.specs.EntryLaws.{seen_insert}
 use Rattle.yaml_read.proofs.AnyLoops.{values_step, members_step, data_more}
 use Rattle.yaml_read.proofs.deserializer.YamlDeserializer.+data.Goals as goal
 

@@ -1,5 +1,5 @@
 use Rattle.std.proofs.Common.{rules}
-use Rattle.yaml_read.proofs.EntryLemmas.{seen_insert}
+use Rattle.yaml_read.specs.EntryLaws.{seen_insert}
 use Rattle.yaml_read.proofs.list.EntryFillMapFill.entry.Goals as goal
 
 pub returns : goal.returns

@@ -7,8 +7,8 @@ use Rattle.yaml_small.specs.Trees.{Scalar, Tree, Leaf, Seq, Map, Trees, none, mo
 use Rattle.yaml_small.specs.Scalars.{Fault}
 use Rattle.yaml_small.specs.Grammar.{Carried}
 use Rattle.yaml_small.specs.Stream.{State, start, next, Runs, Refuses}
-use Rattle.yaml_small.proofs.Runs.{pair_is}
-use Rattle.yaml_small.proofs.EmittedText.{carried_emitted}
+use Rattle.yaml_small.specs.RunLaws.{pair_is}
+use Rattle.yaml_small.specs.EmittedTextLaws.{carried_emitted}
 
 -- Two runs of one length from one state tell the same.
 runs_same : (s : State) (es fs : List Event) (y z : State) → length es ≡ length fs → Runs s es y → Runs s fs z → es ≡ fs

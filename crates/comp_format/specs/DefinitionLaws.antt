@@ -12,11 +12,11 @@ use Rattle.comp_format.specs.Parts.{DescriptionForm, ExportName, description_at,
 use Rattle.comp_format.specs.CoreTypes.{CoreTree, CoreForm, core_at, core_text}
 use Rattle.comp_format.specs.Definitions.{TypeTree, Defined, Func, Component, Instance, Resource, DeclTree, CoreTy, Ty, Aliased, Import, Export, Decls, none, more, decls_of, decl_count, is_resource, is_declared, DefForm, DeclForm, DeclsForm, described_at, inner_type_at, inner_alias_at, decl_at, resource_at, type_with, definition_at, definition_text, decl_text, decls_text}
 use Rattle.comp_format.specs.Fits.{FitsName, FitsType, FitsDefinition, FitsDecl, FitsDecls}
-use Rattle.comp_format.proofs.NumberLaws.{number_form, number_again, number_written}
-use Rattle.comp_format.proofs.VectorLaws.{IsSound, vector_form, name_written, byte_form, mark_form, behind, optional_form, optional_again, optional_written}
-use Rattle.comp_format.proofs.TypeLaws.{defined_form, defined_again, defined_written, func_form, func_again, func_written}
-use Rattle.comp_format.proofs.PartLaws.{description_form, description_again, description_written, export_name_form, export_name_again, alias_form, alias_again, alias_written}
-use Rattle.comp_format.proofs.CoreTypeLaws.{core_form, core_again, core_written, core_scopes}
+use Rattle.comp_format.specs.NumberLaws.{number_form, number_again, number_written}
+use Rattle.comp_format.specs.VectorLaws.{IsSound, vector_form, name_written, byte_form, mark_form, behind, optional_form, optional_again, optional_written}
+use Rattle.comp_format.specs.TypeLaws.{defined_form, defined_again, defined_written, func_form, func_again, func_written}
+use Rattle.comp_format.specs.PartLaws.{description_form, description_again, description_written, export_name_form, export_name_again, alias_form, alias_again, alias_written}
+use Rattle.comp_format.specs.CoreTypeLaws.{core_form, core_again, core_written, core_scopes}
 
 -- ---- sound
 

@@ -6,8 +6,8 @@ use Rattle.std.proofs.lemmas.List.{length-append, append-nil, nil_from_length}
 use Rattle.std.proofs.lemmas.List.Concat.{flat_map-cons}
 use Rattle.warg_record.specs.Wire.{varint, counted, field, fields}
 use Rattle.warg_record.specs.Reading.{counted_at, field_at, each_field, some_fields, only_field, one_field, two_fields}
-use Rattle.warg_record.proofs.Steps.{bind_some, guard_some, pass_some, some_is, never}
-use Rattle.warg_record.proofs.WireLaws.{counted_at-sound, counted_at-again, field_at-sound, field_at-again}
+use Rattle.warg_record.specs.StepLaws.{bind_some, guard_some, pass_some, some_is, never}
+use Rattle.warg_record.specs.WireLaws.{counted_at-sound, counted_at-again, field_at-sound, field_at-again}
 
 -- the length of a field
 pub length-field : (number : ℕ) (text rest : List ℕ) → length text + length rest < length (field number text ++ rest)

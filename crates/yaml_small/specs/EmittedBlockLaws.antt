@@ -16,10 +16,10 @@ use Rattle.yaml_small.specs.Grammar.{LineEnd, IsKey, Inline, Below, Item as AnIt
 use Rattle.yaml_small.specs.ScalarLaws.{token_scanned, key_scanned}
 use Rattle.yaml_small.specs.Step.{Transition, inline_at, node_at, below, tabbed, item_at, under, value_at, key_step, key_transition, list_start, map_start, missing_transition, list_done, map_done, block_transition, block_end, opened}
 use Rattle.yaml_small.specs.Stream.{State, Runs}
-use Rattle.yaml_small.proofs.Marks.{and_parts, both, scalar_token_opener, is_head, no_key, opener_no_dash, seq_opens, map_opens, ended_no_key}
-use Rattle.yaml_small.proofs.Runs.{From, state, done, landed, runs_in, length_pushed, popped}
-use Rattle.yaml_small.proofs.Steps.{pushes, by, inline_block, at_item, at_value, at_key, at_done_list, at_done_map}
-use Rattle.yaml_small.proofs.EmittedFlow.{flow_emitted, missing_emitted, bool_chosen, bool_passed, bools_chosen}
+use Rattle.yaml_small.specs.MarkLaws.{and_parts, both, scalar_token_opener, is_head, no_key, opener_no_dash, seq_opens, map_opens, ended_no_key}
+use Rattle.yaml_small.specs.RunLaws.{From, state, done, landed, runs_in, length_pushed, popped}
+use Rattle.yaml_small.specs.StepLaws.{pushes, by, inline_block, at_item, at_value, at_key, at_done_list, at_done_map}
+use Rattle.yaml_small.specs.EmittedFlowLaws.{flow_emitted, missing_emitted, bool_chosen, bool_passed, bools_chosen}
 
 -- a node on one line, or a block scalar, is neither a dash nor a key
 pub record NoBlock (a : At) : Type 0 where

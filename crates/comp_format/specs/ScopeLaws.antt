@@ -36,10 +36,10 @@ use Rattle.comp_format.specs.CoreTypes.{CoreTree, ModuleDeclTree, ModuleDecls, C
 use Rattle.comp_format.specs.Definitions as tree
 use Rattle.comp_format.specs.Definitions.{TypeTree, DeclTree, Decls, DefForm, DeclForm, DeclsForm}
 use Rattle.comp_format.specs.Sections.{Section, Named, CoreModules, CoreInstances, CoreTypes, Nested, Instances, Aliases, Types, Canons, Imports, Exports, Sections, none, more, ContentForm, SectionsForm, section_id, header}
-use Rattle.comp_format.proofs.NumberLaws.{leb_shorter}
-use Rattle.comp_format.proofs.CoreTypeLaws.{core_scopes, module_decl_scopes, module_scopes}
-use Rattle.comp_format.proofs.DefinitionLaws.{type_scopes, decl_scopes, decls_scopes}
-use Rattle.comp_format.proofs.SectionLaws.{total, section_scopes, sections_scopes, framed_shorter}
+use Rattle.comp_format.specs.NumberLaws.{leb_shorter}
+use Rattle.comp_format.specs.CoreTypeLaws.{core_scopes, module_decl_scopes, module_scopes}
+use Rattle.comp_format.specs.DefinitionLaws.{type_scopes, decl_scopes, decls_scopes}
+use Rattle.comp_format.specs.SectionLaws.{total, section_scopes, sections_scopes, framed_shorter}
 
 -- ---- forms use bytes up
 

@@ -11,10 +11,10 @@ use Rattle.yaml_small.specs.Places.{At, past, over, next_at, is_end, begins, at_
 use Rattle.yaml_small.specs.Grammar.{Closed, Explicit, Document as ADocument, first_at, Carried}
 use Rattle.yaml_small.specs.Step.{transition, below, node_at, inline_at, explicit_at, document_at, dots_end, root_done, last_at, done_at, step_at}
 use Rattle.yaml_small.specs.Stream.{State, start, Runs, Emits}
-use Rattle.yaml_small.proofs.Runs.{From, state, done, runs_of}
-use Rattle.yaml_small.proofs.Steps.{by}
-use Rattle.yaml_small.proofs.EmittedFlow.{bool_chosen, bool_passed, bools_chosen}
-use Rattle.yaml_small.proofs.EmittedBlock.{node_emitted, below_emitted, inline_emitted}
+use Rattle.yaml_small.specs.RunLaws.{From, state, done, runs_of}
+use Rattle.yaml_small.specs.StepLaws.{by}
+use Rattle.yaml_small.specs.EmittedFlowLaws.{bool_chosen, bool_passed, bools_chosen}
+use Rattle.yaml_small.specs.EmittedBlockLaws.{node_emitted, below_emitted, inline_emitted}
 
 at_last : (a : At) → is_end a ≡ true → step_at Last None 0 a ≡ Ok (transition StreamEnd a Ended Keep)
 unfolding step_at last_at

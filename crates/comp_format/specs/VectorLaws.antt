@@ -15,7 +15,7 @@ use Rattle.comp_format.specs.Fault.{Fault, Form}
 use Rattle.comp_format.specs.Numbers.{FormOf, Then, Number, number_at}
 use Rattle.comp_format.specs.Vectors.{ReaderOf, Many, Vector, Name, AnyName, Optional, Labelled, many_at, vector_at, front_at, name_at, any_name_at, byte_at, mark_at, carried_at, known_or, optional_at, labelled_at, labelled_vector_at, under_label, label_alone, vector_text, name_text, optional_text}
 use Rattle.comp_format.specs.Fits.{FitsName, FitsAnyName, FitsLabelled}
-use Rattle.comp_format.proofs.NumberLaws.{number_form, number_again, number_written}
+use Rattle.comp_format.specs.NumberLaws.{number_form, number_again, number_written}
 
 module _ {X : Type 0} (one : ReaderOf X) (One : FormOf X) where
   -- what is read is a form

@@ -14,8 +14,8 @@ use Rattle.yaml_small.specs.Places.{At, past, next_at, is_end, at_dashes, at_dot
 use Rattle.yaml_small.specs.Scalars.{Fault, Form, NotCarried, ScalarToken, scalar_token_at, block_at, key_at}
 use Rattle.yaml_small.specs.Step.{Transition, transition, opened, list_start, map_start, settled, inline_at, node_at, below, tabbed, item_at, under, value_at, explicit_at, key_step, seq_entry, pairs_entry, open_at, flow_value, after_key_at, seq_done, pairs_done, list_done, map_done, dots_end, root_done, line_fault, done_at, document_at, last_at, step_at}
 use Rattle.yaml_small.specs.Stream.{State, top_of, behind, moved, next}
-use Rattle.yaml_small.proofs.Runs.{pair_is, settled_event, step_of}
-use Rattle.yaml_small.proofs.Found.{transition_is}
+use Rattle.yaml_small.specs.RunLaws.{pair_is, settled_event, step_of}
+use Rattle.yaml_small.specs.FoundLaws.{transition_is}
 
 pub record Live (r : Result Transition Fault) : Type 0 where
   pub ends : (g : Transition) → r ≡ Ok g → g.event ≡ StreamEnd → g.mode ≡ Ended

@@ -9,7 +9,7 @@ use Rattle.yaml_text.specs.Written.{Written, elements_of, elements_text, has_no_
 use Rattle.serde_yaml2.specs.declared.error.Errors.{Errors}
 use Rattle.serde_yaml2.specs.declared.error.Errors.TheVariants as errors
 use Rattle.serde_yaml2.specs.Output.{Output, appended, IsCut, Explains, Puts, Writes, item_text, head, list_head}
-use Rattle.serde_yaml2.proofs.Pieces.{appended_twice, cut_first, cut_second}
+use Rattle.serde_yaml2.specs.PieceLaws.{appended_twice, cut_first, cut_second}
 
 -- why a shallower value was not written emits why a deeper one was not
 pub explains_more : (e : Errors) (m n : ℕ) → m ≤ n → Explains e m → Explains e n

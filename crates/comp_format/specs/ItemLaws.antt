@@ -6,9 +6,9 @@ use Rattle.comp_format.specs.Vectors.{optional_at, name_text, optional_text}
 use Rattle.comp_format.specs.Parts.{DescriptionForm, sort_at, description_at, export_name_at, sort_text, description_text}
 use Rattle.comp_format.specs.Items.{ImportTree, ExportTree, ImportForm, ExportForm, import_at, export_at, import_text, export_text}
 use Rattle.comp_format.specs.Fits.{FitsType, FitsImport, FitsExport}
-use Rattle.comp_format.proofs.NumberLaws.{number_form, number_again, number_written}
-use Rattle.comp_format.proofs.VectorLaws.{IsSound, IsComplete, name_written, optional_form, optional_again, optional_written}
-use Rattle.comp_format.proofs.PartLaws.{sort_form, sort_again, sort_written, description_form, description_again, description_written, export_name_form, export_name_again}
+use Rattle.comp_format.specs.NumberLaws.{number_form, number_again, number_written}
+use Rattle.comp_format.specs.VectorLaws.{IsSound, IsComplete, name_written, optional_form, optional_again, optional_written}
+use Rattle.comp_format.specs.PartLaws.{sort_form, sort_again, sort_written, description_form, description_again, description_written, export_name_form, export_name_again}
 
 -- ---- imports
 

@@ -13,9 +13,9 @@ use Rattle.yaml_small.specs.Grammar.{Flow, FlowItems, FlowPairs, FlowValue, is_n
 use Rattle.yaml_small.specs.ScalarLaws.{token_scanned}
 use Rattle.yaml_small.specs.Step.{Transition, settled, inline_at, seq_entry, pairs_entry, seq_done, pairs_done, after_key_at, flow_value, flow_key, missing_transition}
 use Rattle.yaml_small.specs.Stream.{State, Runs}
-use Rattle.yaml_small.proofs.Marks.{scalar_token_opener}
-use Rattle.yaml_small.proofs.Runs.{From, done, landed, runs_in, settles, closes, length_pushed}
-use Rattle.yaml_small.proofs.Steps.{pushes, misses, by, inline_seq, inline_map, inline_scalar_token, begins_other, at_open_seq, at_open_pairs, at_done_seq, at_done_pairs, at_after_key}
+use Rattle.yaml_small.specs.MarkLaws.{scalar_token_opener}
+use Rattle.yaml_small.specs.RunLaws.{From, done, landed, runs_in, settles, closes, length_pushed}
+use Rattle.yaml_small.specs.StepLaws.{pushes, misses, by, inline_seq, inline_map, inline_scalar_token, begins_other, at_open_seq, at_open_pairs, at_done_seq, at_done_pairs, at_after_key}
 
 entry_ends : (fl : Bool) (d : ℕ) (a : At) → begins 93 a.line ≡ true → seq_entry fl d a ≡ Ok (settled fl false SequenceEnd Pop (past 1 a))
 unfolding seq_entry

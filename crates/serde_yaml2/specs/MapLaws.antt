@@ -9,8 +9,8 @@ use Rattle.yaml_text.specs.Written.{Written, members_of, members_text, has_no_me
 use Rattle.yaml_read.specs.Entries.{seen_entry}
 use Rattle.serde_yaml2.specs.declared.error.Errors.{Errors}
 use Rattle.serde_yaml2.specs.Output.{Output, appended, IsCut, Explains, Puts, Pushes, Writes, key_text, nested, map_head}
-use Rattle.serde_yaml2.proofs.Pieces.{appended_twice, cut_first, cut_second}
-use Rattle.serde_yaml2.proofs.Lists.{explains_more, head_none}
+use Rattle.serde_yaml2.specs.PieceLaws.{appended_twice, cut_first, cut_second}
+use Rattle.serde_yaml2.specs.ListLaws.{explains_more, head_none}
 
 -- a key and its value
 abbrev pub entry_text : ℕ → List ℕ × Written → List ℕ

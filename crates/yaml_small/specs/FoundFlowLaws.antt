@@ -13,9 +13,9 @@ use Rattle.yaml_small.specs.Grammar.{Flow, FlowItems, FlowPairs, FlowValue, is_q
 use Rattle.yaml_small.specs.ScalarLaws.{token_form}
 use Rattle.yaml_small.specs.Step.{Transition, opened, settled, scalar_token_transition, missing_transition, inline_at, seq_entry, pairs_entry, seq_done, pairs_done, after_key_at, flow_value, flow_key, flow_fault, seq_fault}
 use Rattle.yaml_small.specs.Stream.{State, Runs}
-use Rattle.yaml_small.proofs.Runs.{From, done, landed, length_pushed, popped}
-use Rattle.yaml_small.proofs.Steps.{at_open_seq, at_open_pairs, at_done_seq, at_done_pairs, at_after_key}
-use Rattle.yaml_small.proofs.Found.{choose, refused, went, landed_at, opened_at, Bound, bound, continues_in}
+use Rattle.yaml_small.specs.RunLaws.{From, done, landed, length_pushed, popped}
+use Rattle.yaml_small.specs.StepLaws.{at_open_seq, at_open_pairs, at_done_seq, at_done_pairs, at_after_key}
+use Rattle.yaml_small.specs.FoundLaws.{choose, refused, went, landed_at, opened_at, Bound, bound, continues_in}
 
 pub record FoundFlow (fl : Bool) (k : List Frame) (a : At) (es : List Event) (z : State) : Type 0 where
   pub tree : Tree

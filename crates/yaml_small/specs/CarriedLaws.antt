@@ -3,9 +3,9 @@ use Rattle.std.proofs.Common.{ℕ, List, [], Option, sym, subst}
 use Rattle.yaml_small.specs.Trees.{Tree, stream_emitted, ends_again}
 use Rattle.yaml_small.specs.Grammar.{Carried}
 use Rattle.yaml_small.specs.Stream.{State, start, Runs}
-use Rattle.yaml_small.proofs.FoundText.{found}
-use Rattle.yaml_small.proofs.Unique.{stream_one, last_step}
-use Rattle.yaml_small.proofs.Live.{stream_end}
+use Rattle.yaml_small.specs.FoundTextLaws.{found}
+use Rattle.yaml_small.specs.UniqueLaws.{stream_one, last_step}
+use Rattle.yaml_small.specs.LiveLaws.{stream_end}
 
 pub is_carried : (text : List ℕ) (o : Option Tree) (z : State) → Runs (start text) (stream_emitted o []) z → Carried text o
 is_carried text o z runs =

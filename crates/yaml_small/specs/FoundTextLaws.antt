@@ -13,9 +13,9 @@ use Rattle.yaml_small.specs.Scalars.{Form, NotCarried}
 use Rattle.yaml_small.specs.Grammar.{Closed, Below, Inline, Node, Explicit, Document as ADocument, first_at, Carried}
 use Rattle.yaml_small.specs.Step.{transition, explicit_at, document_at, dots_end, root_done, last_at, line_fault, done_at, step_at}
 use Rattle.yaml_small.specs.Stream.{State, Runs, Emits}
-use Rattle.yaml_small.proofs.Runs.{From, state, done, from_of}
-use Rattle.yaml_small.proofs.Found.{choose, refused, went, continues_below_from}
-use Rattle.yaml_small.proofs.FoundBlock.{FoundBy, found_as, inline_found, below_found, node_law}
+use Rattle.yaml_small.specs.RunLaws.{From, state, done, from_of}
+use Rattle.yaml_small.specs.FoundLaws.{choose, refused, went, continues_below_from}
+use Rattle.yaml_small.specs.FoundBlockLaws.{FoundBy, found_as, inline_found, below_found, node_law}
 
 -- the next step of a state with no open list or map
 step : (mode : Mode) (a : At) (es : List Event) (z : State) → (mode ≡ Ended → ⊥) → z.mode ≡ Ended → Runs (state mode [] a) es z → From [] (step_at mode None 0 a) es z

@@ -21,9 +21,9 @@ use Rattle.warg_hash.specs.HashLaws.{length-hash_text, digest_of-again, digest_o
 use Rattle.warg_record.specs.Key.{is_key_text, IsKeyText}
 use Rattle.warg_record.specs.Record.{Kind, Package, Operator, IsText, is_permission, permissions_of}
 use Rattle.warg_record.specs.Reading.{text_of, key_of, hash_of, version_of, permission_of}
-use Rattle.warg_record.proofs.Steps.{bind_some, some_is, never}
-use Rattle.warg_record.proofs.KeyLaws.{is_key_text-sound, is_key_text-complete}
-use Rattle.warg_record.proofs.VersionLaws.{IsAscii-parts_text, parts_text-some}
+use Rattle.warg_record.specs.StepLaws.{bind_some, some_is, never}
+use Rattle.warg_record.specs.KeyLaws.{is_key_text-sound, is_key_text-complete}
+use Rattle.warg_record.specs.VersionLaws.{IsAscii-parts_text, parts_text-some}
 
 ok_from : {A E : Type 0} (r : Result A E) (x : A) → result_ok r ≡ Some x → r ≡ Ok x
 ok_from (Ok y) x e = ap (λ (z : _). Ok z) (some_is y x e)

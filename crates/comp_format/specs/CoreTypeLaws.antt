@@ -13,8 +13,8 @@ use Rattle.comp_format.specs.Numbers.{Number, number_at, number_text}
 use Rattle.comp_format.specs.Vectors.{ReaderOf, Many, vector_at, many_at, any_name_at, byte_at, carried_at, vector_text, name_text}
 use Rattle.comp_format.specs.CoreTypes.{CoreTree, Func, Module, ModuleDeclTree, Import, CoreTy, OuterAlias, Export, ModuleDecls, none, more, module_decls, module_count, CoreValForm, LimitsOf, LimitsForm, CoreDescForm, CoreForm, ModuleDeclForm, ModuleForm, core_value_code, core_value_of, core_value_at, is_reference, limits_at, table_at, mutable_code, mutable_at, global_at, core_desc_at, module_import_at, module_alias_at, module_export_at, module_decl_at, core_func_at, module_at, core_with, core_at, core_value_text, limits_of_text, limits_text, core_desc_text, core_text, module_decl_text, module_text}
 use Rattle.comp_format.specs.Fits.{FitsLimits, FitsCoreDesc, FitsCore, FitsModuleDecl, FitsModule}
-use Rattle.comp_format.proofs.NumberLaws.{number_form, number_again, number_written}
-use Rattle.comp_format.proofs.VectorLaws.{IsSound, IsComplete, vector_form, vector_again, vector_written, any_name_form, any_name_again, any_name_written, byte_form, carried_form, known_ok, some_is, behind}
+use Rattle.comp_format.specs.NumberLaws.{number_form, number_again, number_written}
+use Rattle.comp_format.specs.VectorLaws.{IsSound, IsComplete, vector_form, vector_again, vector_written, any_name_form, any_name_again, any_name_written, byte_form, carried_form, known_ok, some_is, behind}
 
 -- ---- values
 

@@ -13,11 +13,11 @@ use Rattle.warg_record.specs.Answer.{GivesOrForm}
 use Rattle.warg_record.specs.Envelope.{IsMessageOf, IsEnvelopeOf, Signed}
 use Rattle.warg_record.specs.declared.error.EnvelopeError.{EnvelopeError}
 use Rattle.warg_record.specs.declared.error.EnvelopeError.TheVariants as error
-use Rattle.warg_record.proofs.Steps.{bind_some, pass_some, some_is, never}
-use Rattle.warg_record.proofs.TextLaws.{hash_of-sound, hash_of-again}
-use Rattle.warg_record.proofs.WireLaws.{IsOtherKey, field_at-sound, field_at-again, optional_at-sound, optional_at-again, number_at-sound, number_at-again}
-use Rattle.warg_record.proofs.FieldsLaws.{length-field, some_fields-sound, some_fields-again}
-use Rattle.warg_record.proofs.EntryLaws.{entry_at-sound, entry_at-again}
+use Rattle.warg_record.specs.StepLaws.{bind_some, pass_some, some_is, never}
+use Rattle.warg_record.specs.TextLaws.{hash_of-sound, hash_of-again}
+use Rattle.warg_record.specs.WireLaws.{IsOtherKey, field_at-sound, field_at-again, optional_at-sound, optional_at-again, number_at-sound, number_at-again}
+use Rattle.warg_record.specs.FieldsLaws.{length-field, some_fields-sound, some_fields-again}
+use Rattle.warg_record.specs.EntryLaws.{entry_at-sound, entry_at-again}
 
 mapped : {A B : Type 0} {f : A → B} (o : Option A) (y : B) → option_map f o ≡ Some y → (x : A) × (o ≡ Some x) × (f x ≡ y)
 mapped {A} {B} {f} (Some x) y e = (x, refl, some_is (f x) y e)

@@ -10,9 +10,9 @@ use Rattle.comp_format.specs.Vectors.{ReaderOf, many_at, vector_at, byte_at}
 use Rattle.comp_format.specs.CoreTypes.{CoreTree, CoreForm, ModuleDeclTree, module_decl_at, module_at, core_with, core_at}
 use Rattle.comp_format.specs.Definitions.{TypeTree, DeclTree, DefForm, decl_at, inner_type_at, type_with, definition_at}
 use Rattle.comp_format.specs.Sections.{Section, Sections, ComponentForm, whole_at, behind_at, headed_at, section_at, content_with, sections_at, component_at, header}
-use Rattle.comp_format.proofs.CoreTypeLaws.{core_again, core_scopes}
-use Rattle.comp_format.proofs.DefinitionLaws.{definition_again, type_scopes}
-use Rattle.comp_format.proofs.SectionLaws.{component_again, sections_scopes}
+use Rattle.comp_format.specs.CoreTypeLaws.{core_again, core_scopes}
+use Rattle.comp_format.specs.DefinitionLaws.{definition_again, type_scopes}
+use Rattle.comp_format.specs.SectionLaws.{component_again, sections_scopes}
 
 module _ {X : Type 0} where
   -- where the first reading is not too deep, the second is the same

@@ -14,8 +14,8 @@ use Rattle.yaml_small.specs.Places.{At, past, over, next_at, flow_next, begins, 
 use Rattle.yaml_small.specs.Scalars.{Fault, Form, NotCarried, ScalarToken, scalar_token_at, block_at, key_at, begins_block, continues_below}
 use Rattle.yaml_small.specs.Step.{Transition, transition, opened, list_start, map_start, settled, missing_transition, scalar_token_transition, block_transition, block_end, inline_at, node_at, below, tabbed, item_at, under, value_at, explicit_at, key_step, seq_entry, pairs_entry, open_at, flow_value, after_key_at, seq_done, pairs_done, list_done, map_done, line_fault, dots_end, root_done, done_at, document_at, last_at, step_at}
 use Rattle.yaml_small.specs.Stream.{State, top_of, changed, behind, start, Runs}
-use Rattle.yaml_small.proofs.Found.{transition_is}
-use Rattle.yaml_small.proofs.Runs.{from_of, length_pushed}
+use Rattle.yaml_small.specs.FoundLaws.{transition_is}
+use Rattle.yaml_small.specs.RunLaws.{from_of, length_pushed}
 
 -- what settles changes no more of what is open
 pub settled_change : (k : List Frame) (flow g : Bool) (e : Event) (h : Transition) (a : At) → changed (settled flow g e h.change a).change k ≡ changed h.change k

@@ -14,8 +14,8 @@ use Rattle.yaml_small.specs.Places.{At, past, flow_next, begins}
 use Rattle.yaml_small.specs.Scalars.{Fault, ScalarToken, scalar_token_at, block_at, begins_block}
 use Rattle.yaml_small.specs.Step.{Transition, transition, opened, scalar_token_transition, block_transition, missing_transition, inline_at, item_at, value_at, key_step, seq_entry, pairs_entry, open_at, after_key_at, seq_done, pairs_done, list_done, map_done, done_at, step_at}
 use Rattle.yaml_small.specs.Stream.{State, Runs}
-use Rattle.yaml_small.proofs.Marks.{NoOpener, IsHead, and_false}
-use Rattle.yaml_small.proofs.Runs.{From, state}
+use Rattle.yaml_small.specs.MarkLaws.{NoOpener, IsHead, and_false}
+use Rattle.yaml_small.specs.RunLaws.{From, state}
 
 opened_ok : (d : ℕ) (e : Event) (a : At) (mode : Mode) (f : Frame) → d < 64 → opened d e a mode f ≡ Ok (transition e a mode (Push f))
 unfolding opened

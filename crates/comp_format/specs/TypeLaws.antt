@@ -16,8 +16,8 @@ use Rattle.comp_format.specs.Numbers.{number_at, number_text, signed_index_at}
 use Rattle.comp_format.specs.Vectors.{Name, vector_at, byte_at, mark_at, known_or, optional_at, labelled_vector_at, label_alone, vector_text, name_text, optional_text}
 use Rattle.comp_format.specs.Types.{ValForm, FieldForm, CaseForm, Labels, DefinedForm, ResultForm, FuncForm, label_of, primitive_code, primitive_of, or_index, value_at, field_at, case_at, record_at, variant_at, tuple_at, flags_at, enum_at, result_at, defined_of, result_type_at, func_at, value_text, field_text, case_text, defined_text, result_text, func_text}
 use Rattle.comp_format.specs.Fits.{FitsName, FitsVal, FitsField, FitsCase, FitsDefined, FitsFunc}
-use Rattle.comp_format.proofs.NumberLaws.{number_form, number_again, number_written, signed_index_form, signed_index_again, signed_index_written, signed_first}
-use Rattle.comp_format.proofs.VectorLaws.{IsSound, IsComplete, vector_form, vector_again, vector_written, name_written, byte_form, mark_form, known_ok, some_is, behind, optional_form, optional_again, optional_written, labelled_form, labelled_again, labelled_written, under_label_form, under_label_again, label_alone_form, label_alone_again}
+use Rattle.comp_format.specs.NumberLaws.{number_form, number_again, number_written, signed_index_form, signed_index_again, signed_index_written, signed_first}
+use Rattle.comp_format.specs.VectorLaws.{IsSound, IsComplete, vector_form, vector_again, vector_written, name_written, byte_form, mark_form, known_ok, some_is, behind, optional_form, optional_again, optional_written, labelled_form, labelled_again, labelled_written, under_label_form, under_label_again, label_alone_form, label_alone_again}
 
 pub primitive_sound : (b : ℕ) (p : Primitive) → primitive_of b ≡ Some p → b ≡ primitive_code p
 primitive_sound b p e =

@@ -15,11 +15,11 @@ use Rattle.yaml_small.specs.Grammar.{Flow, LineEnd, IsKey, Inline, Below, Item a
 use Rattle.yaml_small.specs.ScalarLaws.{key_form}
 use Rattle.yaml_small.specs.Step.{Transition, scalar_token_transition, inline_at, node_at, below, tabbed, item_at, under, value_at, key_step, key_transition, list_start, map_start, missing_transition, list_done, map_done, line_fault, block_transition, block_end, step_at}
 use Rattle.yaml_small.specs.Stream.{State, Runs}
-use Rattle.yaml_small.proofs.Marks.{and_parts}
-use Rattle.yaml_small.proofs.Runs.{From, state, done, length_pushed, popped, step_of}
-use Rattle.yaml_small.proofs.Steps.{at_item, at_value, at_key, at_done_list, at_done_map}
-use Rattle.yaml_small.proofs.Found.{choose, refused, went, opened_at, bound, continues_in, continues_below_from}
-use Rattle.yaml_small.proofs.FoundFlow.{FoundFlow, flow_law, seq_found, map_found, scalar_token_found}
+use Rattle.yaml_small.specs.MarkLaws.{and_parts}
+use Rattle.yaml_small.specs.RunLaws.{From, state, done, length_pushed, popped, step_of}
+use Rattle.yaml_small.specs.StepLaws.{at_item, at_value, at_key, at_done_list, at_done_map}
+use Rattle.yaml_small.specs.FoundLaws.{choose, refused, went, opened_at, bound, continues_in, continues_below_from}
+use Rattle.yaml_small.specs.FoundFlowLaws.{FoundFlow, flow_law, seq_found, map_found, scalar_token_found}
 
 -- a tree of this form, behind which the run goes on
 pub record FoundBy (Form : Tree → At → At → Type 0) (k : List Frame) (a : At) (es : List Event) (z : State) : Type 0 where

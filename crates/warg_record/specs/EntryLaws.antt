@@ -12,10 +12,10 @@ use Rattle.warg_record.specs.Answer.{GivesOrForm, Refuses}
 use Rattle.warg_record.specs.declared.error.EnvelopeError.{EnvelopeError}
 use Rattle.warg_record.specs.declared.error.EnvelopeError.TheVariants as error
 use Rattle.warg_record.specs.Reading.{text_of, key_of, hash_of, version_of, permission_of, field_at, some_fields, only_field, one_field, two_fields, init_of, grant_of, revoke_of, release_of, yank_of, define_of, import_of, fourth_of, fifth_of, entry_of, entry_at}
-use Rattle.warg_record.proofs.Steps.{bind_some, some_is, never, pick}
-use Rattle.warg_record.proofs.TextLaws.{text_of-sound, text_of-again, key_of-sound, key_of-again, hash_of-sound, hash_of-again, version_of-sound, version_of-again, permission_of-sound, permission_of-again}
-use Rattle.warg_record.proofs.WireLaws.{field_at-sound, field_at-again}
-use Rattle.warg_record.proofs.FieldsLaws.{length-field, some_fields-sound, some_fields-again, only_field-sound, only_field-again, one_field-sound, one_field-again, two_fields-sound, two_fields-again}
+use Rattle.warg_record.specs.StepLaws.{bind_some, some_is, never, pick}
+use Rattle.warg_record.specs.TextLaws.{text_of-sound, text_of-again, key_of-sound, key_of-again, hash_of-sound, hash_of-again, version_of-sound, version_of-again, permission_of-sound, permission_of-again}
+use Rattle.warg_record.specs.WireLaws.{field_at-sound, field_at-again}
+use Rattle.warg_record.specs.FieldsLaws.{length-field, some_fields-sound, some_fields-again, only_field-sound, only_field-again, one_field-sound, one_field-again, two_fields-sound, two_fields-again}
 
 abbrev itself : List ℕ → List ℕ
 itself text = text

@@ -16,13 +16,13 @@ use Rattle.comp_format.specs.Canons.{CanonForm, canon_at}
 use Rattle.comp_format.specs.Parts.{CoreInstanceForm, InstanceForm, AliasForm, core_instance_at, instance_at, alias_at}
 use Rattle.comp_format.specs.Items.{ItemTree, ImportForm, ExportForm, import_at, export_at}
 use Rattle.comp_format.specs.Sections.{Section, Named, CoreModules, CoreInstances, CoreTypes, Nested, Instances, Aliases, Types, Canons, Imports, Exports, Sections, none, more, Framed, Whole, Behind, Headed, ContentForm, SectionsForm, ComponentForm, Reads, header, core_header, section_id, items_in, whole_at, behind_at, headed_at, frame_at, section_at, carried_id, content_with, sections_at, component_at, content_at}
-use Rattle.comp_format.proofs.NumberLaws.{number_form, number_again, leb_shorter}
-use Rattle.comp_format.proofs.VectorLaws.{IsSound, IsComplete, vector_form, vector_again, front_form, front_again, any_name_form, any_name_again}
-use Rattle.comp_format.proofs.CoreTypeLaws.{core_form, core_again, core_scopes}
-use Rattle.comp_format.proofs.DefinitionLaws.{definition_form, definition_again, type_scopes}
-use Rattle.comp_format.proofs.CanonLaws.{canon_form, canon_again}
-use Rattle.comp_format.proofs.PartLaws.{core_instance_form, core_instance_again, instance_form, instance_again, alias_form, alias_again}
-use Rattle.comp_format.proofs.ItemLaws.{import_form, import_again, export_form, export_again}
+use Rattle.comp_format.specs.NumberLaws.{number_form, number_again, leb_shorter}
+use Rattle.comp_format.specs.VectorLaws.{IsSound, IsComplete, vector_form, vector_again, front_form, front_again, any_name_form, any_name_again}
+use Rattle.comp_format.specs.CoreTypeLaws.{core_form, core_again, core_scopes}
+use Rattle.comp_format.specs.DefinitionLaws.{definition_form, definition_again, type_scopes}
+use Rattle.comp_format.specs.CanonLaws.{canon_form, canon_again}
+use Rattle.comp_format.specs.PartLaws.{core_instance_form, core_instance_again, instance_form, instance_again, alias_form, alias_again}
+use Rattle.comp_format.specs.ItemLaws.{import_form, import_again, export_form, export_again}
 
 module _ {X : Type 0} (one : ReaderOf X) (One : FormOf X) where
   pub whole_form : IsSound one One → (content : List ℕ) (xs : List X) → whole_at one content ≡ Ok xs → Whole One xs content

@@ -6,7 +6,7 @@ use Rattle.std.proofs.lemmas.Bool.{cases_Bool, cases_lt, or_parts, ltb-true, ltb
 use Rattle.std.proofs.lemmas.List.{length-append, take_at, drop_at, take-append-drop, length-take-le}
 use Rattle.warg_record.specs.Wire.{varint_in, varint, counted, field, optional_field, number_field}
 use Rattle.warg_record.specs.Reading.{◌>>=◌, varint_at, counted_at, field_at, optional_at, number_at}
-use Rattle.warg_record.proofs.Steps.{bind_some, guard_some, pass_some, some_is, never}
+use Rattle.warg_record.specs.StepLaws.{bind_some, guard_some, pass_some, some_is, never}
 
 -- a number of more than one group
 pub varint_in-more : (k n : ℕ) → 0 < k → 128 ≤ n → varint_in k n ≡ (128 + n % 128) ∷ varint_in (k - 1) (n / 128)

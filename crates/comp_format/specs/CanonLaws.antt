@@ -11,8 +11,8 @@ use Rattle.comp_format.specs.Numbers.{number_at, number_text}
 use Rattle.comp_format.specs.Vectors.{vector_at, byte_at, mark_at, vector_text}
 use Rattle.comp_format.specs.Canons.{OptionForm, CanonForm, option_at, lift_at, lower_at, canon_at, option_text, canon_text}
 use Rattle.comp_format.specs.Fits.{FitsOption, FitsCanon}
-use Rattle.comp_format.proofs.NumberLaws.{number_form, number_again, number_written}
-use Rattle.comp_format.proofs.VectorLaws.{IsSound, IsComplete, vector_form, vector_again, vector_written, byte_form, mark_form, behind}
+use Rattle.comp_format.specs.NumberLaws.{number_form, number_again, number_written}
+use Rattle.comp_format.specs.VectorLaws.{IsSound, IsComplete, vector_form, vector_again, vector_written, byte_form, mark_form, behind}
 
 option_form : IsSound option_at OptionForm
 unfolding option_at

@@ -21,8 +21,8 @@ use Rattle.comp_format.specs.Numbers.{number_at, number_text}
 use Rattle.comp_format.specs.Vectors.{vector_at, name_at, any_name_at, byte_at, mark_at, vector_text, name_text}
 use Rattle.comp_format.specs.Parts.{SortForm, DescriptionForm, ArgForm, MemberForm, InstanceForm, AliasForm, CoreArgForm, CoreMemberForm, CoreInstanceForm, ExportName, core_sort_code, core_sort_of, core_sort_at, sort_at, type_at, description_at, arg_at, member_at, instantiate_at, instance_at, is_outer, alias_export_at, core_export_at, outer_at, of_core, target_at, alias_at, core_arg_at, core_member_at, core_instantiate_at, core_instance_at, export_name_at, sort_text, description_text, arg_text, member_text, instance_text, alias_text, core_arg_text, core_member_text, core_instance_text}
 use Rattle.comp_format.specs.Fits.{FitsType, FitsArg, FitsInstance, FitsAlias, FitsCoreArg, FitsCoreMember, FitsCoreInstance}
-use Rattle.comp_format.proofs.NumberLaws.{number_form, number_again, number_written}
-use Rattle.comp_format.proofs.VectorLaws.{IsSound, IsComplete, vector_form, vector_again, vector_written, name_form, name_again, name_written, any_name_form, any_name_again, any_name_written, byte_form, mark_form, known_ok, some_is, behind}
+use Rattle.comp_format.specs.NumberLaws.{number_form, number_again, number_written}
+use Rattle.comp_format.specs.VectorLaws.{IsSound, IsComplete, vector_form, vector_again, vector_written, name_form, name_again, name_written, any_name_form, any_name_again, any_name_written, byte_form, mark_form, known_ok, some_is, behind}
 
 -- ---- sorts
 

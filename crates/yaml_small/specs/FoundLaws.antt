@@ -12,7 +12,7 @@ use Rattle.yaml_small.specs.Places.{At}
 use Rattle.yaml_small.specs.Scalars.{Fault, TooDeep}
 use Rattle.yaml_small.specs.Step.{Transition, transition, opened, settled, step_at}
 use Rattle.yaml_small.specs.Stream.{State, changed, behind, Runs}
-use Rattle.yaml_small.proofs.Runs.{From, step_of, from_of, from_in, state, landed, settled_lands, settled_event}
+use Rattle.yaml_small.specs.RunLaws.{From, step_of, from_of, from_in, state, landed, settled_lands, settled_event}
 
 -- a test on the way
 pub choose : {P : Type 0} (k : List Frame) (b : Bool) (x y : Result Transition Fault) (es : List Event) (z : State) → From k (cond b x y) es z
