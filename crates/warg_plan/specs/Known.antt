@@ -1,5 +1,5 @@
 -- What is known, and more that is known.
-use Rattle.std.specs.Prelude.{◌≡◌, ◌⊎◌, ℕ, List, Some, Result, Err, bytes_eq}
+use Rattle.std.specs.Prelude.{◌≡◌, ◌⊎◌, ℕ, List, Some, None, Result, Err, bytes_eq}
 use Rattle.indexmap.specs.IndexMap.{insert_entry}
 use Rattle.warg_plan.specs.Keys.{Release}
 use Rattle.warg_plan.specs.Walk.{Facts, Content, log_in, content_in, Stop, NeedsLog, NeedsContent}
@@ -14,6 +14,12 @@ abbrev pub IsNeed : Facts → Stop → Type 0
 IsNeed f (NeedsLog name) = (log : List Release) × (log_in f name ≡ Some log)
 IsNeed f (NeedsContent name digest) = (c : Content) × (content_in f digest ≡ Some c)
 IsNeed f _ = ⊥
+
+-- a stop asks for something that these facts lack
+abbrev pub IsUnknown : Facts → Stop → Type 0
+IsUnknown f (NeedsLog name) = log_in f name ≡ None
+IsUnknown f (NeedsContent name digest) = content_in f digest ≡ None
+IsUnknown f _ = Unit {0}
 
 -- an answer is the other one, or asks first for something that these facts have
 abbrev pub IsBelow : {X : Type 0} → Facts → Result X Stop → Result X Stop → Type 0

@@ -10,6 +10,7 @@ pub mod GoesOnLaws
 pub mod KeyLaws
 pub mod Keys
 pub mod Known
+pub mod Onward
 pub mod OrderLaws
 pub mod Plan
 pub mod PlanLaws
