@@ -1,15 +1,10 @@
 -- The keys of what a walk has found, and of what it visits, as maps find them.
 use Rattle.std.proofs.Common.{◌≡◌, ℕ, suc, ◌+◌, ◌≤◌, Bool, true, false, not, ◌||◌, cond, List, [], ◌∷◌, ◌++◌, length, map, reverse, Some, None, Result, Ok, nat_lt, refl, sym, ap, ◌∙◌, arith}
-use Rattle.std.specs.Borrow.{Bor}
+use Rattle.semver.specs.Parse.{Parts}
 use Rattle.std.specs.List.{list_any, position, position_or_len}
 use Rattle.std.proofs.lemmas.Bool.{ltb-false}
 use Rattle.std.proofs.lemmas.List.Sums.{prefix_len-le-length}
 use Rattle.indexmap.specs.IndexMap.{insert_entry}
-use Rattle.semver.specs.Identifiers.{parts_of}
-use Rattle.semver.specs.Parse.{Parts}
-use Rattle.semver.specs.declared.Version.{Version}
-use Rattle.warg_plan.specs.declared.node.Node.{Node}
-use Rattle.warg_plan.specs.Steps.{wires_view, node_view}
 use Rattle.compose_config.specs.MapLaws.{insert_new}
 use Rattle.std.specs.Map.{keys_of}
 use Rattle.std.proofs.lemmas.List.{length-map, reverse-append, map-append}
@@ -19,9 +14,9 @@ use Rattle.warg_plan.specs.declared.key.PlanKey.{PlanKey}
 use Rattle.warg_plan.specs.declared.walk.Found.{Found}
 use Rattle.warg_plan.specs.contracts.key.PlanKeyPartialEq.TheImpl as of_key
 use Rattle.warg_plan.specs.Keys.{Key, same_key}
-use Rattle.warg_plan.specs.Walk.{Stop, Arg, Entry, keys, has_key, place_of, arguments, entry_of}
+use Rattle.warg_plan.specs.Walk.{Stop, Arg, Wire, Node, Entry, keys, has_key, place_of, arguments, entry_of}
 use Rattle.warg_plan.specs.View.{key_view}
-use Rattle.warg_plan.specs.Found.{named_view, found_view, found_keys}
+use Rattle.warg_plan.specs.Found.{found_view, found_keys}
 use Rattle.warg_plan.proofs.KeyEq.{eq_is}
 
 some_is : {A : Type 0} (x y : A) → Some x ≡ Some y → x ≡ y
@@ -105,25 +100,24 @@ keys_found (e ∷ es) = ap (λ ks. key_view e.0 ∷ ks) (keys_found es)
 first_is : (j k : Key) (js ks : List Key) → j ∷ js ≡ k ∷ ks → j ≡ k
 first_is j k js ks e = cc
 
-made : Key → List ℕ → Parts → List ℕ → List ℕ → List (List ℕ × Arg) → Entry
-made key name version digest content arguments = record { key = key; name = name; version = version; digest = digest; content = content; arguments = arguments }
+abbrev built : Key → Node → Parts → List ℕ → List (List ℕ × Arg) → Entry
+built key x version content args = record { key = key; name = x.name; version = version; digest = x.digest; content = content; arguments = args }
+
+-- the entry of a node, by the keys of what was found
+pub built_of : (key : Key) (x : Node) (es : List (PlanKey × Found)) (version : Parts) (content : List ℕ) (args : List (List ℕ × Arg)) {ws : List (List ℕ × Wire)} → version ≡ x.version → content ≡ x.content → ws ≡ x.wires → arguments (found_keys es) ws ≡ args
+    → built key x version content args ≡ entry_of key x (map found_view es)
+built_of key x es version content args same text wires is =
+    let all : args ≡ arguments (keys (map found_view es)) x.wires = sym is ∙ ap (arguments (found_keys es)) wires ∙ ap (λ ks. arguments ks x.wires) (sym (keys_found es)) in
+    ap (λ v. built key x v content args) same ∙ ap (λ t. built key x x.version t args) text ∙ ap (built key x x.version x.content) all
 
 -- the entry of the key that was opened last is appended
 pub closes : (es : List (PlanKey × Found)) (ks : List PlanKey) (k : PlanKey) (f : Found) (x : Node) (path : List Key) (key : Key) → reverse (map key_view (ks ++ k ∷ [])) ≡ key ∷ path → has_key (keys (map found_view es)) key ≡ false
-    → f.«package» ≡ x.«package» → f.version ≡ x.version → f.digest ≡ x.digest → f.content ≡ x.content → map named_view f.arguments.items ≡ arguments (found_keys es) (wires_view x.wires.items)
-    → map found_view es ++ entry_of key (node_view x) (map found_view es) ∷ [] ≡ map found_view (insert_entry of_key.ghosts.eq es k f)
-unfolding made
-closes es ks k f x path key turned new name version digest content args =
+    → found_view (k, f) ≡ entry_of (key_view k) x (map found_view es)
+    → map found_view es ++ entry_of key x (map found_view es) ∷ [] ≡ map found_view (insert_entry of_key.ghosts.eq es k f)
+closes es ks k f x path key turned new found =
     let is : key_view k ≡ key = first_is (key_view k) key (reverse (map key_view ks)) path (sym (turned_more ks k) ∙ turned) in
     let free : list_any (of_key.ghosts.eq k) (keys_of es) ≡ false = any_entry k es ∙ ap (has_key (keys (map found_view es))) is ∙ new in
-    let args_are : map named_view f.arguments.items ≡ arguments (keys (map found_view es)) (wires_view x.wires.items) = args ∙ ap (λ ks. arguments ks (wires_view x.wires.items)) (sym (keys_found es)) in
-    let entry : found_view (k, f) ≡ entry_of key (node_view x) (map found_view es) =
-    ap (λ (j : Key). made j f.«package» (parts_of f.version.now) f.digest f.content.now (map named_view f.arguments.items)) is
-    ∙ ap (λ (n : List ℕ). made key n (parts_of f.version.now) f.digest f.content.now (map named_view f.arguments.items)) name
-    ∙ ap (λ (v : Bor Version). made key x.«package» (parts_of v.now) f.digest f.content.now (map named_view f.arguments.items)) version
-    ∙ ap (λ (d : List ℕ). made key x.«package» (parts_of x.version.now) d f.content.now (map named_view f.arguments.items)) digest
-    ∙ ap (λ (c : Bor (List ℕ)). made key x.«package» (parts_of x.version.now) x.digest c.now (map named_view f.arguments.items)) content
-    ∙ ap (λ (l : List (List ℕ × Arg)). made key x.«package» (parts_of x.version.now) x.digest x.content.now l) args_are in
+    let entry : found_view (k, f) ≡ entry_of key x (map found_view es) = found ∙ ap (λ j. entry_of j x (map found_view es)) is in
     sym (ap (map found_view) (insert_new of_key.ghosts.eq es k f free) ∙ map-append found_view es ((k, f) ∷ []) ∙ ap (λ e. map found_view es ++ e ∷ []) entry)
 
 abbrev pub ok_entries : List Entry → Result (List Entry) Stop

@@ -1,13 +1,18 @@
 -- The visit of a key, by what is known of it.
-use Rattle.std.proofs.Common.{◌≡◌, ◌<◌, ◌-◌, ℕ, zero, suc, true, false, List, [], ◌∷◌, ◌++◌, Result, Ok, Err, refl, sym, ap, subst, ◌∙◌, arith}
+use Rattle.std.proofs.Common.{◌≡◌, ◌<◌, ◌+◌, ◌-◌, ℕ, zero, suc, true, false, List, [], ◌∷◌, ◌++◌, drop, length, slice_index_or, Result, Ok, Err, refl, sym, ap, subst, ◌∙◌, arith}
+use Rattle.std.specs.Borrow.{Bor}
 use Rattle.std.specs.Prelude.{Option, Some, None, IfSome}
-use Rattle.std.proofs.lemmas.List.{map-append}
+use Rattle.std.proofs.lemmas.List.{map-append, drop_more}
 use Rattle.warg_values.specs.Answers.{Gives}
 use Rattle.warg_values.specs.Reading.{◌>>=◌}
 use Rattle.warg_plan.specs.Keys.{Key}
-use Rattle.warg_plan.specs.Walk.{Stop, TooDeep, Cycle, Wire, Node, Entry, keys, has_key, along, entry_of, visit}
+use Rattle.warg_plan.specs.Walk.{Stop, TooDeep, Cycle, Wire, Open, To, Node, Entry, keys, has_key, along, entry_of, visit}
 use Rattle.warg_plan.specs.WalkLaws.{has_none, keys_apart, along_grew, visit_grew}
-use Rattle.warg_plan.specs.Found.{opened}
+use Rattle.warg_plan.specs.Onward.{GoesAlong}
+use Rattle.warg_plan.specs.OnwardLaws.{stopped_behind, stopped_after}
+use Rattle.warg_plan.specs.Steps.{wire_view, wires_view}
+use Rattle.warg_plan.specs.Found.{OnStop, opened}
+use Rattle.warg_plan.specs.declared.node.Wire.{Wire as CodeWire}
 use Rattle.warg_plan.specs.View.{stop_view}
 use Rattle.warg_plan.specs.declared.stop.Stop.{Stop as CodeStop}
 
@@ -64,6 +69,41 @@ module _ (node : Key → Result Node Stop) where
   -- those that imports are wired to are visited from the same place
   pub same_along : (n : ℕ) (path there : List Key) (es same : List Entry) (k : Key) (x : Node) (ws : List (List ℕ × Wire)) → there ≡ k ∷ path → same ≡ es → ws ≡ x.wires → along (visit node n (k ∷ path)) es x.wires ≡ along (visit node n there) same ws
   same_along n path there es same k x ws p e w = ap (λ p. along (visit node n p) es x.wires) (sym p) ∙ ap (λ l. along (visit node n there) l x.wires) (sym e) ∙ ap (along (visit node n there) same) (sym w)
+
+-- how far visits along wires have come, and from where they go on
+pub record IsAlong (node : Key → Result Node Stop) (n : ℕ) (path : List Key) (es : List Entry) (ws : List (List ℕ × Wire)) (here : List Key) (now : List Entry) (left : List (List ℕ × Wire)) : Type 0 where
+  pub stands : here ≡ path
+  pub gives : along (visit node n here) now left ≡ along (visit node n path) es ws
+  pub goes_on : (later : List Entry) → GoesAlong node n here now later left → GoesAlong node n path es later ws
+
+module _ (node : Key → Result Node Stop) (n : ℕ) (path : List Key) (es : List Entry) (ws : List (List ℕ × Wire)) (here : List Key) (now : List Entry) where
+  -- behind a wire that leads nowhere
+  pub along_open : (name : List ℕ) (left : List (List ℕ × Wire)) → IsAlong node n path es ws here now ((name, Open) ∷ left) → IsAlong node n path es ws here now left
+  unfolding along
+  along_open name left a = record { stands = a.stands; gives = a.gives; goes_on = λ later g. a.goes_on later (stopped_behind node n here now later name left g) }
+
+  -- behind a wire whose visit went well
+  pub along_to : (name : List ℕ) (k : Key) (left : List (List ℕ × Wire)) (there : List Key) (mid : List Entry) → there ≡ here → visit node n here now k ≡ Ok mid → IsAlong node n path es ws here now ((name, To k) ∷ left)
+      → IsAlong node n path es ws there mid left
+  unfolding along
+  along_to name k left there mid same e a = subst (λ p. IsAlong node n path es ws p mid left) (sym same) (record {
+    stands = a.stands;
+    gives = ap (λ r. r >>= λ m. along (visit node n here) m left) (sym e) ∙ a.gives;
+    goes_on = λ later g. a.goes_on later (stopped_after node n here now mid later name k left e g);
+  })
+
+-- the wires that are left begin with the next
+pub wires_left : (ws : List (Bor (List ℕ) × CodeWire)) (i : ℕ) (w : Bor (List ℕ) × CodeWire) → i < length ws → w ≡ slice_index_or ws i w → wires_view (drop i ws) ≡ (w.0.now, wire_view w.1) ∷ wires_view (drop (i + 1) ws)
+wires_left ws i w lt is = ap wires_view (drop_more ws i w lt ∙ ap (λ y. y ∷ drop (i + 1) ws) (sym is))
+
+-- what holds where a walk stops
+pub on_stop : {X : Type 0} (r : Result X CodeStop) {P Q : Type 0} → (P → Q) → OnStop r P → OnStop r Q
+on_stop (Ok x) f h = h
+on_stop (Err e) f h = by (stop_view e) f h
+  where
+    by : (o : Option Stop) {P Q : Type 0} → (P → Q) → IfSome o (λ s. P) → IfSome o (λ s. Q)
+    by None f h = h
+    by (Some s) f h = f h
 
 abbrev pub stops : CodeStop → Result (Unit {0}) CodeStop
 stops e = Err e

@@ -8,8 +8,9 @@ use Rattle.warg_names.specs.Import.{ImportTree, import_of}
 use Rattle.compose_config.specs.Arguments.{is_among, stray}
 use Rattle.compose_config.specs.Plan.{Settings, Argument}
 use Rattle.warg_plan.specs.Keys.{Key, Release, asked, choice_for}
-use Rattle.warg_plan.specs.Walk.{Facts, Content, log_in, content_in, Stop, NeedsLog, NeedsContent, NoPackage, NoRelease, BadImportName, NoSuchImport, Wire, Node, or_stop, given, wire_of, wires_of, if_none, wires_at, node_with, node_of, walk}
+use Rattle.warg_plan.specs.Walk.{Facts, Content, log_in, content_in, Stop, NeedsLog, NeedsContent, NoPackage, NoRelease, BadImportName, NoSuchImport, Cycle, TooDeep, Wire, Node, or_stop, given, wire_of, wires_of, if_none, wires_at, node_with, node_of, walk}
 use Rattle.warg_plan.specs.Plan.{HasLog, Chooses}
+use Rattle.warg_plan.specs.Known.{IsUnknown}
 use Rattle.warg_plan.specs.Cause.{HasContent, names_of, IsCauseAt, IsCause}
 use Rattle.warg_plan.specs.StopLaws.{err_is, ok_no_err, bind_err, StopsAt, walk_stops}
 
@@ -147,3 +148,14 @@ module _ (s : Settings) (f : Facts) (root : Key) (depth : ℕ) where
   -- each stop of the walk has its cause
   pub walk_cause : (stop : Stop) → walk (node_of s f) depth root ≡ Err stop → IsCause s f root depth stop
   walk_cause stop e = let w = walk_stops (node_of s f) root depth stop e in (w.0, w.1, caused w.0 stop w.2)
+
+-- what a walk asks for is not known
+pub asked_unknown : (s : Settings) (f : Facts) (n : ℕ) (root : Key) (stop : Stop) → walk (node_of s f) n root ≡ Err stop → IsUnknown f stop
+asked_unknown s f n root (NeedsLog name) e = (walk_cause s f root n (NeedsLog name) e).2.3
+asked_unknown s f n root (NeedsContent name digest) e = (walk_cause s f root n (NeedsContent name digest) e).2.2
+asked_unknown s f n root (NoPackage key) e = record {}
+asked_unknown s f n root (NoRelease name) e = record {}
+asked_unknown s f n root (BadImportName name) e = record {}
+asked_unknown s f n root (NoSuchImport key name) e = record {}
+asked_unknown s f n root (Cycle key) e = record {}
+asked_unknown s f n root TooDeep e = record {}

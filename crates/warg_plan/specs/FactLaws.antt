@@ -1,11 +1,13 @@
 -- A walk over more that is known goes the same way, or goes on where something was asked for.
-use Rattle.std.proofs.Common.{◌≡◌, ℕ, zero, suc, Bool, true, false, cond, List, [], ◌∷◌, Option, Some, None, Result, Ok, Err, refl, sym, ap, subst, ◌∙◌, inl, inr}
+use Rattle.std.proofs.Common.{◌≡◌, ℕ, zero, suc, Bool, true, false, cond, List, [], ◌∷◌, bytes_eq, Option, Some, None, Result, Ok, Err, refl, sym, ap, subst, ◌∙◌, inl, inr}
+use Rattle.std.specs.Map.{lookup}
+use Rattle.indexmap.specs.IndexMap.{insert_entry}
 use Rattle.warg_values.specs.Reading.{◌>>=◌}
 use Rattle.warg_values.specs.ReadingLaws.{never}
 use Rattle.compose_config.specs.Plan.{Settings}
-use Rattle.warg_plan.specs.Keys.{Key, asked, choice_for}
-use Rattle.warg_plan.specs.Walk.{Facts, Stop, NeedsLog, NeedsContent, NoPackage, NoRelease, Cycle, Wire, Open, To, Node, Entry, keys, has_key, or_stop, log_in, content_in, node_of, along_one, along, visit}
-use Rattle.warg_plan.specs.Known.{IsNeed, IsBelow, Extends}
+use Rattle.warg_plan.specs.Keys.{Key, Release, asked, choice_for}
+use Rattle.warg_plan.specs.Walk.{Facts, Content, Stop, NeedsLog, NeedsContent, NoPackage, NoRelease, Cycle, Wire, Open, To, Node, Entry, keys, has_key, or_stop, log_in, content_in, node_of, along_one, along, visit}
+use Rattle.warg_plan.specs.Known.{IsNeed, IsBelow, Extends, with_log, with_content}
 
 module _ {X Y : Type 0} (all : Facts) where
   bind_below : (r q : Result X Stop) (h k : X → Result Y Stop) → IsBelow all r q → ((x : X) → IsBelow all (h x) (k x)) → IsBelow all (r >>= h) (q >>= k)
@@ -54,3 +56,37 @@ module _ (all : Facts) (f g : Key → Result Node Stop) (below : (k : Key) → I
 pub found_stays : {X : Type 0} (all : Facts) (r q : Result X Stop) (x : X) → IsBelow all r q → r ≡ Ok x → q ≡ Ok x
 found_stays all r q x (inl e) h = sym e ∙ h
 found_stays all r q x (inr e) h = never e.0 x (sym e.1 ∙ h)
+
+-- ---- what is known more
+
+pub extends_itself : (f : Facts) → Extends f f
+extends_itself f = record { logs = λ name log is. is; contents = λ digest c is. is }
+
+pub extends_twice : (f g h : Facts) → Extends f g → Extends g h → Extends f h
+extends_twice f g h a b = record {
+  logs = λ name log is. b.logs name log (a.logs name log is);
+  contents = λ digest c is. b.contents digest c (a.contents digest c is);
+}
+
+-- what is found among entries is found among them and a new one
+found_with : {X : Type 0} (q k : List ℕ) (es : List (List ℕ × X)) (x y : X) → lookup (λ p. bytes_eq k p) es ≡ None → lookup (λ p. bytes_eq q p) es ≡ Some y → lookup (λ p. bytes_eq q p) (insert_entry bytes_eq es k x) ≡ Some y
+found_with q k [] x y new is = absurd cc
+found_with {X} q k (e ∷ es) x y new is = by (bytes_eq k e.0) new (found_with q k es x y)
+  where
+    behind : (there : Bool) → cond there (Some e.1) (lookup (λ p. bytes_eq q p) es) ≡ Some y → (lookup (λ p. bytes_eq q p) es ≡ Some y → lookup (λ p. bytes_eq q p) (insert_entry bytes_eq es k x) ≡ Some y)
+        → cond there (Some e.1) (lookup (λ p. bytes_eq q p) (insert_entry bytes_eq es k x)) ≡ Some y
+    behind true is later = is
+    behind false is later = later is
+
+    by : (here : Bool) → cond here (Some e.1) (lookup (λ p. bytes_eq k p) es) ≡ None → (lookup (λ p. bytes_eq k p) es ≡ None → lookup (λ p. bytes_eq q p) es ≡ Some y → lookup (λ p. bytes_eq q p) (insert_entry bytes_eq es k x) ≡ Some y)
+        → lookup (λ p. bytes_eq q p) (cond here ((e.0, x) ∷ es) (e ∷ insert_entry bytes_eq es k x)) ≡ Some y
+    by true new later = absurd cc
+    by false new later = behind (bytes_eq q e.0) is (later new)
+
+-- with a log that was not known
+pub log_more : (f : Facts) (name : List ℕ) (log : List Release) → log_in f name ≡ None → Extends f (with_log f name log)
+log_more f name log new = record { logs = λ q l is. found_with q name f.logs log l new is; contents = λ digest c is. is }
+
+-- with a content that was not known
+pub content_more : (f : Facts) (digest : List ℕ) (c : Content) → content_in f digest ≡ None → Extends f (with_content f digest c)
+content_more f digest c new = record { logs = λ name log is. is; contents = λ q d is. found_with q digest f.contents c d new is }

@@ -11,6 +11,7 @@ pub mod KeyLaws
 pub mod Keys
 pub mod Known
 pub mod Onward
+pub mod OnwardLaws
 pub mod OrderLaws
 pub mod Plan
 pub mod PlanLaws

@@ -27,6 +27,10 @@ abbrev pub arg_view : PlanArg → walk.Arg
 arg_view (arg.Entry place) = walk.OfEntry place
 arg_view arg.Left = walk.Left
 
+-- what an import is given, with its name
+abbrev pub named_view : List ℕ × PlanArg → List ℕ × walk.Arg
+named_view a = (a.0, arg_view a.1)
+
 abbrev pub entry_view : PlanEntry → walk.Entry
 entry_view e = record {
   key = key_view e.key;
@@ -34,7 +38,7 @@ entry_view e = record {
   version = parts_of e.version;
   digest = e.digest;
   content = e.content.items;
-  arguments = map (λ (a : List ℕ × PlanArg). (a.0, arg_view a.1)) e.arguments.items;
+  arguments = map named_view e.arguments.items;
 }
 
 abbrev pub plan_view : Plan → List walk.Entry

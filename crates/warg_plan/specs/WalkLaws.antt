@@ -27,7 +27,7 @@ pub or_false : (a b : Bool) → (a || b) ≡ false → (a ≡ false) × (b ≡ f
 or_false true b e = no_truth e
 or_false false b e = (refl, e)
 
-has_more : (ks js : List Key) (k : Key) → has_key ks k ≡ true → has_key (ks ++ js) k ≡ true
+pub has_more : (ks js : List Key) (k : Key) → has_key ks k ≡ true → has_key (ks ++ js) k ≡ true
 has_more [] js k e = no_truth (sym e)
 has_more (j ∷ ks) js k e = by (same_key k j) (has_more ks js k) e
   where

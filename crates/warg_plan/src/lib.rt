@@ -20,4 +20,4 @@ pub use node::{Node, Question, Wire, node_of};
 pub use plan::{Plan, PlanArg, PlanEntry};
 pub use stop::Stop;
 pub use text::{TextError, check_text};
-pub use walk::find_plan;
+pub use walk::Walk;
