@@ -1,12 +1,18 @@
 -- How a search goes on, and how it ends.
-use Rattle.std.proofs.Common.{◌≡◌, List, [], ◌∷◌, ◌++◌, Option, Some, IfSome, Result, Ok, Err, refl, sym, ap, subst, ◌∙◌, inl, inr}
+use Rattle.std.proofs.Common.{◌≡◌, ℕ, List, [], ◌∷◌, ◌++◌, Option, Some, IfSome, Result, Ok, Err, refl, sym, ap, subst, ◌∙◌, inl, inr}
 use Rattle.warg_hash.specs.declared.hash.AnyHash.{AnyHash}
 use Rattle.warg_hash.specs.declared.name.PackageName.{PackageName}
-use Rattle.warg_plan.specs.Walk.{Facts, Stop, Entry, nothing_known}
+use Rattle.warg_plan.specs.CauseLaws.{asked_unknown}
+use Rattle.warg_plan.specs.FactLaws.{content_more, log_more}
+use Rattle.warg_plan.specs.Keys.{Key, Release}
+use Rattle.warg_plan.specs.Known.{Extends, with_content, with_log}
+use Rattle.warg_plan.specs.Onward.{IsOnTheWay}
+use Rattle.warg_plan.specs.OnwardLaws.{still_on_way}
+use Rattle.warg_plan.specs.Walk.{Content, Facts, NeedsContent, NeedsLog, Stop, Entry, node_of, nothing_known, walk}
 use Rattle.warg_plan.specs.View.{stop_view}
 use Rattle.warg_plan.specs.declared.stop.Stop.{Stop as Stopped}
 use Rattle.warg_plan.specs.declared.stop.Stop.TheVariants as stopped
-use Rattle.warg_assemble.specs.Parts.{Part, learnt, learnt_by}
+use Rattle.warg_assemble.specs.Parts.{Load, Loaded, Part, Update, Updated, learnt, learnt_by, releases_in}
 use Rattle.warg_assemble.specs.Session.{Wanted, walked}
 use Rattle.warg_search.specs.Search.{AreLearnt, AsksFor, IsUnderWay, HasLearnt, Finds, IsSearchRefusal}
 use Rattle.warg_search.specs.SearchLaws.{learnt_more, learns_by}
@@ -27,8 +33,32 @@ told_by (stopped.NoSuchImport key name) memory log content = (_, refl, λ asks. 
 told_by (stopped.Cycle key) memory log content = (_, refl, λ asks. asks)
 told_by stopped.TooDeep memory log content = (_, refl, λ asks. asks)
 
+module _ {T : Type 0} (Learns : T → Stop → Part → T → Type 0) (old new : T) (f g : Facts) where
+  -- a log that is learnt by an update is known from then on
+  pub log_step : (name : List ℕ) (log : List Release) (u : Update) → u.name ≡ name → releases_in u.log ≡ log → Learns old (NeedsLog name) (Updated u) new → g ≡ with_log f name log → IsStep Learns (NeedsLog name) old new f g
+  log_step name log u named releases learns added = record {
+    part = Updated u;
+    learns = learns;
+    knows = added ∙ sym (ap (λ n. with_log f n (releases_in u.log)) named ∙ ap (with_log f name) releases);
+    more = λ unknown. subst (Extends f) (sym added) (log_more f name log unknown);
+  }
+
+  -- and so is a content that is loaded
+  pub content_step : (name digest : List ℕ) (c : Content) (l : Load) → l.digest ≡ digest → l.content ≡ c → Learns old (NeedsContent name digest) (Loaded l) new → g ≡ with_content f digest c
+      → IsStep Learns (NeedsContent name digest) old new f g
+  content_step name digest c l asked content learns added = record {
+    part = Loaded l;
+    learns = learns;
+    knows = added ∙ sym (ap (λ d. with_content f d l.content) asked ∙ ap (with_content f digest) content);
+    more = λ unknown. subst (Extends f) (sym added) (content_more f digest c unknown);
+  }
+
 some_told : {X : Type 0} (P : X → Type 0) (o : Option X) (x : X) → o ≡ Some x → IfSome o P → P x
 some_told P o x e h = subst (λ o. IfSome o P) e h
+
+-- what a walk from the root of a plan says, the walk for the plan says
+pub says_from : (w : Wanted) (f : Facts) (root : Key) (stop : Stopped) → root ≡ w.root → IfSome (stop_view stop) (λ s. walk (node_of w.settings f) w.depth root ≡ Err s) → IfSome (stop_view stop) (λ s. walked w f ≡ Err s)
+says_from w f root stop is says = subst (λ k. IfSome (stop_view stop) (λ s. walk (node_of w.settings f) w.depth k ≡ Err s)) is says
 
 module _ {T : Type 0} (w : Wanted) (Learns : T → Stop → Part → T → Type 0) (old : T) where
   -- the walk over what is known is the one over what was learnt
@@ -78,3 +108,12 @@ module _ {T : Type 0} (w : Wanted) (Learns : T → Stop → Part → T → Type 
     parts = u.parts ++ h.2.part ∷ [];
     are = learnt_next mid new f h.0 h.2.part u (some_told (λ s. walked w f ≡ Err s) (stop_view stop) h.0 h.1 stops) h.2.learns;
   }
+
+module _ {T : Type 0} (w : Wanted) (Learns : T → Stop → Part → T → Type 0) where
+  -- what the walk has found where it stopped is on its way still, once what it asked for is learnt
+  pub walks_on : (mid new : T) (f g : Facts) (root : Key) (es : List Entry) (stop : Stopped) → IfSome (stop_view stop) (λ s. walk (node_of w.settings f) w.depth root ≡ Err s)
+      → IfSome (stop_view stop) (λ s. IsOnTheWay w.settings f w.depth root es) → (asked : Stop) → stop_view stop ≡ Some asked → IsStep Learns asked mid new f g → IsOnTheWay w.settings g w.depth root es
+  walks_on mid new f g root es stop stops way asked told step =
+      let says = some_told (λ s. walk (node_of w.settings f) w.depth root ≡ Err s) (stop_view stop) asked told stops in
+      let here = some_told (λ s. IsOnTheWay w.settings f w.depth root es) (stop_view stop) asked told way in
+      still_on_way w.settings f g w.depth root es (step.more (asked_unknown w.settings f w.depth root asked says)) here

@@ -1,5 +1,6 @@
 -- One step of a search: what a stop of the walk asks for is learnt, or refused.
 use Rattle.std.specs.Prelude.{◌≡◌, ◌⊎◌, Some}
+use Rattle.warg_plan.specs.Known.{Extends, IsUnknown}
 use Rattle.warg_plan.specs.Walk.{Facts, Stop}
 use Rattle.warg_plan.specs.View.{stop_view}
 use Rattle.warg_plan.specs.declared.stop.Stop.{Stop as Stopped}
@@ -14,6 +15,7 @@ module _ {T : Type 0} (Learns : T → Stop → Part → T → Type 0) where
     pub part : Part
     pub learns : Learns old asked part new
     pub knows : after ≡ learnt before part
+    pub more : IsUnknown before asked → Extends before after
 
   -- what a stop asks for is learnt, but there is no memory to know it
   pub record IsForgotten (asked : Stop) (old new : T) : Type 0 where

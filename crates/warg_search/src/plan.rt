@@ -1,10 +1,8 @@
 //! The search of a plan.
 
 ghost use Rattle.std.specs.Prelude.{◌≡◌, Some, IfOk, IfErr, OnOk};
-ghost use Rattle.warg_values.specs.Answers.{Gives};
 ghost use Rattle.warg_plan.specs.View.{facts_view, plan_view, stop_view};
 ghost use Rattle.warg_plan.specs.Walk.{NeedsContent, NeedsLog, Stop as Asked};
-ghost use Rattle.warg_assemble.specs.Session.{walked};
 ghost use Rattle.warg_search.specs.Search.{Finds, IsSearchRefusal, wanted_by};
 ghost use Rattle.warg_search.specs.Steps.{IsStep, IsStepFault};
 
@@ -13,7 +11,7 @@ use crate::learn::Learn;
 use compose_config::Config;
 use std::alloc::Global;
 use warg_hash::{AnyHash, PackageName};
-use warg_plan::{Facts, Plan, PlanKey, Question, Stop, find_plan};
+use warg_plan::{Facts, Plan, PlanKey, Question, Stop, Walk};
 
 /// Learns the log of a package, which is known from then on.
 fn learn_log<A: Learn>(
@@ -78,18 +76,10 @@ fn learn<A: Learn>(
     }
 }
 
-/// The plan of a text over what is known, or why the walk finds none yet, or none at all.
-fn plan_over(alloc: Global, config: &Config, facts: &Facts) -> Result<Plan, Stop>
-    ensures { Gives stop_view plan_view result (walked (wanted_by config.now) (facts_view facts.now)) }
-{
-    let root = PlanKey::root(alloc)?;
-    find_plan(alloc, &Question { config, facts }, &root)
-}
-
 /// Searches the plan of a text.
 ///
-/// The walk over what is known finds it, or asks for something; that is learnt, and the walk begins anew, over more
-/// that is known. A stop of the walk that asks for nothing ends the search.
+/// The walk over what is known finds it, or asks for something; that is learnt, and the walk goes on from what it has
+/// found, over more that is known. A stop of the walk that asks for nothing ends the search.
 pub fn search_plan<A: Learn>(
     alloc: Global,
     learner: &mut A,
@@ -100,11 +90,24 @@ pub fn search_plan<A: Learn>(
     ensures refused { IfErr result (IsSearchRefusal (wanted_by config.now) A.Learns A.Refuses
         (A.told learner.old) (A.told learner.new)) }
 {
+    let Ok(root) = PlanKey::root(alloc) else {
+        return Err(SearchError::Memory);
+    };
     let mut facts = Facts::new(alloc);
+    let mut walk = Walk::new(alloc);
     // Each turn adds a log or a content to what is known, and no memory holds so many.
     for _ in 0..u64::MAX {
-        match plan_over(alloc, config, &facts) {
-            Ok(plan) => return Ok(plan),
+        let question = Question {
+            config,
+            facts: &facts,
+        };
+        match walk.go_on(alloc, &question, &root) {
+            Ok(()) => {
+                return match walk.into_plan(alloc) {
+                    Ok(plan) => Ok(plan),
+                    Err(_memory) => Err(SearchError::Memory),
+                };
+            }
             Err(stop) => match learn(alloc, learner, &mut facts, stop) {
                 Ok(()) => {}
                 Err(error) => return Err(error),
