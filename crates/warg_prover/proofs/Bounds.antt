@@ -18,7 +18,7 @@ all_both P (x ∷ xs) ys h k = (h.0, all_both P xs ys h.1 k)
 pub start_left : (level place : ℕ) → place * 2 ^ suc level ≡ 2 * place * 2 ^ level
 start_left level place = let same : place * (2 ^ level * 2) ≡ 2 * place * 2 ^ level = omega arith in ap (λ (n : ℕ). place * n) (pow-suc 2 level) ∙ same
 
-start_right : (level place : ℕ) → place * 2 ^ suc level + 2 ^ level ≡ (2 * place + 1) * 2 ^ level
+pub start_right : (level place : ℕ) → place * 2 ^ suc level + 2 ^ level ≡ (2 * place + 1) * 2 ^ level
 start_right level place = omega (arith, start_left level place)
 
 within_left : (level place count total : ℕ) → place * 2 ^ suc level + count ≤ total → 2 ^ level ≤ count → 2 * place * 2 ^ level + 2 ^ level ≤ total

@@ -10,3 +10,4 @@ pub mod MapBundles
 pub mod Trees
 pub mod Kept
 pub mod Members
+pub mod Whole

@@ -1,15 +1,17 @@
 //! The leaves of a log, and the proofs over it.
 
-ghost use Rattle.std.specs.Prelude.{◌≡◌, ◌⊎◌, ◌++◌, ◌∷◌, [], ◌<◌, ◌≤◌, ◌^◌, ℕ, List, length, take, map, IfOk, OnOk, OnErr, Err, MatchOption};
+ghost use Rattle.std.specs.Prelude.{◌≡◌, ◌⊎◌, ◌++◌, ◌∷◌, [], ◌+◌, ◌*◌, ◌<◌, ◌≤◌, ◌^◌, ℕ, List, length, take, map, IfOk, OnOk, OnErr, Err, MatchOption};
 ghost use Rattle.std.specs.List.{All, flat_map};
 ghost use Rattle.warg_proof.specs.LogProofs.{LogProofs, log_text};
 ghost use Rattle.warg_proof.specs.LogTree.{root as root_of, consistency_ranges};
 ghost use Rattle.warg_proof.specs.Merkle.{leaf_hash as leaf_hash_of};
+ghost use Rattle.warg_prover.specs.Places.{AreHashesAt, IsPlaceOf};
 ghost use Rattle.warg_prover.specs.Asked.{AreHashesOf, ListsInclusions, ListsConsistency, IsInclusionBundle, IsConsistencyBundle, inclusion_in, inclusion_needs, consistency_needs};
 
 use crate::fault::ProverFault;
-use crate::needed::sort_places;
-use crate::nodes::{consistency_places, inclusion_places, nodes_at};
+use crate::needed::{Place, sort_places};
+use crate::nodes::{consistency_places, inclusion_places, known_at, nodes_at};
+use indexmap::IndexMap;
 use std::alloc::Global;
 use std::marker::Model;
 use warg_hash::AnyHash;
@@ -36,18 +38,62 @@ fn inclusions_in(alloc: Global, count: u64, indices: &[u64]) -> Result<Vec<Inclu
 
 /// The hashes of a log's leaves, in the order of its entries: all that proofs over the log are made of.
 ///
-/// A clause sees it as the list of these hashes, 32 bytes each.
+/// A clause sees it as the list of these hashes, 32 bytes each. The hash of each whole node is kept once its last leaf is
+/// there, about one for each leaf, so that a proof looks up what it needs.
 #[derive(Debug, Drop)]
 pub struct LogHashes {
     hashes: Vec<[u8; 32]>,
+    /// Those of whole nodes above the leaves. One that there was no memory to keep is computed where it is needed.
+    nodes: IndexMap<Place, [u8; 32]>,
 }
 
 impl Model for LogHashes {
     ghost use Rattle.std.specs.Prelude.{List, ℕ};
+    ghost use Rattle.warg_prover.specs.Places.{AreHashesAt};
 
     ghost Value = { List (List ℕ) };
 
     ghost view = { λ log. log.hashes.items };
+
+    ghost invariant = { λ log. AreHashesAt log.hashes.items log.nodes.entries };
+}
+
+/// Keeps the hash of a node, which stands a level above `below`, over two whose hashes are known; or it answers `false`.
+fn keep_over(
+    hashes: &[[u8; 32]],
+    nodes: &mut IndexMap<Place, [u8; 32]>,
+    below: u8,
+    place: u64,
+) -> bool
+    requires fits { (below < 63) × (2 * place + 1 < 2 ^ 64) }
+    requires whole { IsPlaceOf (length hashes.now) (below + 1, place) }
+    ensures { AreHashesAt hashes.now nodes.old.entries → AreHashesAt hashes.now nodes.new.entries }
+{
+    let Some(left) = known_at(hashes, nodes, (below, 2 * place)) else {
+        return false;
+    };
+    let Some(right) = known_at(hashes, nodes, (below, 2 * place + 1)) else {
+        return false;
+    };
+    match nodes.insert((below + 1, place), hashed_root(&[left, right])) {
+        Ok(_) => true,
+        Err(_memory) => false,
+    }
+}
+
+/// Keeps the hashes of the nodes that the last leaf makes whole, as far as there is memory.
+fn keep_whole(hashes: &[[u8; 32]], nodes: &mut IndexMap<Place, [u8; 32]>)
+    ensures { AreHashesAt hashes.now nodes.old.entries → AreHashesAt hashes.now nodes.new.entries }
+{
+    let mut count = hashes.len() as u64;
+    let mut level: u8 = 0;
+    while 1 < count && count % 2 == 0 && level < 63 {
+        if !keep_over(hashes, nodes, level, count / 2 - 1) {
+            return;
+        }
+        count /= 2;
+        level += 1;
+    }
 }
 
 impl LogHashes {
@@ -57,6 +103,7 @@ impl LogHashes {
     {
         LogHashes {
             hashes: Vec::new(alloc),
+            nodes: IndexMap::new(alloc),
         }
     }
 
@@ -66,6 +113,7 @@ impl LogHashes {
         ensures err { OnErr result (self.new ≡ self.old) }
     {
         self.hashes.push(leaf_hash(entry))?;
+        keep_whole(&self.hashes, &mut self.nodes);
         Ok(())
     }
 
@@ -97,7 +145,7 @@ impl LogHashes {
     /// The nodes that the inclusions of the entries at these indices of the log's first `count` entries need, in order,
     /// each once.
     ///
-    /// It takes a pass over the entries of each node: of n entries at most `n log n` hashes, whatever is asked.
+    /// Each node is looked up.
     pub fn inclusion_nodes(
         &self,
         alloc: Global,
@@ -114,12 +162,12 @@ impl LogHashes {
         ensures not_too_large { (result ≡ Err ProverFault.TooLarge) → ⊥ }
     {
         root_is_that_of_the_hashes();
-        let Some(hashes) = self.first(count) else {
+        if self.hashes.len() < count {
             return Err(ProverFault::LogTooShort);
-        };
+        }
         let mut places = inclusion_places(alloc, count as u64, indices)?;
         sort_places(&mut places);
-        Ok(nodes_at(alloc, hashes, places.as_slice())?)
+        Ok(nodes_at(alloc, &self.hashes, &self.nodes, places.as_slice())?)
     }
 
     /// The nodes that the consistency of an old length with a new one needs, in order.
@@ -138,15 +186,15 @@ impl LogHashes {
         ensures not_too_large { (result ≡ Err ProverFault.TooLarge) → ⊥ }
     {
         root_is_that_of_the_hashes();
-        let Some(hashes) = self.first(new) else {
+        if self.hashes.len() < new {
             return Err(ProverFault::LogTooShort);
-        };
+        }
         if old == 0 || new < old {
             return Err(ProverFault::NoSuchProof);
         }
         let mut places = consistency_places(alloc, old as u64, new as u64)?;
         sort_places(&mut places);
-        Ok(nodes_at(alloc, hashes, places.as_slice())?)
+        Ok(nodes_at(alloc, &self.hashes, &self.nodes, places.as_slice())?)
     }
 
     /// The bytes of a bundle of the inclusions of the entries at these indices of the log's first `count` entries,
