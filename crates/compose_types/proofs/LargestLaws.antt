@@ -154,10 +154,6 @@ pub top_not_named : (n : ℕ) (f : WrittenScope → WrittenScope) (old rest : Li
 unfolding change_top
 top_not_named n f old rest o outermost was le = rw (was, scopes_push rest o outermost) (top_within n (f (scope_of o)) (scopes_in rest outermost) le)
 
-pub outermost_not_named : (n : ℕ) (f : WrittenScope → WrittenScope) (old : List Open) (o : Open) → old ≡ [] → n ≤ scope_size (f (scope_of o)) → n ≤ scopes_size (change_top f (scopes_in old o))
-unfolding change_top
-outermost_not_named n f old o was le = rw was (top_within n (f (scope_of o)) [] le)
-
 -- ---- along a path
 
 pub along_last_refused : (n from : ℕ) (name : List ℕ) (path rest : Path) (m : WrittenScope) → path ≡ name ∷ rest → length rest ≡ 0 → n ≤ scope_size (add_alias (alias.Export sort.Ty from name) m).0 → n ≤ scope_size (along from path m).0
@@ -196,7 +192,7 @@ up_refused : (n up i : ℕ) (m : WrittenScope) (ms next : List WrittenScope) (fu
 up_refused n up i m ms next further (Some at) none is e = absurd cc
 up_refused n up i m ms next further None none is e = rw is (record { within = omega (arith, e) })
 
-none_known : (m : WrittenScope) (at : Option At) → None ≡ option_map (λ at. index_in at m) at → at ≡ None
+pub none_known : (m : WrittenScope) (at : Option At) → None ≡ option_map (λ at. index_in at m) at → at ≡ None
 none_known m None h = refl
 none_known m (Some at) h = absurd cc
 

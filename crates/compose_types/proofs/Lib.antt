@@ -13,3 +13,7 @@ mod LargestLaws
 mod ValueLargestLaws
 mod EntityLargestLaws
 mod DeclaredLaws
+mod PossibleLaws
+mod InnerLaws
+mod ValuePossibleLaws
+mod EntityPossibleLaws

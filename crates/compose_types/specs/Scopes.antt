@@ -1,5 +1,5 @@
 -- The scopes that a state holds, from the innermost.
-use Rattle.std.specs.Prelude.{◌≡◌, ℕ, List, [], ◌∷◌, ◌++◌, map, reverse}
+use Rattle.std.specs.Prelude.{◌≡◌, ◌≢◌, ℕ, List, [], ◌∷◌, ◌++◌, map, reverse, Option, Some, None, nat_lt, if◌then◌else◌}
 use Rattle.compose_writing.specs.Keys.{KnownThings}
 use Rattle.comp_format.specs.declared.types.TypeRef.{TypeRef}
 use Rattle.comp_format.specs.Definitions as tree
@@ -9,6 +9,7 @@ use Rattle.compose_writing.specs.Scopes.{declared as declare}
 use Rattle.compose_writing.specs.WriteEntities.{counted}
 use Rattle.compose_types.specs.declared.body.Side.{Side}
 use Rattle.compose_types.specs.declared.body.Side.TheVariants as side
+use Rattle.compose_types.specs.declared.body.Scope.{Scope}
 use Rattle.compose_types.specs.declared.body.Scope.TheVariants as kind
 use Rattle.compose_types.specs.Bodies.{declared, kind_in}
 use Rattle.compose_types.specs.declared.open.Declared.{Declared}
@@ -39,6 +40,25 @@ outermost_scope s = scope_of s.0
 -- The outermost scope is a component.
 abbrev pub IsOutermost : Open → Type 0
 IsOutermost o = kind_in o.declared.body ≡ kind.Builder
+
+-- The kind of a scope within another, by how many scopes of names it counts as: a type of components counts as two, and
+-- one of instances as less.
+abbrev pub kind_of : ℕ → Scope
+kind_of width = if nat_lt width 2 then kind.Instance else kind.Component
+
+abbrev pub IsInner : Open → Type 0
+IsInner o = kind_in o.declared.body ≡ kind_of o.width
+
+-- the kind of the innermost scope, where it lies within another
+abbrev pub inner_kind : List WrittenScope → Option Scope
+inner_kind (m ∷ around ∷ ms) = Some (kind_of m.width)
+inner_kind ms = None
+
+-- Imports are declared in a type of components, and exports in that or in a type of instances. What is imported into
+-- the component that is built is declared by a call of its own.
+abbrev pub Takes : Side → Scope → Type 0
+Takes side.Imports k = k ≡ kind.Component
+Takes side.Exports k = k ≢ kind.Builder
 
 -- whether an import is declared, or an export
 abbrev pub item_of : Side → List ℕ → TypeRef → DeclTree

@@ -1,6 +1,6 @@
 //! Scopes of which the declarations are written, of each kind.
 
-ghost use Rattle.std.specs.Prelude.{◌≡◌, ◌<◌, ◌≤◌, ◌+◌, ◌^◌, ◌++◌, ◌∷◌, ◌⊎◌, [], ℕ, false, true, length, OnOk, OnErr, IfOk, IfSome, Err};
+ghost use Rattle.std.specs.Prelude.{◌≡◌, ◌≢◌, ◌<◌, ◌≤◌, ◌+◌, ◌^◌, ◌++◌, ◌∷◌, ◌⊎◌, [], ℕ, false, true, length, OnOk, OnErr, IfOk, Err};
 ghost use Rattle.comp_format.specs.CoreTypes as core;
 ghost use Rattle.comp_format.specs.Definitions as tree;
 ghost use Rattle.comp_format.specs.Definitions.{with_decl, is_exported_sort, is_resource};
@@ -221,10 +221,11 @@ impl Body {
         Ok(())
     }
 
-    /// Declares an import. A type of instances has none, and refuses it.
-    #[tactic(auto, using(crate::proofs::BodyLaws::import_pushed, crate::proofs::BodyLaws::import_kept, crate::proofs::BodyLaws::decls_pushed))]
+    /// Declares an import in a type of components.
+    #[tactic(auto, using(crate::proofs::BodyLaws::decls_pushed))]
     pub fn import(&mut self, alloc: Global, name: &str, ty: TypeRef) -> Result<(), EncodeError>
-        requires { 0 < length name.now }
+        requires kind { kind_in self.old ≡ Scope.Component }
+        requires name { 0 < length name.now }
         ensures kind { kind_in self.new ≡ kind_in self.old }
         ensures added { OnOk result (declared self.new ≡ with_decl (declared self.old) (tree.Import name.now ty)) }
         ensures too_large { (n : ℕ) → result ≡ Err (EncodeError.TooLarge n) → 2 ^ 32 ≤ n }
@@ -232,11 +233,8 @@ impl Body {
             → n ≤ decls_size (with_decl (declared self.old) (tree.Import name.now ty)) }
     {
         match &mut self.items {
-            Items::OfBuilder(builder) => {
-                builder.import(alloc, name, &ty)?;
-            }
-            Items::OfInstance(_) => return Err(EncodeError::Memory),
             Items::OfComponent(decls) => decls.import(alloc, name, ty)?,
+            Items::OfBuilder(_) | Items::OfInstance(_) => unreachable!(),
         }
         Ok(())
     }
@@ -266,10 +264,11 @@ impl Body {
         }
     }
 
-    /// Declares an export. A component that is built has none, and refuses it.
+    /// Declares an export in a type of instances or of components.
     #[tactic(auto, using(crate::proofs::BodyLaws::decls_pushed))]
     pub fn export(&mut self, alloc: Global, name: &str, ty: TypeRef) -> Result<(), EncodeError>
-        requires { 0 < length name.now }
+        requires kind { kind_in self.old ≢ Scope.Builder }
+        requires name { 0 < length name.now }
         ensures kind { kind_in self.new ≡ kind_in self.old }
         ensures added { OnOk result (declared self.new ≡ with_decl (declared self.old) (tree.Export name.now ty)) }
         ensures too_large { (n : ℕ) → result ≡ Err (EncodeError.TooLarge n) → 2 ^ 32 ≤ n }
@@ -277,9 +276,9 @@ impl Body {
             → n ≤ decls_size (with_decl (declared self.old) (tree.Export name.now ty)) }
     {
         match &mut self.items {
-            Items::OfBuilder(_) => return Err(EncodeError::Memory),
             Items::OfInstance(decls) => decls.export(alloc, name, ty)?,
             Items::OfComponent(decls) => decls.export(alloc, name, ty)?,
+            Items::OfBuilder(_) => unreachable!(),
         }
         Ok(())
     }
@@ -296,27 +295,29 @@ impl Body {
         }
     }
 
-    /// The type of instances. A scope of another kind is none.
-    pub fn into_instance(self) -> Option<InstanceType>
-        ensures decls { IfSome result (λ t. instance_type_tree t ≡ declared self) }
-        ensures form { IfSome result (λ t. AreDecls false (instance_type_tree t)) }
+    /// The type of instances.
+    pub fn into_instance(self) -> InstanceType
+        requires { kind_in self ≡ Scope.Instance }
+        ensures decls { instance_type_tree result ≡ declared self }
+        ensures form { AreDecls false (instance_type_tree result) }
     {
         let Body { items } = self;
         match items {
-            Items::OfInstance(decls) => Some(decls),
-            Items::OfBuilder(_) | Items::OfComponent(_) => None,
+            Items::OfInstance(decls) => decls,
+            Items::OfBuilder(_) | Items::OfComponent(_) => unreachable!(),
         }
     }
 
-    /// The type of components. A scope of another kind is none.
-    pub fn into_component(self) -> Option<ComponentType>
-        ensures decls { IfSome result (λ t. component_type_tree t ≡ declared self) }
-        ensures form { IfSome result (λ t. AreDecls true (component_type_tree t)) }
+    /// The type of components.
+    pub fn into_component(self) -> ComponentType
+        requires { kind_in self ≡ Scope.Component }
+        ensures decls { component_type_tree result ≡ declared self }
+        ensures form { AreDecls true (component_type_tree result) }
     {
         let Body { items } = self;
         match items {
-            Items::OfComponent(decls) => Some(decls),
-            Items::OfBuilder(_) | Items::OfInstance(_) => None,
+            Items::OfComponent(decls) => decls,
+            Items::OfBuilder(_) | Items::OfInstance(_) => unreachable!(),
         }
     }
 }

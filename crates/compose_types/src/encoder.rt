@@ -1,6 +1,6 @@
 //! Entities of shapes as types.
 
-ghost use Rattle.std.specs.Prelude.{◌≡◌, ◌≤◌, ◌^◌, ℕ, List, [], ◌∷◌, false, true, IfOk, Err, Ok, Some};
+ghost use Rattle.std.specs.Prelude.{◌≡◌, ◌≤◌, ◌^◌, ℕ, List, [], ◌∷◌, false, true, IfOk, IsSome, Err, Ok, Some};
 ghost use Rattle.comp_format.specs.CoreTypes as core;
 ghost use Rattle.comp_format.specs.Definitions as tree;
 ghost use Rattle.comp_format.specs.Definitions.{Decls};
@@ -23,7 +23,7 @@ ghost use Rattle.compose_writing.specs.WriteModules.{write_module};
 ghost use Rattle.compose_types.specs.Largest.{IsTooLarge, IsWithin, closed_size, module_size, written_size};
 ghost use Rattle.compose_types.specs.Scopes.{scopes};
 
-use crate::body::{Scope, Side};
+use crate::body::Side;
 use crate::entities::{entity_ref, instance_type, write_entries};
 use crate::modules::module_type;
 use crate::state::TypeState;
@@ -47,6 +47,8 @@ fn component_type(
 ) -> Result<ComponentType, EncodeError>
     requires imports { KeepsEntries (entries_of (named_entities imports.now)) }
     requires exports { KeepsEntries (entries_of (named_entities exports.now)) }
+    requires possible { IsSome (write_component (entries_of (named_entities imports.now))
+        (entries_of (named_entities exports.now)) (scopes state.old)) }
     ensures written { IfOk result (λ t. write_component (entries_of (named_entities imports.now))
         (entries_of (named_entities exports.now)) (scopes state.old) ≡ Some (scopes state.new, component_type_tree t)) }
     ensures form { IfOk result (λ t. AreDecls true (component_type_tree t)) }
@@ -55,10 +57,10 @@ fn component_type(
         → IsWithin n closed_size (write_component (entries_of (named_entities imports.now))
         (entries_of (named_entities exports.now)) (scopes state.old)) }
 {
-    state.open(alloc, Scope::Component, 2)?;
+    state.open(alloc, 2)?;
     write_entries(alloc, state, Side::Imports, imports)?;
     write_entries(alloc, state, Side::Exports, exports)?;
-    let ty = state.close_component()?;
+    let ty = state.close_component();
     Ok(ty)
 }
 

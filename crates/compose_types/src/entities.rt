@@ -1,6 +1,6 @@
 //! Entities, written into scopes.
 
-ghost use Rattle.std.specs.Prelude.{◌≡◌, ◌<◌, ◌≤◌, ◌^◌, ◌∷◌, ℕ, false, true, length, IfErr, IfOk, OnOk, Err, Some, option_and_then};
+ghost use Rattle.std.specs.Prelude.{◌≡◌, ◌<◌, ◌≤◌, ◌^◌, ◌∷◌, ℕ, false, true, length, IfErr, IfOk, IsSome, IsSomeAnd, OnOk, Err, Some, option_and_then};
 ghost use Rattle.comp_format.specs.Definitions as tree;
 ghost use Rattle.comp_format.specs.Forms.{AreDecls};
 ghost use Rattle.comp_format.specs.Views.{component_type_tree, instance_type_tree};
@@ -11,9 +11,9 @@ ghost use Rattle.compose_writing.specs.Conditions.{KeepsEntries, KeepsForm, Keep
 ghost use Rattle.compose_writing.specs.WriteEntities.{noted, with_named, write_component, write_entity, write_entries, write_named, write_resource, write_type};
 ghost use Rattle.compose_writing.specs.Scopes.{WrittenScope, closed, knows, opened};
 ghost use Rattle.compose_types.specs.Largest.{IsWithin, closed_size, scopes_size, written_size};
-ghost use Rattle.compose_types.specs.Scopes.{item_of, scopes};
+ghost use Rattle.compose_types.specs.Scopes.{Takes, inner_kind, item_of, scopes};
 
-use crate::body::{Scope, Side};
+use crate::body::Side;
 use crate::known::{At, Key};
 use crate::modules::module_type;
 use crate::notes::{key_of, note_exports};
@@ -26,7 +26,8 @@ use warg_values::Text;
 
 /// The index of a value type that is imported or exported: of the type that is known, or else of the type itself.
 fn named_index(alloc: Global, state: &mut TypeState, ty: &ValueShape) -> Result<u32, EncodeError>
-    requires { KeepsValue (value_tree ty.now) }
+    requires form { KeepsValue (value_tree ty.now) }
+    requires possible { IsSome (write_named (place_of (value_tree ty.now)) (value_tree ty.now) (scopes state.old)) }
     ensures written { IfOk result (λ i.
         write_named (place_of (value_tree ty.now)) (value_tree ty.now) (scopes state.old)
         ≡ Some (scopes state.new, i)) }
@@ -57,6 +58,7 @@ fn resource_ref(
     state: &mut TypeState,
     name: ResourceNo,
 ) -> Result<TypeRef, EncodeError>
+    requires { IsSome (write_resource name (knows (scopes state.old) (OfResource name)) (scopes state.old)) }
     ensures written { IfOk result (λ ty.
         write_resource name (knows (scopes state.old) (OfResource name)) (scopes state.old)
         ≡ Some (scopes state.new, ty)) }
@@ -114,6 +116,7 @@ pub fn name_entity(
     ty: TypeRef,
 ) -> Result<(), EncodeError>
     requires form { KeepsForm (entity_tree entity.now) }
+    requires kind { IsSomeAnd (inner_kind (scopes state.old)) (Takes side) }
     requires name { 0 < length name.now }
     ensures named { OnOk result (scopes state.new
         ≡ with_named (item_of side) name.now (entity_tree entity.now) ty (scopes state.old)) }
@@ -135,7 +138,8 @@ pub fn entity_ref(
     state: &mut TypeState,
     entity: &Entity,
 ) -> Result<TypeRef, EncodeError>
-    requires { KeepsForm (entity_tree entity.now) }
+    requires form { KeepsForm (entity_tree entity.now) }
+    requires possible { IsSome (write_entity (entity_tree entity.now) (scopes state.old)) }
     ensures written { IfOk result (λ ty. write_entity (entity_tree entity.now) (scopes state.old)
         ≡ Some (scopes state.new, ty)) }
     ensures too_large { (n : ℕ) → result ≡ Err (EncodeError.TooLarge n) → 2 ^ 32 ≤ n }
@@ -173,7 +177,8 @@ pub fn entity_ref(
 #[cycle(entities)]
 #[tactic(auto, using(crate::proofs::EntityLaws::type_resource, crate::proofs::EntityLaws::type_value, crate::proofs::EntityLaws::type_func, crate::proofs::EntityLaws::type_instance, crate::proofs::EntityLaws::type_component, crate::proofs::EntityLaws::value_keeps, crate::proofs::EntityLaws::func_keeps, crate::proofs::EntityLaws::sides_keep, crate::proofs::EntityLaws::exports_keep, crate::proofs::EntityLaws::tree_instance, crate::proofs::EntityLaws::tree_component))]
 fn type_ref(alloc: Global, state: &mut TypeState, ty: &TypeShape) -> Result<TypeRef, EncodeError>
-    requires { KeepsType (shape_tree ty.now) }
+    requires form { KeepsType (shape_tree ty.now) }
+    requires possible { IsSome (write_type (shape_tree ty.now) (scopes state.old)) }
     ensures written { IfOk result (λ t. write_type (shape_tree ty.now) (scopes state.old)
         ≡ Some (scopes state.new, t)) }
     ensures too_large { (n : ℕ) → result ≡ Err (EncodeError.TooLarge n) → 2 ^ 32 ≤ n }
@@ -206,7 +211,7 @@ fn type_ref(alloc: Global, state: &mut TypeState, ty: &TypeShape) -> Result<Type
     }
 }
 
-/// The type of instances with these exports.
+/// The type of instances with these exports, which counts as one scope of names or as none.
 #[cycle(entities)]
 #[tactic(auto, using(crate::proofs::EntityLaws::instance_written))]
 pub fn instance_type(
@@ -215,7 +220,10 @@ pub fn instance_type(
     width: usize,
     exports: &[(Text, Entity)],
 ) -> Result<InstanceType, EncodeError>
-    requires { KeepsEntries (entries_of (named_entities exports.now)) }
+    requires form { KeepsEntries (entries_of (named_entities exports.now)) }
+    requires width { width < 2 }
+    requires possible { IsSome (option_and_then closed
+        (write_entries tree.Export (entries_of (named_entities exports.now)) (opened width ∷ scopes state.old))) }
     ensures written { IfOk result (λ t. option_and_then closed
         (write_entries tree.Export (entries_of (named_entities exports.now)) (opened width ∷ scopes state.old))
         ≡ Some (scopes state.new, instance_type_tree t)) }
@@ -225,9 +233,9 @@ pub fn instance_type(
         → IsWithin n closed_size (option_and_then closed
         (write_entries tree.Export (entries_of (named_entities exports.now)) (opened width ∷ scopes state.old))) }
 {
-    state.open(alloc, Scope::Instance, width)?;
+    state.open(alloc, width)?;
     write_entries(alloc, state, Side::Exports, exports)?;
-    let ty = state.close_instance()?;
+    let ty = state.close_instance();
     Ok(ty)
 }
 
@@ -239,8 +247,10 @@ fn component_of(
     state: &mut TypeState,
     component: &ComponentShape,
 ) -> Result<ComponentType, EncodeError>
-    requires { KeepsEntries (component_sides component.now).imports
+    requires form { KeepsEntries (component_sides component.now).imports
         × KeepsEntries (component_sides component.now).exports }
+    requires possible { IsSome (write_component (component_sides component.now).imports
+        (component_sides component.now).exports (scopes state.old)) }
     ensures written { IfOk result (λ t. write_component (component_sides component.now).imports
         (component_sides component.now).exports (scopes state.old) ≡ Some (scopes state.new, component_type_tree t)) }
     ensures form { IfOk result (λ t. AreDecls true (component_type_tree t)) }
@@ -249,14 +259,14 @@ fn component_of(
         → IsWithin n closed_size (write_component (component_sides component.now).imports
         (component_sides component.now).exports (scopes state.old)) }
 {
-    state.open(alloc, Scope::Component, 2)?;
+    state.open(alloc, 2)?;
     write_entries(alloc, state, Side::Imports, &component.imports)?;
     write_entries(alloc, state, Side::Exports, &component.exports)?;
-    let ty = state.close_component()?;
+    let ty = state.close_component();
     Ok(ty)
 }
 
-/// Writes imports, or exports, into the innermost scope.
+/// Writes imports, or exports, into the innermost scope, which lies within another and takes them.
 #[cycle(entities)]
 pub fn write_entries(
     alloc: Global,
@@ -264,7 +274,10 @@ pub fn write_entries(
     side: Side,
     entries: &[(Text, Entity)],
 ) -> Result<(), EncodeError>
-    requires { KeepsEntries (entries_of (named_entities entries.now)) }
+    requires form { KeepsEntries (entries_of (named_entities entries.now)) }
+    requires kind { IsSomeAnd (inner_kind (scopes state.old)) (Takes side) }
+    requires possible { IsSome
+        (write_entries (item_of side) (entries_of (named_entities entries.now)) (scopes state.old)) }
     ensures written { OnOk result (
         write_entries (item_of side) (entries_of (named_entities entries.now)) (scopes state.old)
         ≡ Some (scopes state.new)) }

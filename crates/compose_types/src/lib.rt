@@ -6,6 +6,7 @@
 mod body;
 mod encoder;
 mod entities;
+mod inner;
 mod known;
 pub mod laws;
 mod modules;

@@ -15,7 +15,7 @@ ghost use Rattle.compose_writing.specs.WriteEntities.{counted};
 ghost use Rattle.comp_encoder.specs.Writing.{described_sort, next_index};
 ghost use Rattle.compose_types.specs.Bodies.{declared as decls_of_body, entries_for, kind_in};
 ghost use Rattle.compose_types.specs.Largest.{IsTooLarge, scope_size};
-ghost use Rattle.compose_types.specs.Scopes.{item_of, scope_of, with_names};
+ghost use Rattle.compose_types.specs.Scopes.{Takes, item_of, scope_of, with_names};
 ghost use Rattle.compose_types.specs.Views.{mention_of};
 
 use crate::body::{Body, Scope, Side};
@@ -187,7 +187,7 @@ impl Declared {
         }
     }
 
-    /// Declares an import or an export, and counts it.
+    /// Declares an import or an export in a scope of a kind that takes it, and counts it.
     pub fn name(
         &mut self,
         alloc: Global,
@@ -195,7 +195,8 @@ impl Declared {
         name: &str,
         ty: TypeRef,
     ) -> Result<(), EncodeError>
-        requires { 0 < length name.now }
+        requires kind { Takes side (kind_in self.old.body) }
+        requires name { 0 < length name.now }
         ensures named { OnOk result ((width : ℕ) (known : KnownThings)
             → counted ty (declare (item_of side name.now ty) (with_names width known self.old))
             ≡ with_names width known self.new) }
@@ -272,6 +273,7 @@ impl Open {
         ensures found { IfOk result (λ i. option_map (λ i. (scope_of self.new, i)) i
             ≡ option_map (λ at. index_in at (scope_of self.old)) (known_at self.old.known (mention_of key))) }
         ensures same { IfOk result (λ i. i ≡ None → scope_of self.new ≡ scope_of self.old) }
+        ensures width { self.new.width ≡ self.old.width }
         ensures kind { kind_in self.new.declared.body ≡ kind_in self.old.declared.body }
         ensures too_large { (n : ℕ) → result ≡ Err (EncodeError.TooLarge n) → 2 ^ 32 ≤ n }
         ensures among { (n : ℕ) → result ≡ Err (EncodeError.TooLarge n)

@@ -1,6 +1,6 @@
 //! Scopes into which types are written.
 
-ghost use Rattle.std.specs.Prelude.{◌≡◌, ◌<◌, ◌≤◌, ◌^◌, ◌∷◌, [], ℕ, false, true, All, length, OnOk, IfOk, IfErr, Err, Some};
+ghost use Rattle.std.specs.Prelude.{◌≡◌, ◌<◌, ◌≤◌, ◌^◌, ◌∷◌, [], ℕ, false, true, All, length, OnOk, IfOk, IfErr, IsSome, IsSomeAnd, Err, Some};
 ghost use Rattle.comp_format.specs.CoreTypes as core;
 ghost use Rattle.comp_format.specs.Definitions.{is_resource};
 ghost use Rattle.comp_format.specs.Forms.{AreDecls, AreModuleDecls, IsDefinition};
@@ -26,11 +26,12 @@ ghost use Rattle.comp_encoder.specs.Writing.{described_sort, next_index};
 ghost use Rattle.comp_encoder.specs.Builder.{entries_of};
 ghost use Rattle.compose_types.specs.Bodies.{entries_for};
 ghost use Rattle.compose_types.specs.Largest.{IsTooLarge, IsWithin, scopes_size, standing_size, written_size};
-ghost use Rattle.compose_types.specs.Scopes.{Declares, item_of, outermost_scope, scopes, scopes_in};
+ghost use Rattle.compose_types.specs.Scopes.{Declares, Takes, inner_kind, item_of, outermost_scope, scopes, scopes_in};
 ghost use Rattle.compose_types.specs.Views.{IsNamed, at_of, mention_of};
 
 use crate::body::{Scope, Side};
 use crate::entities::note_entity;
+use crate::inner::Inner;
 use crate::known::{At, Key};
 use crate::open::{Open, next};
 use crate::sights::{Sight, entity_seen};
@@ -50,7 +51,7 @@ pub struct TypeState {
     /// The component that is built.
     outermost: Open,
     /// The scopes within it that are open, the innermost last.
-    inner: Vec<Open>,
+    inner: Vec<Inner>,
 }
 
 impl Model for TypeState {
@@ -92,9 +93,10 @@ impl TypeState {
             → IsWithin n written_size (on_top (add_type (type_tree ty)) (scopes self.old)) }
     {
         match self.inner.pop() {
-            Some(mut scope) => {
+            Some(scope) => {
+                let mut scope = scope.into_open();
                 let index = scope.declared.add_type(alloc, ty)?;
-                self.inner.push(scope)?;
+                self.inner.push(Inner::of(scope))?;
                 Ok(index)
             }
             None => {
@@ -118,9 +120,10 @@ impl TypeState {
             → IsWithin n written_size (on_top (add_core_type (core.Module (module_tree ty))) (scopes self.old)) }
     {
         match self.inner.pop() {
-            Some(mut scope) => {
+            Some(scope) => {
+                let mut scope = scope.into_open();
                 let index = scope.declared.add_core_type(alloc, ty)?;
-                self.inner.push(scope)?;
+                self.inner.push(Inner::of(scope))?;
                 Ok(index)
             }
             None => {
@@ -140,9 +143,10 @@ impl TypeState {
             → IsWithin n written_size (on_top (add_alias (alias.Outer sort.Ty count index)) (scopes self.old)) }
     {
         match self.inner.pop() {
-            Some(mut scope) => {
+            Some(scope) => {
+                let mut scope = scope.into_open();
                 let place = scope.declared.add_outer(alloc, count, index)?;
-                self.inner.push(scope)?;
+                self.inner.push(Inner::of(scope))?;
                 Ok(place)
             }
             None => {
@@ -152,39 +156,42 @@ impl TypeState {
         }
     }
 
-    /// How many scopes further out a thing is known, and its index there.
+    /// How many scopes further out a thing is known, and its index there. Some scope knows it.
     fn stand(&mut self, alloc: Global, key: Key) -> Result<(u32, u32), EncodeError>
+        requires { IsSome (standing (scopes self.old) (mention_of key)) }
         ensures stood { IfOk result (λ x. standing (scopes self.old) (mention_of key) ≡ Some (scopes self.new, x)) }
         ensures too_large { (n : ℕ) → result ≡ Err (EncodeError.TooLarge n) → 2 ^ 32 ≤ n }
         ensures among { (n : ℕ) → result ≡ Err (EncodeError.TooLarge n)
             → IsWithin n standing_size (standing (scopes self.old) (mention_of key)) }
     {
-        let Some(mut scope) = self.inner.pop() else {
+        let Some(scope) = self.inner.pop() else {
             let Some(index) = self.outermost.index_of(alloc, key)? else {
-                return Err(EncodeError::Memory);
+                unreachable!()
             };
             return Ok((0, index));
         };
+        let mut scope = scope.into_open();
         match scope.index_of(alloc, key)? {
             Some(index) => {
-                self.inner.push(scope)?;
+                self.inner.push(Inner::of(scope))?;
                 Ok((0, index))
             }
             None => {
                 let Some(further) = key.outside(scope.width) else {
-                    return Err(EncodeError::Memory);
+                    unreachable!()
                 };
                 let (up, index) = self.stand(alloc, further)?;
                 let up = next(up)?;
-                self.inner.push(scope)?;
+                self.inner.push(Inner::of(scope))?;
                 Ok((up, index))
             }
         }
     }
 
-    /// The index of a thing in the innermost scope.
+    /// The index of a thing in the innermost scope. Some scope knows it.
     #[tactic(auto, using(crate::proofs::ScopeLaws::index_here, crate::proofs::ScopeLaws::index_brought))]
     pub(crate) fn index_of(&mut self, alloc: Global, key: Key) -> Result<u32, EncodeError>
+        requires { IsSome (type_index (mention_of key) (scopes self.old)) }
         ensures found { IfOk result (λ i. type_index (mention_of key) (scopes self.old) ≡ Some (scopes self.new, i)) }
         ensures too_large { (n : ℕ) → result ≡ Err (EncodeError.TooLarge n) → 2 ^ 32 ≤ n }
         ensures among { (n : ℕ) → result ≡ Err (EncodeError.TooLarge n)
@@ -205,51 +212,43 @@ impl TypeState {
         knows_in(self.inner.as_slice(), &self.outermost, key)
     }
 
-    /// Opens a scope of this kind, which counts as so many scopes of names.
-    pub(crate) fn open(
-        &mut self,
-        alloc: Global,
-        kind: Scope,
-        width: usize,
-    ) -> Result<(), EncodeError>
+    /// Opens a scope which counts as so many scopes of names: a type of components as two, one of instances as less.
+    pub(crate) fn open(&mut self, alloc: Global, width: usize) -> Result<(), EncodeError>
         ensures opened { OnOk result (scopes self.new ≡ opened width ∷ scopes self.old) }
         ensures err { IfErr result (λ e. e ≡ EncodeError.Memory) }
     {
-        self.inner.push(Open::new(alloc, kind, width))?;
+        self.inner.push(Inner::new(alloc, width))?;
         Ok(())
     }
 
     /// Closes the innermost scope, a type of instances.
-    pub(crate) fn close_instance(&mut self) -> Result<InstanceType, EncodeError>
-        ensures closed { IfOk result (λ t. closed (scopes self.old) ≡ Some (scopes self.new, instance_type_tree t)) }
-        ensures form { IfOk result (λ t. AreDecls false (instance_type_tree t)) }
-        ensures err { IfErr result (λ e. e ≡ EncodeError.Memory) }
+    pub(crate) fn close_instance(&mut self) -> InstanceType
+        requires { inner_kind (scopes self.old) ≡ Some Scope.Instance }
+        ensures closed { closed (scopes self.old) ≡ Some (scopes self.new, instance_type_tree result) }
+        ensures form { AreDecls false (instance_type_tree result) }
     {
         let Some(scope) = self.inner.pop() else {
-            return Err(EncodeError::Memory);
+            unreachable!()
         };
-        match scope.declared.body.into_instance() {
-            Some(ty) => Ok(ty),
-            None => Err(EncodeError::Memory),
-        }
+        let scope = scope.into_open();
+        scope.declared.body.into_instance()
     }
 
     /// Closes the innermost scope, a type of components.
-    pub(crate) fn close_component(&mut self) -> Result<ComponentType, EncodeError>
-        ensures closed { IfOk result (λ t. closed (scopes self.old) ≡ Some (scopes self.new, component_type_tree t)) }
-        ensures form { IfOk result (λ t. AreDecls true (component_type_tree t)) }
-        ensures err { IfErr result (λ e. e ≡ EncodeError.Memory) }
+    pub(crate) fn close_component(&mut self) -> ComponentType
+        requires { inner_kind (scopes self.old) ≡ Some Scope.Component }
+        ensures closed { closed (scopes self.old) ≡ Some (scopes self.new, component_type_tree result) }
+        ensures form { AreDecls true (component_type_tree result) }
     {
         let Some(scope) = self.inner.pop() else {
-            return Err(EncodeError::Memory);
+            unreachable!()
         };
-        match scope.declared.body.into_component() {
-            Some(ty) => Ok(ty),
-            None => Err(EncodeError::Memory),
-        }
+        let scope = scope.into_open();
+        scope.declared.body.into_component()
     }
 
-    /// Declares an import or an export in the innermost scope, and gives how many types and instances stood before it.
+    /// Declares an import or an export in the innermost scope, a type of components or of instances, and gives how many
+    /// types and instances stood before it.
     pub(crate) fn name(
         &mut self,
         alloc: Global,
@@ -257,29 +256,22 @@ impl TypeState {
         name: &str,
         ty: TypeRef,
     ) -> Result<(u32, u32), EncodeError>
-        requires { 0 < length name.now }
+        requires kind { IsSomeAnd (inner_kind (scopes self.old)) (Takes side) }
+        requires name { 0 < length name.now }
         ensures named { IfOk result (λ x.
             Declares (item_of side name.now ty) ty (scopes self.old) (scopes self.new) x.0 x.1) }
         ensures too_large { (n : ℕ) → result ≡ Err (EncodeError.TooLarge n) → 2 ^ 32 ≤ n }
         ensures among { (n : ℕ) → result ≡ Err (EncodeError.TooLarge n)
             → n ≤ scopes_size (change_top (λ m. counted ty (declare (item_of side name.now ty) m)) (scopes self.old)) }
     {
-        match self.inner.pop() {
-            Some(mut scope) => {
-                let before = (scope.declared.types, scope.declared.instances);
-                scope.declared.name(alloc, side, name, ty)?;
-                self.inner.push(scope)?;
-                Ok(before)
-            }
-            None => {
-                let before = (
-                    self.outermost.declared.types,
-                    self.outermost.declared.instances,
-                );
-                self.outermost.declared.name(alloc, side, name, ty)?;
-                Ok(before)
-            }
-        }
+        let Some(scope) = self.inner.pop() else {
+            unreachable!()
+        };
+        let mut scope = scope.into_open();
+        let before = (scope.declared.types, scope.declared.instances);
+        scope.declared.name(alloc, side, name, ty)?;
+        self.inner.push(Inner::of(scope))?;
+        Ok(before)
     }
 
     /// Notes that the innermost scope has a thing there, where it has it nowhere yet.
@@ -290,9 +282,10 @@ impl TypeState {
         ensures err { IfErr result (λ e. e ≡ EncodeError.Memory) }
     {
         match self.inner.pop() {
-            Some(mut scope) => {
+            Some(scope) => {
+                let mut scope = scope.into_open();
                 scope.known.note(key, at)?;
-                self.inner.push(scope)?;
+                self.inner.push(Inner::of(scope))?;
                 Ok(())
             }
             None => {
@@ -477,12 +470,13 @@ impl TypeState {
 }
 
 /// Whether some scope knows a thing, of the outermost and those within it, the innermost last.
-fn knows_in(inner: &[Open], outermost: &Open, key: Key) -> bool
+fn knows_in(inner: &[Inner], outermost: &Open, key: Key) -> bool
     ensures { result ≡ knows (scopes_in inner.now outermost.now) (mention_of key) }
 {
     match inner {
         [] => outermost.known.knows(key),
         [around @ .., scope] => {
+            let scope = scope.as_open();
             if scope.known.knows(key) {
                 return true;
             }

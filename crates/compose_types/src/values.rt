@@ -1,6 +1,6 @@
 //! Types of values and of functions, written into scopes.
 
-ghost use Rattle.std.specs.Prelude.{◌≡◌, ◌≤◌, ◌^◌, ℕ, All, IfErr, IfOk, Err, Some};
+ghost use Rattle.std.specs.Prelude.{◌≡◌, ◌≤◌, ◌^◌, ℕ, All, IfErr, IfOk, IsSome, Err, Some};
 ghost use Rattle.comp_format.specs.Forms.{IsDefined};
 ghost use Rattle.comp_entity.specs.Fits.{place_of};
 ghost use Rattle.comp_entity.specs.Names.{OfPlace, OfResource};
@@ -66,12 +66,13 @@ fn copies(alloc: Global, labels: &[Text]) -> Result<Sequence<Text>, EncodeError>
     Ok(copies)
 }
 
-/// The index of a resource.
+/// The index of a resource that some scope knows.
 fn resource_index(
     alloc: Global,
     state: &mut TypeState,
     name: ResourceNo,
 ) -> Result<u32, EncodeError>
+    requires { IsSome (type_index (OfResource name) (scopes state.old)) }
     ensures found { IfOk result (λ i. type_index (OfResource name) (scopes state.old) ≡ Some (scopes state.new, i)) }
     ensures too_large { (n : ℕ) → result ≡ Err (EncodeError.TooLarge n) → 2 ^ 32 ≤ n }
     ensures among { (n : ℕ) → result ≡ Err (EncodeError.TooLarge n)
@@ -81,8 +82,9 @@ fn resource_index(
     Ok(index)
 }
 
-/// The index of the type that a place named.
+/// The index of the type that a place named, which some scope knows.
 pub fn place_index(alloc: Global, state: &mut TypeState, place: TypeNo) -> Result<u32, EncodeError>
+    requires { IsSome (type_index (OfPlace place) (scopes state.old)) }
     ensures found { IfOk result (λ i. type_index (OfPlace place) (scopes state.old) ≡ Some (scopes state.new, i)) }
     ensures too_large { (n : ℕ) → result ≡ Err (EncodeError.TooLarge n) → 2 ^ 32 ≤ n }
     ensures among { (n : ℕ) → result ≡ Err (EncodeError.TooLarge n)
@@ -100,7 +102,8 @@ pub fn defined_of(
     state: &mut TypeState,
     ty: &ValueShape,
 ) -> Result<DefinedType, EncodeError>
-    requires { KeepsValue (value_tree ty.now) }
+    requires form { KeepsValue (value_tree ty.now) }
+    requires possible { IsSome (write_defined (value_tree ty.now) (scopes state.old)) }
     ensures written { IfOk result (λ d. write_defined (value_tree ty.now) (scopes state.old)
         ≡ Some (scopes state.new, d)) }
     ensures form { IfOk result (λ d. IsDefined d) }
@@ -144,7 +147,8 @@ pub fn value_of(
     state: &mut TypeState,
     ty: &ValueShape,
 ) -> Result<ValType, EncodeError>
-    requires { KeepsValue (value_tree ty.now) }
+    requires form { KeepsValue (value_tree ty.now) }
+    requires possible { IsSome (write_value (value_tree ty.now) (scopes state.old)) }
     ensures written { IfOk result (λ t. write_value (value_tree ty.now) (scopes state.old)
         ≡ Some (scopes state.new, t)) }
     ensures too_large { (n : ℕ) → result ≡ Err (EncodeError.TooLarge n) → 2 ^ 32 ≤ n }
@@ -172,7 +176,8 @@ fn boxed_of(
     state: &mut TypeState,
     held: &Option<Box<ValueShape>>,
 ) -> Result<Option<ValType>, EncodeError>
-    requires { KeepsPayload (boxed_tree held.now) }
+    requires form { KeepsPayload (boxed_tree held.now) }
+    requires possible { IsSome (write_payload (boxed_tree held.now) (scopes state.old)) }
     ensures written { IfOk result (λ t.
         write_payload (boxed_tree held.now) (scopes state.old) ≡ Some (scopes state.new, t)) }
     ensures too_large { (n : ℕ) → result ≡ Err (EncodeError.TooLarge n) → 2 ^ 32 ≤ n }
@@ -195,7 +200,8 @@ fn parts_of(
     state: &mut TypeState,
     parts: &[ValueShape],
 ) -> Result<Sequence<ValType>, EncodeError>
-    requires { All (λ t. KeepsValue (value_tree t)) parts.now }
+    requires form { All (λ t. KeepsValue (value_tree t)) parts.now }
+    requires possible { IsSome (write_each write_part parts.now (scopes state.old)) }
     ensures written { IfOk result (λ ts. write_each write_part parts.now (scopes state.old)
         ≡ Some (scopes state.new, ts)) }
     ensures too_large { (n : ℕ) → result ≡ Err (EncodeError.TooLarge n) → 2 ^ 32 ≤ n }
@@ -217,7 +223,8 @@ fn fields_of(
     state: &mut TypeState,
     fields: &[(Text, ValueShape)],
 ) -> Result<Sequence<(Text, ValType)>, EncodeError>
-    requires { All (λ f. KeepsValue (value_tree f.1)) fields.now }
+    requires form { All (λ f. KeepsValue (value_tree f.1)) fields.now }
+    requires possible { IsSome (write_each write_field fields.now (scopes state.old)) }
     ensures written { IfOk result (λ ts. write_each write_field fields.now (scopes state.old)
         ≡ Some (scopes state.new, ts)) }
     ensures too_large { (n : ℕ) → result ≡ Err (EncodeError.TooLarge n) → 2 ^ 32 ≤ n }
@@ -241,7 +248,8 @@ fn cases_of(
     state: &mut TypeState,
     cases: &[(Text, Option<ValueShape>)],
 ) -> Result<Sequence<(Text, Option<ValType>)>, EncodeError>
-    requires { All (λ c. KeepsPayload (held_tree c.1)) cases.now }
+    requires form { All (λ c. KeepsPayload (held_tree c.1)) cases.now }
+    requires possible { IsSome (write_each write_case cases.now (scopes state.old)) }
     ensures written { IfOk result (λ ts. write_each write_case cases.now (scopes state.old)
         ≡ Some (scopes state.new, ts)) }
     ensures too_large { (n : ℕ) → result ≡ Err (EncodeError.TooLarge n) → 2 ^ 32 ≤ n }
@@ -269,7 +277,8 @@ fn result_of(
     state: &mut TypeState,
     held: &Option<ValueShape>,
 ) -> Result<Option<ValType>, EncodeError>
-    requires { KeepsPayload (held_tree held.now) }
+    requires form { KeepsPayload (held_tree held.now) }
+    requires possible { IsSome (write_payload (held_tree held.now) (scopes state.old)) }
     ensures written { IfOk result (λ t. write_payload (held_tree held.now) (scopes state.old)
         ≡ Some (scopes state.new, t)) }
     ensures too_large { (n : ℕ) → result ≡ Err (EncodeError.TooLarge n) → 2 ^ 32 ≤ n }
@@ -291,7 +300,8 @@ pub fn func_index(
     state: &mut TypeState,
     func: &FuncShape,
 ) -> Result<u32, EncodeError>
-    requires { KeepsFunc (func_tree func.now) }
+    requires form { KeepsFunc (func_tree func.now) }
+    requires possible { IsSome (write_func (func_tree func.now) (scopes state.old)) }
     ensures written { IfOk result (λ i. write_func (func_tree func.now) (scopes state.old)
         ≡ Some (scopes state.new, i)) }
     ensures too_large { (n : ℕ) → result ≡ Err (EncodeError.TooLarge n) → 2 ^ 32 ≤ n }
@@ -306,7 +316,8 @@ pub fn func_index(
 
 /// The index of a value type that gets a name: the type itself, as it stands.
 pub fn own_index(alloc: Global, state: &mut TypeState, ty: &ValueShape) -> Result<u32, EncodeError>
-    requires { KeepsValue (value_tree ty.now) }
+    requires form { KeepsValue (value_tree ty.now) }
+    requires possible { IsSome (write_own (value_tree ty.now) (scopes state.old)) }
     ensures written { IfOk result (λ i. write_own (value_tree ty.now) (scopes state.old) ≡ Some (scopes state.new, i)) }
     ensures too_large { (n : ℕ) → result ≡ Err (EncodeError.TooLarge n) → 2 ^ 32 ≤ n }
     ensures among { (n : ℕ) → result ≡ Err (EncodeError.TooLarge n)

@@ -7,17 +7,82 @@ use Rattle.compose_types.proofs.ValueLaws.{case_none, case_some, then_each, each
 use Rattle.compose_types.proofs.values.+values.Goals.{cases_of-in-None+in_ok-push-in-None, cases_of-in-Some+in_ok-ty-in-Some+in_ok-push-in-Some}
 use Rattle.compose_types.proofs.ValueLargestLaws.{borrow_refused, boxed_refused, case_grows, case_refused, each_refused, err_refused, field_grows, field_refused, list_refused, ok_refused, option_refused, own_refused, own_added_refused, own_type_refused, part_grows, part_refused, place_refused, record_refused, tuple_refused, variant_refused}
 use Rattle.compose_types.proofs.RefusalLaws.{told}
+use Rattle.compose_types.proofs.ValuePossibleLaws.{borrow_possible, boxed_keeps, boxed_possible, case_possible, err_possible, field_possible, list_keeps, list_possible, ok_possible, option_keeps, option_possible, own_possible, part_possible, place_possible, record_possible, result_keeps, tuple_possible, unnamed_possible, variant_possible}
 use Rattle.comp_entity.specs.Views.{value_tree}
 use Rattle.compose_types.proofs.values.+values.Goals as goal
 
 pub defined_of-parts_of-requires : goal.defined_of-parts_of-requires
-defined_of-parts_of-requires t c = (search (rules, the_lemmas), rw c.deref.ensures.value (tuple_keeps c.args.ty.now c.in-TupleOf.parts c.in-TupleOf.is c.requires))
+defined_of-parts_of-requires t c =
+    (search (rules, the_lemmas), (rw c.deref.ensures.value (tuple_keeps c.args.ty.now c.in-TupleOf.parts c.in-TupleOf.is c.requires.form), rw c.deref.ensures.value (tuple_possible c.args.ty.now (scopes c.args.state.now) c.requires.possible c.in-TupleOf.parts c.in-TupleOf.is)))
 
 pub defined_of-fields_of-requires : goal.defined_of-fields_of-requires
-defined_of-fields_of-requires t c = (search (rules, the_lemmas), rw c.deref-in-RecordOf.ensures.value (record_keeps c.args.ty.now c.in-RecordOf.field-0 c.in-RecordOf.fields c.in-RecordOf.is c.requires))
+defined_of-fields_of-requires t c =
+    (search (rules, the_lemmas), (rw c.deref-in-RecordOf.ensures.value (record_keeps c.args.ty.now c.in-RecordOf.field-0 c.in-RecordOf.fields c.in-RecordOf.is c.requires.form), rw c.deref-in-RecordOf.ensures.value (record_possible c.args.ty.now (scopes c.args.state.now) c.requires.possible c.in-RecordOf.field-0 c.in-RecordOf.fields c.in-RecordOf.is)))
 
 pub defined_of-cases_of-requires : goal.defined_of-cases_of-requires
-defined_of-cases_of-requires t c = (search (rules, the_lemmas), rw c.deref-in-VariantOf.ensures.value (variant_keeps c.args.ty.now c.in-VariantOf.field-0 c.in-VariantOf.cases c.in-VariantOf.is c.requires))
+defined_of-cases_of-requires t c =
+    (search (rules, the_lemmas), (rw c.deref-in-VariantOf.ensures.value (variant_keeps c.args.ty.now c.in-VariantOf.field-0 c.in-VariantOf.cases c.in-VariantOf.is c.requires.form), rw c.deref-in-VariantOf.ensures.value (variant_possible c.args.ty.now (scopes c.args.state.now) c.requires.possible c.in-VariantOf.field-0 c.in-VariantOf.cases c.in-VariantOf.is)))
+
+pub defined_of-value_of-requires : goal.defined_of-value_of-requires
+defined_of-value_of-requires t c =
+    (search (rules, the_lemmas), (rw c.deref-in-ListOf.ensures (list_keeps c.args.ty.now c.in-ListOf.item c.in-ListOf.is c.requires.form), rw c.deref-in-ListOf.ensures (list_possible c.args.ty.now (scopes c.args.state.now) c.requires.possible c.in-ListOf.item c.in-ListOf.is)))
+
+pub defined_of-value_of-requires-in-OptionOf : goal.defined_of-value_of-requires-in-OptionOf
+defined_of-value_of-requires-in-OptionOf t c =
+    (search (rules, the_lemmas), (rw c.deref-in-OptionOf.ensures (option_keeps c.args.ty.now c.in-OptionOf.item c.in-OptionOf.is c.requires.form), rw c.deref-in-OptionOf.ensures (option_possible c.args.ty.now (scopes c.args.state.now) c.requires.possible c.in-OptionOf.item c.in-OptionOf.is)))
+
+pub defined_of-boxed_of-requires : goal.defined_of-boxed_of-requires
+defined_of-boxed_of-requires t c =
+    (search (rules, the_lemmas), ((result_keeps c.args.ty.now c.in-ResultOf.ok c.in-ResultOf.err c.in-ResultOf.is c.requires.form).0, ok_possible c.args.ty.now (scopes c.args.state.now) c.requires.possible c.in-ResultOf.ok c.in-ResultOf.err c.in-ResultOf.is))
+
+pub defined_of-boxed_of-requires-in-ResultOf : goal.defined_of-boxed_of-requires-in-ResultOf
+defined_of-boxed_of-requires-in-ResultOf t c = (
+  search (rules, the_lemmas),
+  (
+    (result_keeps c.args.ty.now c.in-ResultOf.ok c.in-ResultOf.err c.in-ResultOf.is c.requires.form).1,
+    err_possible c.args.ty.now (scopes c.args.state.now) c.requires.possible c.in-ResultOf.ok c.in-ResultOf.err (scopes c.boxed_of.new.state) c.in_ok-ok-in-ResultOf.ok c.in-ResultOf.is c.in_ok-ok-in-ResultOf.ensures.written,
+  ),
+)
+
+pub defined_of-resource_index-requires : goal.defined_of-resource_index-requires
+defined_of-resource_index-requires t c = own_possible c.args.ty.now (scopes c.args.state.now) c.requires.possible c.in-Own.resource c.in-Own.is
+
+pub defined_of-resource_index-requires-in-Borrow : goal.defined_of-resource_index-requires-in-Borrow
+defined_of-resource_index-requires-in-Borrow t c = borrow_possible c.args.ty.now (scopes c.args.state.now) c.requires.possible c.in-Borrow.resource c.in-Borrow.is
+
+pub value_of-place_index-requires : goal.value_of-place_index-requires
+value_of-place_index-requires t c =
+    place_possible (value_tree c.args.ty.now) (scopes c.args.state.now) (sym c.in_default.is ∙ c.primitive_of.ensures) c.requires.possible c.in-Some-place_of.place (sym c.in-Some-place_of.is ∙ c.place_of.ensures)
+
+pub value_of-defined_of-requires : goal.value_of-defined_of-requires
+value_of-defined_of-requires t c =
+    (search (rules, the_lemmas), (c.requires.form, unnamed_possible (value_tree c.args.ty.now) (scopes c.args.state.now) (sym c.in_default.is ∙ c.primitive_of.ensures) c.requires.possible (sym c.in-None.is ∙ c.place_of.ensures)))
+
+pub boxed_of-value_of-requires : goal.boxed_of-value_of-requires
+boxed_of-value_of-requires t c =
+    (search (rules, the_lemmas), (rw c.deref.ensures (boxed_keeps c.args.held.now c.in-Some.ty c.in-Some.is c.requires.form), rw c.deref.ensures (boxed_possible c.args.held.now c.in-Some.ty (scopes c.args.state.now) c.in-Some.is c.requires.possible)))
+
+pub parts_of-value_of-requires : goal.parts_of-value_of-requires
+parts_of-value_of-requires t c =
+    let i = c.loop-part.part-index in
+    let part = c.part-item.result in (
+      grind (arith, the_lemmas),
+      (
+        rw (sym c.part-item.is) at (c.requires.form i part c.loop-part-test.true),
+        part_possible i (scopes c.loop-part.state) c.args.parts.now part c.loop-part.written (write_each write_part c.args.parts.now (scopes c.args.state.now)) c.loop-part-test.true c.part-item.is c.loop-part.invariant c.requires.possible,
+      ),
+    )
+
+pub fields_of-value_of-requires : goal.fields_of-value_of-requires
+fields_of-value_of-requires t c =
+    let i = c.loop-field.field-index in
+    let field = c.field-item.result in (
+      grind (arith, the_lemmas),
+      (
+        rw (sym c.field-item.is) at (c.requires.form i field c.loop-field-test.true),
+        field_possible i (scopes c.loop-field.state) c.args.fields.now field c.loop-field.written (write_each write_field c.args.fields.now (scopes c.args.state.now)) c.loop-field-test.true c.field-item.is c.loop-field.invariant c.requires.possible,
+      ),
+    )
 
 pub defined_of-returns-in_ok-parts_of-in-TupleOf-clause-written : goal.defined_of-returns-in_ok-parts_of-in-TupleOf-clause-written
 defined_of-returns-in_ok-parts_of-in-TupleOf-clause-written t c =
@@ -25,7 +90,7 @@ defined_of-returns-in_ok-parts_of-in-TupleOf-clause-written t c =
 
 pub defined_of-returns-in_ok-parts_of-in-TupleOf-clause-form : goal.defined_of-returns-in_ok-parts_of-in-TupleOf-clause-form
 defined_of-returns-in_ok-parts_of-in-TupleOf-clause-form t c =
-    tuple_form c.args.ty.now c.in-TupleOf.parts (scopes c.args.state.now) (scopes c.parts_of.new.state) c.in_ok-parts_of-in-TupleOf.field-0 c.in-TupleOf.is c.requires (rw (sym c.deref.ensures.value) c.in_ok-parts_of-in-TupleOf.ensures.written)
+    tuple_form c.args.ty.now c.in-TupleOf.parts (scopes c.args.state.now) (scopes c.parts_of.new.state) c.in_ok-parts_of-in-TupleOf.field-0 c.in-TupleOf.is c.requires.form (rw (sym c.deref.ensures.value) c.in_ok-parts_of-in-TupleOf.ensures.written)
 
 pub defined_of-returns-in_ok-fields_of-in-RecordOf-clause-written : goal.defined_of-returns-in_ok-fields_of-in-RecordOf-clause-written
 defined_of-returns-in_ok-fields_of-in-RecordOf-clause-written t c =
@@ -33,7 +98,7 @@ defined_of-returns-in_ok-fields_of-in-RecordOf-clause-written t c =
 
 pub defined_of-returns-in_ok-fields_of-in-RecordOf-clause-form : goal.defined_of-returns-in_ok-fields_of-in-RecordOf-clause-form
 defined_of-returns-in_ok-fields_of-in-RecordOf-clause-form t c =
-    record_form c.args.ty.now c.in-RecordOf.field-0 c.in-RecordOf.fields (scopes c.args.state.now) (scopes c.fields_of.new.state) c.in_ok-fields_of-in-RecordOf.field-0 c.in-RecordOf.is c.requires (rw (sym c.deref-in-RecordOf.ensures.value) c.in_ok-fields_of-in-RecordOf.ensures.written)
+    record_form c.args.ty.now c.in-RecordOf.field-0 c.in-RecordOf.fields (scopes c.args.state.now) (scopes c.fields_of.new.state) c.in_ok-fields_of-in-RecordOf.field-0 c.in-RecordOf.is c.requires.form (rw (sym c.deref-in-RecordOf.ensures.value) c.in_ok-fields_of-in-RecordOf.ensures.written)
 
 pub defined_of-returns-in_ok-cases_of-in-VariantOf-clause-written : goal.defined_of-returns-in_ok-cases_of-in-VariantOf-clause-written
 defined_of-returns-in_ok-cases_of-in-VariantOf-clause-written t c =
@@ -41,7 +106,7 @@ defined_of-returns-in_ok-cases_of-in-VariantOf-clause-written t c =
 
 pub defined_of-returns-in_ok-cases_of-in-VariantOf-clause-form : goal.defined_of-returns-in_ok-cases_of-in-VariantOf-clause-form
 defined_of-returns-in_ok-cases_of-in-VariantOf-clause-form t c =
-    variant_form c.args.ty.now c.in-VariantOf.field-0 c.in-VariantOf.cases (scopes c.args.state.now) (scopes c.cases_of.new.state) c.in_ok-cases_of-in-VariantOf.field-0 c.in-VariantOf.is c.requires (rw (sym c.deref-in-VariantOf.ensures.value) c.in_ok-cases_of-in-VariantOf.ensures.written)
+    variant_form c.args.ty.now c.in-VariantOf.field-0 c.in-VariantOf.cases (scopes c.args.state.now) (scopes c.cases_of.new.state) c.in_ok-cases_of-in-VariantOf.field-0 c.in-VariantOf.is c.requires.form (rw (sym c.deref-in-VariantOf.ensures.value) c.in_ok-cases_of-in-VariantOf.ensures.written)
 
 pub parts_of-loop-part-init : goal.parts_of-loop-part-init
 parts_of-loop-part-init t c = rw c.new-written.ensures (each_begin write_part c.args.parts.now (scopes c.args.state.now))
@@ -90,7 +155,15 @@ cases_of-loop-case-preserved t c =
     ]
 
 pub cases_of-value_of-requires : goal.cases_of-value_of-requires
-cases_of-value_of-requires t c = (grind (arith, the_lemmas), rw (sym c.case-item.is, c.in-Some.is) at (c.requires c.loop-case.case-index c.case-item.result c.loop-case-test.true))
+cases_of-value_of-requires t c =
+    let i = c.loop-case.case-index in
+    let item = c.case-item.result in (
+      grind (arith, the_lemmas),
+      (
+        rw (sym c.case-item.is, c.in-Some.is) at (c.requires.form i item c.loop-case-test.true),
+        case_possible i (scopes c.loop-case.state) c.args.cases.now item c.in-Some.held c.loop-case.written (write_each write_case c.args.cases.now (scopes c.args.state.now)) c.loop-case-test.true c.case-item.is c.in-Some.is c.loop-case.invariant c.requires.possible,
+      ),
+    )
 
 pub boxed_of-returns-in_err-ty-in-Some-clause-among : goal.boxed_of-returns-in_err-ty-in-Some-clause-among
 boxed_of-returns-in_err-ty-in-Some-clause-among t c =

@@ -3,13 +3,21 @@ use Rattle.compose_types.specs.Scopes.{scopes}
 use Rattle.compose_types.proofs.ValueLaws.{func_keeps, func_form, func_written, tree_func}
 use Rattle.compose_types.proofs.ValueLargestLaws.{func_refused, params_refused, result_refused}
 use Rattle.compose_types.proofs.RefusalLaws.{told}
+use Rattle.compose_types.proofs.ValuePossibleLaws.{params_possible, result_possible}
 use Rattle.compose_types.proofs.values.func_index.Goals as goal
 
-pub fields_of-requires : goal.fields_of-requires
-fields_of-requires c = rw c.deref.ensures.value (func_keeps c.args.func.now c.requires)
+pub fields_of-requires-clause-form : goal.fields_of-requires-clause-form
+fields_of-requires-clause-form c = rw c.deref.ensures.value (func_keeps c.args.func.now c.requires.form)
+
+pub fields_of-requires-clause-possible : goal.fields_of-requires-clause-possible
+fields_of-requires-clause-possible c = rw c.deref.ensures.value (params_possible c.args.func.now (scopes c.args.state.now) c.requires.possible)
+
+pub result_of-requires-clause-possible : goal.result_of-requires-clause-possible
+result_of-requires-clause-possible c =
+    result_possible c.args.func.now (scopes c.args.state.now) c.requires.possible (scopes c.fields_of.new.state) c.in_ok-params.params (rw (sym c.deref.ensures.value) c.in_ok-params.ensures.written)
 
 pub add_type-requires-clause-form : goal.add_type-requires-clause-form
-add_type-requires-clause-form c = rw (tree_func (record { params = c.in_ok-params.params; result = c.in_ok-result.result })) (func_form c.args.func.now (scopes c.args.state.now) (scopes c.fields_of.new.state) c.in_ok-params.params c.requires (rw (sym c.deref.ensures.value) c.in_ok-params.ensures.written))
+add_type-requires-clause-form c = rw (tree_func (record { params = c.in_ok-params.params; result = c.in_ok-result.result })) (func_form c.args.func.now (scopes c.args.state.now) (scopes c.fields_of.new.state) c.in_ok-params.params c.requires.form (rw (sym c.deref.ensures.value) c.in_ok-params.ensures.written))
 
 pub returns-clause-written : goal.returns-clause-written
 returns-clause-written c =

@@ -37,3 +37,9 @@ returns-in_err-count-clause-among c = λ width known n e.
           ∙ ap (λ d. counted c.args.ty (with_names width known d)) (sym w.self-is))
     ] in
     subst (λ (m : WrittenScope). n ≤ scope_size m) (sym same) among
+
+pub import-requires-clause-kind : goal.import-requires-clause-kind
+import-requires-clause-kind c = rw c.in-Imports.is at c.requires.kind
+
+pub export-requires-clause-kind : goal.export-requires-clause-kind
+export-requires-clause-kind c = rw c.in-Exports.is at c.requires.kind

@@ -8,13 +8,17 @@ use Rattle.compose_types.proofs.ScopeLaws.{top_changed, outermost_changed}
 use Rattle.compose_types.specs.Largest.{IsWithin, written_size}
 use Rattle.compose_types.proofs.LargestLaws.{outermost_refused, top_refused}
 use Rattle.compose_types.proofs.RefusalLaws.{told}
+use Rattle.compose_types.proofs.InnerLaws.{put_back, taken}
 use Rattle.compose_types.proofs.state.TypeState.add_core_type.Goals as goal
 
 pub returns-in_ok-push-in-Some-clause-added : goal.returns-in_ok-push-in-Some-clause-added
 returns-in_ok-push-in-Some-clause-added c =
+    let o = c.into_open-scope.result in
+    let later = record o { declared = c.add_core_type.new.self } in
     ap (λ s. on_top (add_core_type (core.Module (module_tree c.args.ty))) (scopes s)) (sym c.self.view_is)
-    ∙ top_changed (add_core_type (core.Module (module_tree c.args.ty))) c.self.inside.inner.items c.pop.new.self.items c.push.new.self.items c.in-Some.scope (record c.in-Some.scope { declared = c.add_core_type.new.self }) c.self.inside.outermost c.in_ok-index-in-Some.index
-    c.in-Some.ensures.items c.in_ok-push-in-Some.ensures.items (c.in_ok-index-in-Some.ensures.added c.in-Some.scope.width c.in-Some.scope.known)
+    ∙ top_changed (add_core_type (core.Module (module_tree c.args.ty))) c.self.inside.inner.items c.pop.new.self.items c.push.new.self.items o later c.self.inside.outermost c.in_ok-index-in-Some.index
+    (taken c.self.inside.inner.items c.pop.new.self.items c.in-Some.scope o c.in-Some.ensures.items c.into_open-scope.ensures.scope)
+    (put_back c.push.new.self.items c.pop.new.self.items c.of.result later c.in_ok-push-in-Some.ensures.items c.of.ensures) (c.in_ok-index-in-Some.ensures.added o.width o.known)
 
 pub returns-in_ok-index-in-None-clause-added : goal.returns-in_ok-index-in-None-clause-added
 returns-in_ok-index-in-None-clause-added c =
@@ -26,9 +30,10 @@ returns-in_ok-index-in-None-clause-added c =
 
 pub returns-in_err-index-in-Some-clause-among : goal.returns-in_err-index-in-Some-clause-among
 returns-in_err-index-in-Some-clause-among c = λ n e.
+    let o = c.into_open-scope.result in
     subst (λ (s : State). IsWithin n written_size (on_top (add_core_type (core.Module (module_tree c.args.ty))) (scopes s))) c.self.view_is
-    (top_refused n (add_core_type (core.Module (module_tree c.args.ty))) c.self.inside.inner.items c.pop.new.self.items c.in-Some.scope c.self.inside.outermost c.in-Some.ensures.items
-    (c.in_err-index-in-Some.ensures.among c.in-Some.scope.width c.in-Some.scope.known n (told c.from_residual.result _ n c.from_residual.ensures.1 e)))
+    (top_refused n (add_core_type (core.Module (module_tree c.args.ty))) c.self.inside.inner.items c.pop.new.self.items o c.self.inside.outermost (taken c.self.inside.inner.items c.pop.new.self.items c.in-Some.scope o c.in-Some.ensures.items c.into_open-scope.ensures.scope)
+    (c.in_err-index-in-Some.ensures.among o.width o.known n (told c.from_residual.result _ n c.from_residual.ensures.1 e)))
 
 pub returns-in_err-index-in-None-clause-among : goal.returns-in_err-index-in-None-clause-among
 returns-in_err-index-in-None-clause-among c = λ n e.
