@@ -8,6 +8,7 @@ use std::test::Fail;
 use test_check::{is_row, is_text};
 use warg_base::{Files, MemoryFiles};
 use warg_config::{ClientConfigError, Config, Dirs};
+use warg_url::RegistryUrl;
 use warg_values::Text;
 
 /// The configuration of the specification's example, as it is written to `/e/d.json`.
@@ -167,6 +168,33 @@ fn folders_of_the_machine(rt: HostRuntime) -> Result<(), Fail> {
         &Config::default_config_path(alloc, &none),
         "no directory",
     )
+}
+
+/// The three paths at which a client of a registry stores, each in a line, or why there are none, in a word.
+fn stored(alloc: Global, config: &Config, dirs: &Dirs, url: &str) -> Result<String, Fail> {
+    let url = RegistryUrl::new(alloc, url)?;
+    match config.storage_paths(alloc, url, dirs) {
+        Ok(paths) => {
+            let registries = paths.registries_dir.as_str();
+            let contents = paths.content_dir.as_str();
+            let namespaces = paths.namespace_map_path.as_str();
+            Ok(format!(in alloc; "{registries}\n{contents}\n{namespaces}")?)
+        }
+        Err(error) => Ok(String::from_str(alloc, word(&error))?),
+    }
+}
+
+#[test]
+fn paths_of_a_registry(rt: HostRuntime) -> Result<(), Fail> {
+    let alloc = rt.alloc();
+    let config = Config::new(alloc);
+    let dirs = machine(alloc, "/k", "")?;
+    is_text(
+        &stored(alloc, &config, &dirs, "port:1234/with/path")?,
+        "/k/warg/registries/port-1234_with_path\n/k/warg/content\n/k/warg/namespaces",
+    )?;
+    let none = machine(alloc, "", "")?;
+    is_text(&stored(alloc, &config, &none, "host")?, "no directory")
 }
 
 #[test]

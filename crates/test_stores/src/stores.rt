@@ -6,8 +6,8 @@ use std::test::Fail;
 use test_check::is_row;
 use warg_base::{Files, MemoryFiles};
 use warg_namespace_files::FileSystemNamespaceMapStorage;
-use warg_registry_files::RegistryFiles;
-use warg_store::{EntryKind, NamespaceMapStorage, StoreError};
+use warg_registry_files::FileSystemRegistryStorage;
+use warg_store::{EntryKind, NamespaceMapStorage, RegistryStorage, StoreError};
 use warg_url::RegistryDomain;
 use warg_values::Text;
 
@@ -40,17 +40,25 @@ fn load_names(alloc: Global, path: &str, text: &str) -> Result<&'static str, Fai
     Ok(word(&store.load_namespace_map(alloc)))
 }
 
-/// Loads the log of a registry's operator, where a file has a text.
-fn load_operator(
+/// A store of registries over files in memory of which one has a text.
+fn registries(
     alloc: Global,
-    registry: &str,
     path: &str,
     text: &str,
-) -> Result<&'static str, Fail> {
+) -> Result<FileSystemRegistryStorage<MemoryFiles, ()>, Fail> {
     let files = one_file(alloc, path, text)?;
-    let Ok(mut store) = RegistryFiles::new(alloc, files, "/r/home.test") else {
-        return Err(Fail::new(format_args!("no store")));
-    };
+    match FileSystemRegistryStorage::new(alloc, files, "/r/home.test") {
+        Ok(store) => Ok(store),
+        Err(_) => Err(Fail::new(format_args!("no store"))),
+    }
+}
+
+/// Loads the log of a registry's operator of a store.
+fn operator_in<S: RegistryStorage>(
+    alloc: Global,
+    store: &mut S,
+    registry: &str,
+) -> Result<&'static str, Fail> {
     if registry == "home" {
         return Ok(word(&store.load_operator(alloc, None)));
     }
@@ -59,6 +67,40 @@ fn load_operator(
     };
     let domain = RegistryDomain::new(name);
     Ok(word(&store.load_operator(alloc, Some(&domain))))
+}
+
+/// Loads the log of a registry's operator, where a file has a text.
+fn load_operator(
+    alloc: Global,
+    registry: &str,
+    path: &str,
+    text: &str,
+) -> Result<&'static str, Fail> {
+    let mut store = registries(alloc, path, text)?;
+    operator_in(alloc, &mut store, registry)
+}
+
+/// Loads the log of a registry's operator once what is kept of all registries or of the home registry was reset.
+fn load_after_reset(
+    alloc: Global,
+    all: bool,
+    registry: &str,
+    path: &str,
+) -> Result<&'static str, Fail> {
+    let mut store = registries(alloc, path, r#"{"records":[]}"#)?;
+    if store.reset(alloc, all).is_err() {
+        return Ok("refused");
+    }
+    operator_in(alloc, &mut store, registry)
+}
+
+/// Each row: whether all registries are reset, a registry, the path of its operator's log, and what a load of it answers
+/// afterwards.
+fn check_resets(alloc: Global, rows: &[(bool, &str, &str, &str)]) -> Result<(), Fail> {
+    for (all, registry, path, wanted) in rows {
+        is_row(path, load_after_reset(alloc, *all, registry, path)?, wanted)?;
+    }
+    Ok(())
 }
 
 /// Each row: the path of a file, its text, and what a load of the names at `/c/names` answers.
@@ -161,6 +203,23 @@ fn operators_of_files(rt: HostRuntime) -> Result<(), Fail> {
                 r#"{"records":[]}"#,
                 "absent",
             ),
+        ],
+    )
+}
+
+#[test]
+fn resets_of_files(rt: HostRuntime) -> Result<(), Fail> {
+    let alloc = rt.alloc();
+    check_resets(
+        alloc,
+        &[
+            (false, "home", "/r/home.test/operator.log", "absent"),
+            (true, "home", "/r/home.test/operator.log", "absent"),
+            (false, "a/b", "/r/a%2Fb/operator.log", "whole"),
+            (true, "a/b", "/r/a%2Fb/operator.log", "absent"),
+            (true, "", "/r/%/operator.log", "absent"),
+            (false, "home.test", "/r/%%home.test/operator.log", "whole"),
+            (true, "home.test", "/r/%%home.test/operator.log", "absent"),
         ],
     )
 }

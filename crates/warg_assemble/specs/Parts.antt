@@ -1,5 +1,5 @@
 -- What a call learns, part by part: the log of a package, by an update of it, or a content.
-use Rattle.std.specs.Prelude.{◌≡◌, ℕ, List, [], ◌∷◌, ◌++◌, Option, Some, None, bytes_eq, if◌then◌else◌}
+use Rattle.std.specs.Prelude.{◌≡◌, ℕ, List, [], ◌∷◌, ◌++◌, Option, Some, None, bytes_eq, if◌then◌else◌, fold}
 use Rattle.std.specs.List.{flat_map}
 use Rattle.std.specs.Map.{lookup}
 use Rattle.sha2.specs.Sha256.{sha256}
@@ -78,8 +78,7 @@ learnt f (Updated u) = with_log f u.name (releases_in u.log)
 learnt f (Loaded l) = with_content f l.digest l.content
 
 abbrev pub learnt_by : Facts → List Part → Facts
-learnt_by f [] = f
-learnt_by f (p ∷ ps) = learnt_by (learnt f p) ps
+learnt_by f ps = fold learnt f ps
 
 -- ---- when a part is right
 

@@ -77,7 +77,7 @@ module _ {T D : Type 0} (Steps : T → Asked → T → Type 0) (laws : FaultLaws
       by update.Memory own = tt
 
   own-fetch : (said : D → D → Bool → Bool) (e : FetchError) (u : Update) → u.registry ≡ registry_of known u.name → IsUpdate old.accepts old.asker IsComponent known u → GivesReplies Steps old.transcript.link u.exchanges
-      → IsUnfetched Steps old new known {E = ShapeError} said (λ bytes error. IsRefused error bytes) u.name e → IsOwnFetchFault Steps old new known u e
+      → IsUnfetched Steps old new known said u.name e → IsOwnFetchFault Steps old new known u e
   own-fetch said (fetch.Store e) u under right are bad = bad
   own-fetch said (fetch.Update e) u under right are bad =
       own-update (said old.decider new.decider) u e right are (subst (λ (r : Registry). IsUpdateRefusal e (package_log_id u.name ∷ []) old.accepts (said old.decider new.decider) old.pages_left (old.asker r) (start_of known r u.name) Steps old.transcript new.transcript) (sym under) bad)
@@ -137,7 +137,7 @@ module _ {T D : Type 0} (Steps : T → Asked → T → Type 0) (laws : FaultLaws
   own-learn-fault one said stop error.Memory (Updated u) knows serves right are bad = tt
   own-learn-fault one said stop error.Memory (Loaded l) knows serves right are bad = tt
   own-learn-fault one said (NeedsLog name) (error.Fetch e) (Updated u) knows serves right are bad =
-      own-fetch said e u (serves.1 ∙ ap (registry_of known) (sym serves.0)) right are (subst (λ (n : List ℕ). IsUnfetched Steps old new known {E = ShapeError} said (λ bytes error. IsRefused error bytes) n e) (sym serves.0) bad)
+      own-fetch said e u (serves.1 ∙ ap (registry_of known) (sym serves.0)) right are (subst (λ (n : List ℕ). IsUnfetched Steps old new known said n e) (sym serves.0) bad)
   own-learn-fault one said (NeedsLog name) (error.Fetch e) (Loaded l) knows serves right are bad = absurd serves
   own-learn-fault one said (NeedsContent name digest) (error.Load e) (Loaded l) knows serves right are bad =
       let under : bad.registry ≡ l.registry = some-is bad.registry l.registry (sym bad.updated ∙ serves.1) in

@@ -69,7 +69,7 @@ module _ {T D : Type 0} (Steps : T → Asked → T → Type 0) (accepts : Accept
         replies = replies.rest (exchanges_in q) (flat_map exchanges_in parts) old.transcript.link new.transcript.link s.replies right.kept.passed;
       }
 
-  pub first-of : OnePart Steps → ReplyLaws Steps → (known : Known) (f : Facts) (parts done : List Part) (es : List Entry) (old now : Seen T D) → ProvesSession Steps accepts asker w known f parts es old → AreLearnt w (IsLearnt Steps IsComponent) f old done now
+  pub first-of : OnePart Steps → ReplyLaws Steps → (known : Known) (f : Facts) (parts done : List Part) (es : List Entry) (old now : Seen T D) → ProvesSession Steps accepts asker w known f parts es old → AreLearnt learnt w (IsLearnt Steps IsComponent) f old done now
       → IsFirstOf Steps accepts asker w known f parts es done now
   unfolding AreLearnt
   first-of one replies known f parts [] es old now s are = record { rest = parts; front = refl; proves_rest = subst (λ (t : Seen T D). ProvesSession Steps accepts asker w known f parts es t) (sym are) s }

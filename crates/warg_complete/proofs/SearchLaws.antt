@@ -10,7 +10,7 @@ use Rattle.warg_api.specs.Link.{Asked}
 use Rattle.warg_store.specs.Held.{Registry}
 use Rattle.warg_plan.specs.Walk.{Stop, NeedsLog, NeedsContent, Entry, nothing_known}
 use Rattle.warg_assemble.specs.Known.{Known}
-use Rattle.warg_assemble.specs.Parts.{Part, exchanges_in, known_by, learnt_by}
+use Rattle.warg_assemble.specs.Parts.{Part, exchanges_in, known_by, learnt_by, learnt}
 use Rattle.warg_assemble.specs.Session.{Wanted, Serves}
 use Rattle.warg_learn.specs.Search.{AsksFor, Finds, IsSearchRefusal}
 use Rattle.warg_learn.specs.SearchError.{SearchError}
@@ -39,14 +39,14 @@ serves-asks known (NeedsContent name digest) p serves = tt
 serves-asks known stop p serves = absurd serves
 
 module _ {T D : Type 0} (Steps : T → Asked → T → Type 0) (one : OnePart Steps) (replies : ReplyLaws Steps) (accepts : Accepts) (asker : Registry → Asker) (w : Wanted) (known : Known) (parts : List Part) (es : List Entry) where
-  pub found-same : (other : List Entry) (old new : Seen T D) → ProvesSession Steps accepts asker w known nothing_known parts es old → (found : Finds w (IsLearnt Steps IsComponent) old new other) → (other ≡ es) × (found.parts ≡ parts)
+  pub found-same : (other : List Entry) (old new : Seen T D) → ProvesSession Steps accepts asker w known nothing_known parts es old → (found : Finds learnt w (IsLearnt Steps IsComponent) old new other) → (other ≡ es) × (found.parts ≡ parts)
   found-same other old new s found =
       let first = first-of Steps accepts asker w one replies known nothing_known parts found.parts es old new s found.are in
       let end = over Steps accepts asker w (known_by known found.parts) (learnt_by nothing_known found.parts) first.rest es other new first.proves_rest found.finds in
       (end.0, sym (first.front ∙ ap (λ (l : List Part). found.parts ++ l) end.1 ∙ append-nil found.parts))
 
   pub own-search-refusal : PartLaws Steps → FaultLaws Steps → (said : D → D → Bool → Bool) (e : SearchError (LearnError ShapeError)) (old new : Seen T D) → ProvesSession Steps accepts asker w known nothing_known parts es old
-      → IsSearchRefusal w (IsLearnt Steps IsComponent) (IsUnlearnt Steps said (λ bytes error. IsRefused error bytes)) old new e → IsOwnSearchRefusal Steps w known parts old new e
+      → IsSearchRefusal learnt w (IsLearnt Steps IsComponent) (IsUnlearnt Steps said (λ bytes error. IsRefused error bytes)) old new e → IsOwnSearchRefusal Steps w known parts old new e
   own-search-refusal laws faults said (search.NoPlan stop) old new s bad =
       let first = first-of Steps accepts asker w one replies known nothing_known parts bad.parts es old new s bad.are in
       let next = asked-next Steps accepts asker w (known_by known bad.parts) (learnt_by nothing_known bad.parts) first.rest es new bad.told first.proves_rest bad.stops in
@@ -70,7 +70,7 @@ module _ {T D : Type 0} (Steps : T → Asked → T → Type 0) (one : OnePart St
 
   -- where nothing stands in the way, the link gave no reply, or the refusal is told as want of memory
   pub undisturbed-refusal : PartLaws Steps → FaultLaws Steps → (said : D → D → Bool → Bool) (e : SearchError (LearnError ShapeError)) (old new : Seen T D) → ProvesSession Steps accepts asker w known nothing_known parts es old → IsUndisturbed parts old new
-      → IsSearchRefusal w (IsLearnt Steps IsComponent) (IsUnlearnt Steps said (λ bytes error. IsRefused error bytes)) old new e → (search_refusal e ≡ told.Memory) ⊎ ((search_refusal e ≡ told.LinkFault) × IsUnreplied parts old new Steps)
+      → IsSearchRefusal learnt w (IsLearnt Steps IsComponent) (IsUnlearnt Steps said (λ bytes error. IsRefused error bytes)) old new e → (search_refusal e ≡ told.Memory) ⊎ ((search_refusal e ≡ told.LinkFault) × IsUnreplied parts old new Steps)
   undisturbed-refusal laws faults said (search.NoPlan stop) old new s calm bad = absurd (own-search-refusal laws faults said (search.NoPlan stop) old new s bad)
   undisturbed-refusal laws faults said (search.Refused e) old new s calm bad = by (part_short Steps own.before new (known_by known own.done) steady first.proves_rest.knows own.next e can pages own.fault)
     where

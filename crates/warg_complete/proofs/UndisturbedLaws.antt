@@ -186,7 +186,7 @@ module _ {T D : Type 0} (Steps : T → Asked → T → Type 0) (w : Wanted) wher
     pub pages : now.pages_left + pages_of_parts old.asker done ≡ old.pages_left
     pub passed : Exchanges Steps old.transcript.link (flat_map exchanges_in done) now.transcript.link
 
-  pub behind : (f : Facts) (old now : Seen T D) (done : List Part) (known : Known) → IsKnown old known → AreLearnt w (IsLearnt Steps IsComponent) f old done now → IsBehind old now done
+  pub behind : (f : Facts) (old now : Seen T D) (done : List Part) (known : Known) → IsKnown old known → AreLearnt learnt w (IsLearnt Steps IsComponent) f old done now → IsBehind old now done
   unfolding AreLearnt Exchanges
   behind f old now [] known knows are = subst (λ (t : Seen T D). IsBehind old t []) (sym are) (record {
     asker = refl;

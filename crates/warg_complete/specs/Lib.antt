@@ -5,5 +5,6 @@ pub mod ExchangeLaws
 pub use Rattle.warg_error.specs.Calls
 pub use Rattle.warg_error.specs.Plans
 pub use Rattle.warg_error.specs.Text
+pub use Rattle.warg_error.specs.Updates
 pub use Rattle.warg_error.specs.declared.error.ClientError
 pub use Rattle.warg_error.specs.declared.error.Other

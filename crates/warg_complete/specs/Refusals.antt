@@ -13,7 +13,7 @@ use Rattle.warg_course.specs.Refusals.{IsUnanswered, IsOwnFault}
 use Rattle.warg_store.specs.declared.error.StoreError.TheVariants as store
 use Rattle.warg_plan.specs.Walk.{nothing_known}
 use Rattle.warg_assemble.specs.Known.{Known}
-use Rattle.warg_assemble.specs.Parts.{Load, Loaded, Part, Update, Updated, known_by}
+use Rattle.warg_assemble.specs.Parts.{Load, Loaded, Part, Update, Updated, known_by, learnt}
 use Rattle.warg_assemble.specs.Session.{Wanted}
 use Rattle.warg_learn.specs.Fetched.{IsFetchFault}
 use Rattle.warg_learn.specs.Kept.{IsStoresFault}
@@ -90,7 +90,7 @@ module _ {T D : Type 0} (Steps : T → Asked → T → Type 0) (w : Wanted) (kno
     pub rest : List Part
     pub in_turn : parts ≡ done ++ next ∷ rest
     pub before : Seen T D
-    pub are : AreLearnt w (IsLearnt Steps IsComponent) nothing_known old done before
+    pub are : AreLearnt learnt w (IsLearnt Steps IsComponent) nothing_known old done before
     pub fault : IsOwnLearnFault Steps before new (known_by known done) next e
     pub counted : is_link_fault e ≡ true → Rose before.faults.link new.faults.link
 

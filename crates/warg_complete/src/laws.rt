@@ -10,7 +10,7 @@ ghost use Rattle.warg_learn.specs.Recording.{Transcript, AreKept};
 ghost use Rattle.warg_store.specs.Held.{Registry};
 ghost use Rattle.warg_plan.specs.Walk.{Entry, Facts, Stop, nothing_known};
 ghost use Rattle.warg_assemble.specs.Known.{Known};
-ghost use Rattle.warg_assemble.specs.Parts.{Part, exchanges_in, IsPart};
+ghost use Rattle.warg_assemble.specs.Parts.{Part, exchanges_in, IsPart, learnt};
 ghost use Rattle.warg_assemble.specs.Session.{Wanted, Serves};
 ghost use Rattle.warg_learn.specs.Search.{AreLearnt, Finds, IsSearchRefusal};
 ghost use Rattle.warg_learn.specs.SearchError.{SearchError as Refusal};
@@ -57,25 +57,25 @@ pub fn proving_sessions_are_found<L: Link, D: Drop>()
     ensures learnt { (accepts : Accepts) (asker : Registry → Asker) (w : Wanted) (known : Known) (f : Facts)
         (parts done : List Part) (es : List Entry) (old now : Seen L.Told D)
         → ProvesSession L.Steps accepts asker w known f parts es old
-        → AreLearnt w (IsLearnt L.Steps IsComponent) f old done now
+        → AreLearnt learnt w (IsLearnt L.Steps IsComponent) f old done now
         → IsFirstOf L.Steps accepts asker w known f parts es done now }
     ensures found { (accepts : Accepts) (asker : Registry → Asker) (w : Wanted) (known : Known)
         (parts : List Part) (es other : List Entry) (old new : Seen L.Told D)
         → ProvesSession L.Steps accepts asker w known nothing_known parts es old
-        → (found : Finds w (IsLearnt L.Steps IsComponent) old new other)
+        → (found : Finds learnt w (IsLearnt L.Steps IsComponent) old new other)
         → (other ≡ es) × (found.parts ≡ parts) }
     ensures refused { (accepts : Accepts) (asker : Registry → Asker) (w : Wanted) (known : Known)
         (parts : List Part) (es : List Entry) (said : D → D → Bool → Bool) (e : Refusal (Cause Unread))
         (old new : Seen L.Told D)
         → ProvesSession L.Steps accepts asker w known nothing_known parts es old
-        → IsSearchRefusal w (IsLearnt L.Steps IsComponent)
+        → IsSearchRefusal learnt w (IsLearnt L.Steps IsComponent)
         (IsUnlearnt L.Steps said (λ bytes error. IsRefused error bytes)) old new e
         → IsOwnSearchRefusal L.Steps w known parts old new e }
     ensures undisturbed { (accepts : Accepts) (asker : Registry → Asker) (w : Wanted) (known : Known)
         (parts : List Part) (es : List Entry) (said : D → D → Bool → Bool) (e : Refusal (Cause Unread))
         (old new : Seen L.Told D)
         → ProvesSession L.Steps accepts asker w known nothing_known parts es old → IsUndisturbed parts old new
-        → IsSearchRefusal w (IsLearnt L.Steps IsComponent)
+        → IsSearchRefusal learnt w (IsLearnt L.Steps IsComponent)
         (IsUnlearnt L.Steps said (λ bytes error. IsRefused error bytes)) old new e
         → (search_refusal e ≡ WantsMemory)
         ⊎ ((search_refusal e ≡ HasFailed) × IsUnreplied parts old new L.Steps) }

@@ -17,7 +17,7 @@ use Rattle.warg_fetch.specs.Refusals.{call_refusal, call_wants_memory}
 use Rattle.warg_fetch.specs.Stored.{KnowsContents}
 use Rattle.warg_fetch.specs.declared.error.LoadError.{LoadError}
 use Rattle.warg_fetch.specs.declared.error.LoadError.TheVariants as error
-use Rattle.warg_fetch.proofs.StoredLaws.{if_some, rose_before}
+use Rattle.warg_fetch.specs.StoredLaws.{if_some, rose_before}
 
 -- a store that is refused later is refused since before
 later_unstored : (e : StoreError) (bytes : List ℕ) (wanted : Option (List ℕ)) (a b c : ℕ) → a ≤ b → IsStoreContentFault e bytes wanted b c → IsStoreContentFault e bytes wanted a c

@@ -9,7 +9,7 @@ use Rattle.warg_session.specs.declared.error.UpdateRefusal.{UpdateRefusal}
 use Rattle.warg_store.specs.declared.error.StoreError.{StoreError}
 use Rattle.warg_store.specs.declared.error.StoreError.TheVariants as store
 use Rattle.warg_store.specs.Entry.{Entry, Whole, Unreadable, IsStoreFault, SameEntries, with_entry}
-use Rattle.warg_store.specs.Held.{Registry, Held, SameHeld, Tells, is_registry, is_package, operator_info}
+use Rattle.warg_store.specs.Held.{Registry, Held, SameHeld, Tells, is_registry, is_package, operator_info, package_key}
 use Rattle.warg_store.specs.Namespaces.{Names}
 use Rattle.warg_assemble.specs.Known.{Known, registry_of}
 use Rattle.warg_assemble.specs.Parts.{Updated, known_after}
@@ -22,7 +22,7 @@ use Rattle.warg_fetch.specs.Writes.{Write, OperatorLog, PackageLog, LastCheckpoi
 use Rattle.warg_fetch.specs.declared.error.FetchError.{FetchError}
 use Rattle.warg_fetch.specs.declared.error.FetchError.TheVariants as error
 use Rattle.warg_fetch.specs.declared.package.PackageUpdate.{PackageUpdate}
-use Rattle.warg_fetch.proofs.StoredLaws.{if_some, knows_still, own_still, rose_before}
+use Rattle.warg_fetch.specs.StoredLaws.{if_some, knows_still, own_still, rose_before}
 use Rattle.warg_fetch.proofs.UpdateSteps.{store_fault}
 
 -- ---- writes over the same entries
@@ -36,10 +36,10 @@ write_still now held (OperatorLog r info) same = record {
   operators = entries_still is_registry now.operators held.operators r (Whole info) same.operators;
   packages = same.packages;
 }
-write_still now held (PackageLog p info) same = record {
+write_still now held (PackageLog r kept) same = record {
   checkpoints = same.checkpoints;
   operators = same.operators;
-  packages = entries_still is_package now.packages held.packages p (Whole info) same.packages;
+  packages = entries_still is_package now.packages held.packages (package_key r kept.name) (Whole kept) same.packages;
 }
 write_still now held (LastCheckpoint r c) same = record {
   checkpoints = entries_still is_registry now.checkpoints held.checkpoints r (Whole c) same.checkpoints;
@@ -53,10 +53,10 @@ spoilt_still now held (OperatorLog r info) same = record {
   operators = entries_still is_registry now.operators held.operators r Unreadable same.operators;
   packages = same.packages;
 }
-spoilt_still now held (PackageLog p info) same = record {
+spoilt_still now held (PackageLog r kept) same = record {
   checkpoints = same.checkpoints;
   operators = same.operators;
-  packages = entries_still is_package now.packages held.packages p Unreadable same.packages;
+  packages = entries_still is_package now.packages held.packages (package_key r kept.name) Unreadable same.packages;
 }
 spoilt_still now held (LastCheckpoint r c) same = record {
   checkpoints = entries_still is_registry now.checkpoints held.checkpoints r Unreadable same.checkpoints;

@@ -1,5 +1,4 @@
 pub mod ContentLaws
 pub mod KeptLaws
-pub mod StoredLaws
 pub mod UpdateLaws
 pub mod UpdateSteps

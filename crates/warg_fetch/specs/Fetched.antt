@@ -15,7 +15,7 @@ use Rattle.warg_session.specs.declared.error.UpdateRefusal.{UpdateRefusal}
 use Rattle.warg_store.specs.declared.error.EntryKind.TheVariants as kind
 use Rattle.warg_store.specs.declared.error.StoreError.{StoreError}
 use Rattle.warg_store.specs.Entry.{Entry, IsLoadFault}
-use Rattle.warg_store.specs.Held.{Registry, Held, operator_info, package_info}
+use Rattle.warg_store.specs.Held.{Registry, Held, named_info, operator_info}
 use Rattle.warg_store.specs.Namespaces.{Names}
 use Rattle.warg_assemble.specs.Known.{Known, registry_of}
 use Rattle.warg_assemble.specs.Parts.{Update, start_of, logs_of}
@@ -39,7 +39,7 @@ update_of got xs = record {
 abbrev pub writes_in : PackageUpdate → List Write
 writes_in got =
     OperatorLog got.info.registry (operator_info got.operator)
-    ∷ (PackageLog (got.info.registry, got.info.name) (package_info got.info)
+    ∷ (PackageLog got.info.registry (named_info got.info)
     ∷ (LastCheckpoint got.info.registry got.checkpoint ∷ []))
 
 -- these infos are those of one package

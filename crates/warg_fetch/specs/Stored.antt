@@ -8,7 +8,7 @@ use Rattle.warg_info.specs.Info.{IsLawfulLog}
 use Rattle.warg_info.specs.Kept.{Kept, signed_log}
 use Rattle.warg_store.specs.Contents.{Contents}
 use Rattle.warg_store.specs.Entry.{Entry, Absent, Whole, Unreadable}
-use Rattle.warg_store.specs.Held.{Registry, Package, Info, Held}
+use Rattle.warg_store.specs.Held.{Registry, Package, Info, NamedInfo, Held}
 use Rattle.warg_store.specs.Namespaces.{Names, names_of}
 use Rattle.warg_assemble.specs.Known.{Known, registry_by}
 
@@ -74,7 +74,8 @@ registry_for known namespace =
 -- each log that can be read is lawful by these signatures
 pub record IsOwn (accepts : Accepts) (held : Held) : Type 0 where
   pub operators : (r : Registry) (info : Info) → held.operators r ≡ Whole info → IsLawfulLog Operator accepts info.log
-  pub packages : (p : Package) (info : Info) → held.packages p ≡ Whole info → IsLawfulLog OfPackage accepts info.log
+  pub packages : (p : Package) (kept : NamedInfo) → held.packages p ≡ Whole kept
+      → IsLawfulLog OfPackage accepts kept.info.log
 
 -- a store tells what it holds, and its client alone has filled it
 pub record IsOwnStore (accepts : Accepts) (told : Option Held) : Type 0 where

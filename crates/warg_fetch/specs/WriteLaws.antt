@@ -6,7 +6,7 @@ use Rattle.warg_log.specs.Rules.{Accepts}
 use Rattle.warg_info.specs.Info.{IsLawfulLog}
 use Rattle.warg_info.specs.Kept.{Kept}
 use Rattle.warg_store.specs.Entry.{Entry, Whole, Unreadable, with_entry}
-use Rattle.warg_store.specs.Held.{Info, Held, Tells, is_registry, is_package}
+use Rattle.warg_store.specs.Held.{Info, NamedInfo, Held, Tells, is_registry, is_package, package_key}
 use Rattle.warg_assemble.specs.Known.{Known}
 use Rattle.warg_assemble.specs.Parts.{Update, Updated, known_after}
 use Rattle.warg_fetch.specs.Stored.{value_in, log_in, KnowsRegistries, IsOwn, IsOwnStore}
@@ -36,45 +36,46 @@ knows_after known old new u k t = record {
 -- a log that is written is lawful
 abbrev pub IsLawfulWrite : Accepts → Write → Type 0
 IsLawfulWrite accepts (OperatorLog r info) = IsLawfulLog Operator accepts info.log
-IsLawfulWrite accepts (PackageLog p info) = IsLawfulLog OfPackage accepts info.log
+IsLawfulWrite accepts (PackageLog r kept) = IsLawfulLog OfPackage accepts kept.info.log
 IsLawfulWrite accepts (LastCheckpoint r c) = Unit {0}
 
-info_is : (a b : Info) → Whole a ≡ Whole b → a ≡ b
-info_is a b e = cc
+module _ {X : Type 0} where
+  value_is : (a b : X) → Whole a ≡ Whole b → a ≡ b
+  value_is a b e = cc
 
--- a value that is written is so
-whole_is : (Is : Info → Type 0) (info : Info) → Is info → (i : Info) → Whole info ≡ Whole i → Is i
-whole_is Is info is i e = subst Is (info_is info i e) is
+  -- a value that is written is so
+  whole_is : (Is : X → Type 0) (x : X) → Is x → (i : X) → Whole x ≡ Whole i → Is i
+  whole_is Is x is i e = subst Is (value_is x i e) is
 
-module _ {K : Type 0} (Is : Info → Type 0) (is_key : K → K → Bool) (held : K → Entry Info) (key : K) where
-  read_with : (b : Bool) (k : K) (new : Entry Info) (info : Info) → ((i : Info) → new ≡ Whole i → Is i) → ((i : Info) → held k ≡ Whole i → Is i) → cond b new (held k) ≡ Whole info → Is info
-  read_with true k new info here there e = here info e
-  read_with false k new info here there e = there info e
+module _ {K X : Type 0} (Is : X → Type 0) (is_key : K → K → Bool) (held : K → Entry X) (key : K) where
+  read_with : (b : Bool) (k : K) (new : Entry X) (x : X) → ((i : X) → new ≡ Whole i → Is i) → ((i : X) → held k ≡ Whole i → Is i) → cond b new (held k) ≡ Whole x → Is x
+  read_with true k new x here there e = here x e
+  read_with false k new x here there e = there x e
 
   -- each entry that can be read is still so
-  entries_with : (new : Entry Info) → ((i : Info) → new ≡ Whole i → Is i) → ((k : K) (i : Info) → held k ≡ Whole i → Is i) → (k : K) (i : Info) → with_entry is_key held key new k ≡ Whole i → Is i
+  entries_with : (new : Entry X) → ((i : X) → new ≡ Whole i → Is i) → ((k : K) (i : X) → held k ≡ Whole i → Is i) → (k : K) (i : X) → with_entry is_key held key new k ≡ Whole i → Is i
   entries_with new here there k i e = read_with (is_key key k) k new i here (there k) e
 
 module _ (accepts : Accepts) where
   own_write : (held : Held) (w : Write) → IsOwn accepts held → IsLawfulWrite accepts w → IsOwn accepts (with_write held w)
   own_write held (OperatorLog r info) own is = record {
-    operators = entries_with (λ i. IsLawfulLog Operator accepts i.log) is_registry held.operators r (Whole info) (whole_is (λ i. IsLawfulLog Operator accepts i.log) info is) own.operators;
+    operators = entries_with (λ (i : Info). IsLawfulLog Operator accepts i.log) is_registry held.operators r (Whole info) (whole_is (λ (i : Info). IsLawfulLog Operator accepts i.log) info is) own.operators;
     packages = own.packages;
   }
-  own_write held (PackageLog p info) own is = record {
+  own_write held (PackageLog r kept) own is = record {
     operators = own.operators;
-    packages = entries_with (λ i. IsLawfulLog OfPackage accepts i.log) is_package held.packages p (Whole info) (whole_is (λ i. IsLawfulLog OfPackage accepts i.log) info is) own.packages;
+    packages = entries_with (λ (k : NamedInfo). IsLawfulLog OfPackage accepts k.info.log) is_package held.packages (package_key r kept.name) (Whole kept) (whole_is (λ (k : NamedInfo). IsLawfulLog OfPackage accepts k.info.log) kept is) own.packages;
   }
   own_write held (LastCheckpoint r c) own is = record { operators = own.operators; packages = own.packages }
 
   own_without : (held : Held) (w : Write) → IsOwn accepts held → IsOwn accepts (without_write held w)
   own_without held (OperatorLog r info) own = record {
-    operators = entries_with (λ i. IsLawfulLog Operator accepts i.log) is_registry held.operators r Unreadable (λ i e. absurd cc) own.operators;
+    operators = entries_with (λ (i : Info). IsLawfulLog Operator accepts i.log) is_registry held.operators r Unreadable (λ i e. absurd cc) own.operators;
     packages = own.packages;
   }
-  own_without held (PackageLog p info) own = record {
+  own_without held (PackageLog r kept) own = record {
     operators = own.operators;
-    packages = entries_with (λ i. IsLawfulLog OfPackage accepts i.log) is_package held.packages p Unreadable (λ i e. absurd cc) own.packages;
+    packages = entries_with (λ (k : NamedInfo). IsLawfulLog OfPackage accepts k.info.log) is_package held.packages (package_key r kept.name) Unreadable (λ k e. absurd cc) own.packages;
   }
   own_without held (LastCheckpoint r c) own = record { operators = own.operators; packages = own.packages }
 
@@ -84,7 +85,7 @@ module _ (accepts : Accepts) where
     tells = t.tells;
     own = record {
       operators = λ r info e. own.operators r info (sym (t.same.operators r) ∙ e);
-      packages = λ p info e. own.packages p info (sym (t.same.packages p) ∙ e);
+      packages = λ p kept e. own.packages p kept (sym (t.same.packages p) ∙ e);
     };
   }
 

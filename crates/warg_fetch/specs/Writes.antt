@@ -3,24 +3,24 @@ use Rattle.std.specs.Prelude.{◌⊎◌, List, [], ◌∷◌, Option, Some}
 use Rattle.warg_exchange.specs.declared.checkpoint.SignedCheckpoint.{SignedCheckpoint}
 use Rattle.warg_info.specs.Kept.{Kept}
 use Rattle.warg_store.specs.Entry.{Whole, Unreadable}
-use Rattle.warg_store.specs.Held.{Registry, Package, Info, Held, Tells, with_checkpoint, with_operator, with_package}
+use Rattle.warg_store.specs.Held.{Registry, Info, NamedInfo, Held, Tells, package_key, with_checkpoint, with_operator, with_package}
 use Rattle.warg_assemble.specs.Parts.{Update}
 
 pub data Write : Type 0 where
   OperatorLog : Registry → Info → Write
-  PackageLog : Package → Info → Write
+  PackageLog : Registry → NamedInfo → Write
   LastCheckpoint : Registry → SignedCheckpoint → Write
 
 -- what is held after a write
 abbrev pub with_write : Held → Write → Held
 with_write held (OperatorLog r info) = with_operator held r (Whole info)
-with_write held (PackageLog p info) = with_package held p (Whole info)
+with_write held (PackageLog r kept) = with_package held (package_key r kept.name) (Whole kept)
 with_write held (LastCheckpoint r c) = with_checkpoint held r (Whole c)
 
 -- what is held where its entry can't be read
 abbrev pub without_write : Held → Write → Held
 without_write held (OperatorLog r info) = with_operator held r Unreadable
-without_write held (PackageLog p info) = with_package held p Unreadable
+without_write held (PackageLog r kept) = with_package held (package_key r kept.name) Unreadable
 without_write held (LastCheckpoint r c) = with_checkpoint held r Unreadable
 
 abbrev pub with_writes : Held → List Write → Held
@@ -41,5 +41,6 @@ info_by u log = record { registry = u.registry; checkpoint = Some u.checkpoint.c
 -- an update writes the operator's log, the package's, and then the checkpoint
 abbrev pub writes_of : Update → List Write
 writes_of u =
-    OperatorLog u.registry (info_by u u.operator) ∷ (PackageLog (u.registry, u.name) (info_by u u.log)
+    OperatorLog u.registry (info_by u u.operator)
+    ∷ (PackageLog u.registry (record { name = u.name; info = info_by u u.log })
     ∷ (LastCheckpoint u.registry u.checkpoint ∷ []))

@@ -1,14 +1,17 @@
 -- Folders of registries: their names have no slash, and two registries have two.
-use Rattle.std.proofs.Common.{◌≡◌, ◌<◌, ◌/◌, ◌%◌, ℕ, zero, suc, Bool, true, false, not, ◌||◌, ◌&&◌, cond, nat_eq, List, [], ◌∷◌, ◌++◌, length, get_or, bytes_eq, Option, Some, None, refl, sym, ap, ◌∙◌, arith, ◌⊎◌, inl, inr}
-use Rattle.std.specs.List.{list_all, list_any}
-use Rattle.std.proofs.lemmas.Bool.{and_parts, cases_Bool, eqb-true}
+use Rattle.std.proofs.Common.{◌≡◌, ◌<◌, ◌/◌, ◌%◌, ℕ, zero, suc, Bool, true, false, not, ◌||◌, ◌&&◌, cond, nat_eq, nat_lt, List, [], ◌∷◌, ◌++◌, length, get_or, bytes_eq, Some, None, refl, sym, ap, ◌∙◌, arith, inl, inr}
+use Rattle.std.specs.Char.{is_ascii_alphanumeric}
+use Rattle.std.specs.Cmp.Lexicographic.{nat_list_eq_equiv}
+use Rattle.std.specs.List.{list_all}
+use Rattle.std.proofs.lemmas.Bool.{and_parts, cases_Bool, eqb-true, lt-ltb, ltb-true}
 use Rattle.std.proofs.lemmas.List.{append_cancel_left}
 use Rattle.std.proofs.lemmas.List.Folds.{list_any-append}
 use Rattle.std.proofs.lemmas.Slice.Eq.{bytes_eq-Decides}
 use Rattle.hex.specs.Hex.{IsBytes, encode_upper, encode_with, upper_digits, decode_of}
 use Rattle.hex.proofs.HexLemmas.{decode_of-encode_upper, decode_of-same}
 use Rattle.warg_store.specs.Held.{Registry}
-use Rattle.warg_registry_files.specs.Paths.{IsNamed, Place, has_slash, stands, escaped_byte, escaped_bytes, escaped, folder_name, folder_path}
+use Rattle.warg_registry_files.specs.Resets.{is_folder, is_of_name, is_plain}
+use Rattle.warg_registry_files.specs.Paths.{Place, are_bytes, is_named, has_slash, stands, escaped_byte, escaped_bytes, escaped, folder_name, folder_path}
 
 -- ---- digits
 
@@ -135,14 +138,38 @@ others_apart a b true false of_a of_b e = absurd (no_percents b (escaped a) e)
 others_apart a b false true of_a of_b e = absurd (no_percents a (escaped b) (sym e))
 others_apart a b false false of_a of_b e = name_back a b of_a of_b e
 
-pub folders_apart : (own : List ℕ) (a b : Registry) → IsNamed a → IsNamed b → folder_name own a ≡ folder_name own b → a ≡ b
+-- ---- registries
+
+both : (a b : Bool) → a ≡ true → b ≡ true → (a && b) ≡ true
+both true b p q = q
+both false b p q = absurd cc
+
+-- numbers that are bytes by the test are bytes
+pub bytes_by_test : (xs : List ℕ) → are_bytes xs ≡ true → IsBytes xs
+bytes_by_test [] h i = omega arith
+bytes_by_test (x ∷ xs) h zero = ltb-true x 256 (and_parts (nat_lt x 256) _ h).0
+bytes_by_test (x ∷ xs) h (suc i) = bytes_by_test xs (and_parts (nat_lt x 256) _ h).1 i
+
+-- and the other way round
+pub bytes_pass : (xs : List ℕ) → IsBytes xs → are_bytes xs ≡ true
+bytes_pass [] h = refl
+bytes_pass (x ∷ xs) h = both _ _ (lt-ltb x 256 (h zero)) (bytes_pass xs (λ i. h (suc i)))
+
+pub folders_apart : (own : List ℕ) (a b : Registry) → is_named a ≡ true → is_named b ≡ true → folder_name own a ≡ folder_name own b → a ≡ b
 folders_apart own None None of_a of_b e = refl
 folders_apart own None (Some b) of_a of_b e = absurd (home_apart own b (bytes_eq (escaped b) own) refl e)
 folders_apart own (Some a) None of_a of_b e = absurd (home_apart own a (bytes_eq (escaped a) own) refl (sym e))
-folders_apart own (Some a) (Some b) of_a of_b e = ap Some (others_apart a b (bytes_eq (escaped a) own) (bytes_eq (escaped b) own) of_a of_b e)
+folders_apart own (Some a) (Some b) of_a of_b e = ap Some (others_apart a b (bytes_eq (escaped a) own) (bytes_eq (escaped b) own) (bytes_by_test a of_a) (bytes_by_test b of_b) e)
 
-pub paths_apart : (place : Place) (a b : Registry) → IsNamed a → IsNamed b → folder_path place a ≡ folder_path place b → a ≡ b
-paths_apart place a b of_a of_b e = folders_apart place.own a b of_a of_b (append_cancel_left place.beside _ _ e)
+-- the home registry's folder is no other's
+pub no_other_home : (own name : List ℕ) → own ≡ folder_name own (Some name) → ⊥
+no_other_home own name e = home_apart own name (bytes_eq (escaped name) own) refl e
+
+rest_of : (a b : ℕ) (x y : List ℕ) → a ∷ x ≡ b ∷ y → x ≡ y
+rest_of a b x y e = cc
+
+pub paths_apart : (place : Place) (a b : Registry) → is_named a ≡ true → is_named b ≡ true → folder_path place a ≡ folder_path place b → a ≡ b
+paths_apart place a b of_a of_b e = folders_apart place.own a b of_a of_b (rest_of 47 47 _ _ (append_cancel_left place.parent _ _ e))
 
 pub folder_has_none : (own : List ℕ) (r : Registry) → has_slash own ≡ false → has_slash (folder_name own r) ≡ false
 folder_has_none own None none = none
@@ -151,3 +178,71 @@ folder_has_none own (Some name) none = go (bytes_eq (escaped name) own)
     go : (s : Bool) → has_slash (cond s (37 ∷ 37 ∷ escaped name) (escaped name)) ≡ false
     go true = name_has_none name
     go false = name_has_none name
+
+-- ---- names of folders that can be registries'
+
+or_left : (a b : Bool) → a ≡ true → (a || b) ≡ true
+or_left true b e = refl
+or_left false b e = absurd cc
+
+or_right : (a b : Bool) → b ≡ true → (a || b) ≡ true
+or_right true b e = refl
+or_right false b e = e
+
+-- what passes for all of some numbers passes at each place of them
+at_within : (p : ℕ → Bool) (xs : List ℕ) → list_all p xs ≡ true → (i : ℕ) → i < length xs → p (get_or xs i 0) ≡ true
+at_within p [] all i lt = absurd (omega arith)
+at_within p (x ∷ xs) all zero lt = (and_parts (p x) (list_all p xs) all).0
+at_within p (x ∷ xs) all (suc i) lt = at_within p xs (and_parts (p x) (list_all p xs) all).1 i (omega arith)
+
+digit_passes : (i : ℕ) → i < 16 → is_of_name false (get_or upper_digits i 0) ≡ true
+digit_passes i lt = at_within (λ c. is_of_name false c) upper_digits refl i lt
+
+high_digit : (b : ℕ) → b < 256 → b / 16 < 16
+high_digit b lt = omega arith
+
+low_digit : (b : ℕ) → b % 16 < 16
+low_digit b = omega arith
+
+-- the digits of a byte, and what is behind them
+digits_pass : (b : ℕ) (ys : List ℕ) → b < 256 → list_all (λ c. is_of_name false c) ys ≡ true → list_all (λ c. is_of_name false c) (encode_upper (b ∷ []) ++ ys) ≡ true
+unfolding encode_with
+digits_pass b ys lt rest = both _ _ (digit_passes (b / 16) (high_digit b lt)) (both _ _ (digit_passes (b % 16) (low_digit b)) rest)
+
+byte_passes : (b : ℕ) (ys : List ℕ) (s : Bool) → stands false b ≡ s → b < 256 → list_all (λ c. is_of_name false c) ys ≡ true
+    → list_all (λ c. is_of_name false c) (cond s (b ∷ []) (37 ∷ encode_upper (b ∷ [])) ++ ys) ≡ true
+byte_passes b ys true is lt rest = both _ _ (or_left _ _ is) rest
+byte_passes b ys false is lt rest = both _ _ refl (digits_pass b ys lt rest)
+
+bytes_pass_escaped : (bs : List ℕ) → IsBytes bs → list_all (λ c. is_of_name false c) (escaped_bytes false bs) ≡ true
+bytes_pass_escaped [] is = refl
+bytes_pass_escaped (b ∷ bs) is = byte_passes b (escaped_bytes false bs) (stands false b) refl (is zero) (bytes_pass_escaped bs (rest_bytes b bs is))
+
+first_passes : (b : ℕ) (ys : List ℕ) (s : Bool) → stands true b ≡ s → b < 256 → list_all (λ c. is_of_name false c) ys ≡ true → is_plain (cond s (b ∷ []) (37 ∷ encode_upper (b ∷ [])) ++ ys) ≡ true
+first_passes b ys true is lt rest = both _ _ (or_left _ _ is) rest
+first_passes b ys false is lt rest = both _ _ refl (digits_pass b ys lt rest)
+
+escaped_plain : (name : List ℕ) → IsBytes name → is_plain (escaped name) ≡ true
+escaped_plain [] is = refl
+escaped_plain (b ∷ bs) is = first_passes b (escaped_bytes false bs) (stands true b) refl (is zero) (bytes_pass_escaped bs (rest_bytes b bs is))
+
+-- what a first byte may be, each byte may be
+or_more : (a b c d p : Bool) → ((a || (b || (c || false))) || p) ≡ true → ((a || (b || (c || d))) || p) ≡ true
+or_more true b c d p e = refl
+or_more false true c d p e = refl
+or_more false false true d p e = refl
+or_more false false false d p e = or_right d p e
+
+plain_all : (name : List ℕ) → is_plain name ≡ true → list_all (λ c. is_of_name false c) name ≡ true
+plain_all [] e = refl
+plain_all (b ∷ bs) e =
+    let parts = and_parts (is_of_name true b) _ e in both _ _ (or_more (is_ascii_alphanumeric b) (nat_eq b 45) (nat_eq b 95) (nat_eq b 46) (nat_eq b 37) parts.0) parts.1
+
+named_plain : (name : List ℕ) (s : Bool) → IsBytes name → is_plain (cond s (37 ∷ 37 ∷ escaped name) (escaped name)) ≡ true
+named_plain name true is = both _ _ refl (both _ _ refl (plain_all (escaped name) (escaped_plain name is)))
+named_plain name false is = escaped_plain name is
+
+-- the folder of a registry passes
+pub folder_passes : (own : List ℕ) (r : Registry) → is_named r ≡ true → is_folder own (folder_name own r) ≡ true
+folder_passes own None named = or_left _ _ (nat_list_eq_equiv.refl own)
+folder_passes own (Some name) named = or_right _ _ (named_plain name (bytes_eq (escaped name) own) (bytes_by_test name named))

@@ -1,4 +1,6 @@
-pub mod PathLaws
 pub mod FileLaws
-pub mod NamedLaws
 pub mod FolderLaws
+pub mod KeyLaws
+pub mod NamedLaws
+pub mod PathLaws
+pub mod ResetLaws

@@ -1,3 +1,4 @@
 pub mod Paths
 pub mod RegistryFiles
+pub mod Resets
 pub mod Shown

@@ -1,10 +1,9 @@
 -- Where what is kept of registries stands: in a folder for each registry, beside that of the home registry.
-use Rattle.std.specs.Prelude.{◌≡◌, ℕ, nat_eq, ◌&&◌, ◌||◌, not, Bool, true, false, if◌then◌else◌, List, [], ◌∷◌, ◌++◌, length, bytes_eq, codes, Some, None}
+use Rattle.std.specs.Prelude.{◌≡◌, ℕ, nat_eq, nat_lt, ◌&&◌, ◌||◌, not, Bool, true, false, if◌then◌else◌, List, [], ◌∷◌, ◌++◌, length, bytes_eq, codes, Some, None}
 use Rattle.std.specs.Char.{is_ascii_alphanumeric}
-use Rattle.std.specs.List.{list_any}
-use Rattle.hex.specs.Hex.{IsBytes, encode_lower, encode_upper}
-use Rattle.warg_hash.specs.Hash.{package_log_id}
-use Rattle.warg_store.specs.Held.{Registry}
+use Rattle.std.specs.List.{list_all, list_any}
+use Rattle.hex.specs.Hex.{encode_lower, encode_upper}
+use Rattle.warg_store.specs.Held.{Registry, Package}
 
 abbrev pub slash : ℕ
 slash = 0x2f
@@ -45,21 +44,34 @@ escaped (b ∷ bs) = escaped_bytes true (b ∷ bs)
 abbrev pub has_slash : List ℕ → Bool
 has_slash path = list_any (λ b. nat_eq b slash) path
 
--- where the folder of the home registry is: what stands before its name, which is empty or ends with a slash, and its
--- name
+-- where the folders of registries are: the path of the folder that has them, and the name of the home registry's
 pub record Place : Type 0 where
-  pub beside : List ℕ
+  pub parent : List ℕ
   pub own : List ℕ
 
--- a folder with this path is there. The empty path is `.`, the folder in which a program runs
+-- A path with a slash. One that has none is in the folder in which a program runs, `.`, and the empty path is that
+-- folder.
+abbrev pub with_slash : List ℕ → List ℕ
+with_slash path =
+    if has_slash path then path else codes "./" ++ (if nat_eq (length path) 0 then dot ∷ [] else path)
+
+-- the home registry's folder has this path
 pub record IsPlaceOf (base : List ℕ) (place : Place) : Type 0 where
-  pub joined : place.beside ++ place.own ≡ (if nat_eq (length base) 0 then dot ∷ [] else base)
+  pub joined : place.parent ++ slash ∷ place.own ≡ with_slash base
   pub last : has_slash place.own ≡ false
 
+-- each number is a byte
+abbrev pub are_bytes : List ℕ → Bool
+are_bytes bs = list_all (λ b. nat_lt b 256) bs
+
 -- a registry's name is bytes, where it has one
-abbrev pub IsNamed : Registry → Type 0
-IsNamed None = Unit {0}
-IsNamed (Some name) = IsBytes name
+abbrev pub is_named : Registry → Bool
+is_named None = true
+is_named (Some name) = are_bytes name
+
+-- a package's registry is named so, and the id of its log is bytes
+abbrev pub is_log : Package → Bool
+is_log p = is_named p.0 && are_bytes p.1
 
 -- the name of a registry's folder, which has `%%` before it where it were the home registry's own
 abbrev pub folder_name : List ℕ → Registry → List ℕ
@@ -68,9 +80,14 @@ folder_name own (Some name) =
     if bytes_eq (escaped name) own then percent ∷ percent ∷ escaped name else escaped name
 
 abbrev pub folder_path : Place → Registry → List ℕ
-folder_path place r = place.beside ++ folder_name place.own r
+folder_path place r = place.parent ++ slash ∷ folder_name place.own r
 
 -- ---- files
+
+-- the path that a store locks: `.lock` in the home registry's folder. The empty text is the folder in which a program
+-- runs
+abbrev pub lock_path : List ℕ → List ℕ
+lock_path base = if nat_eq (length base) 0 then codes ".lock" else base ++ codes "/.lock"
 
 abbrev pub checkpoint_path : Place → Registry → List ℕ
 checkpoint_path place r = folder_path place r ++ codes "/checkpoint"
@@ -83,6 +100,5 @@ abbrev pub packages_path : Place → Registry → List ℕ
 packages_path place r = folder_path place r ++ codes "/package-logs"
 
 -- the log of a package, by the lower-case hexadecimal digits of its id
-abbrev pub package_path : Place → Registry → List ℕ → List ℕ
-package_path place r name =
-    folder_path place r ++ codes "/package-logs/sha256/" ++ encode_lower (package_log_id name)
+abbrev pub package_path : Place → Package → List ℕ
+package_path place p = folder_path place p.0 ++ codes "/package-logs/sha256/" ++ encode_lower p.1

@@ -5,4 +5,4 @@ pub mod laws;
 mod paths;
 mod storage;
 
-pub use storage::RegistryFiles;
+pub use storage::FileSystemRegistryStorage;

@@ -1,23 +1,27 @@
 //! The paths of files of registries.
 
-ghost use Rattle.std.specs.Prelude.{◌≡◌, ◌++◌, false, string_bytes, IfOk, OnOk, option_copied};
+ghost use Rattle.std.specs.Prelude.{◌≡◌, ◌++◌, ◌∷◌, [], ℕ, nat_eq, true, false, if◌then◌else◌, List, length, codes, string_bytes, IfOk, MatchOption, OnOk};
+ghost use Rattle.std.specs.List.{list_all};
 ghost use Rattle.hex.specs.Hex.{encode_lower};
+ghost use Rattle.warg_base.specs.Files.{is_under};
 ghost use Rattle.warg_hash.specs.Hash.{package_log_id};
-ghost use Rattle.warg_registry_files.specs.Paths.{IsPlaceOf, stands as stands_of, escaped_byte, escaped as escaped_of, has_slash, folder_path as folder_path_of, checkpoint_path, operator_path, package_path};
-ghost use Rattle.warg_registry_files.specs.Shown.{place_view};
+ghost use Rattle.warg_registry_files.specs.Paths.{are_bytes as are_bytes_of, stands as stands_of, escaped_byte, escaped as escaped_of, dot, has_slash, slash};
+ghost use Rattle.warg_registry_files.specs.Resets.{is_entry as is_entry_of, is_of_name as is_of_name_by, is_plain as is_plain_by};
 
 use std::alloc::Global;
 use warg_hash::{LogId, PackageName};
 use warg_url::RegistryDomain;
 use warg_values::{Memory, Text};
 
-/// Where the folder of the home registry is.
+/// Where the folders of registries are.
 #[derive(Debug, Drop)]
 pub struct Place {
-    /// What stands before the folder's name: nothing, or a path that ends with a slash.
-    pub beside: Text,
-    /// The folder's name.
+    /// The path of the folder that has them.
+    pub parent: Text,
+    /// The name of the home registry's folder.
     pub own: Text,
+    /// It is one name.
+    ghost single: { has_slash own ≡ false },
 }
 
 /// Whether a byte of a registry's name stands in a folder's name as it is.
@@ -41,6 +45,11 @@ fn push_escaped(alloc: Global, name: &mut String, first: bool, byte: u8) -> Resu
     Ok(())
 }
 
+/// Each byte is below 256.
+fn are_bytes(bytes: &[u8])
+    ensures { are_bytes_of bytes.now ≡ true }
+{}
+
 /// A registry's name, escaped so that it can be a folder's.
 fn escaped(alloc: Global, registry: &str) -> Result<String, Memory>
     ensures { IfOk result (λ name. string_bytes name ≡ escaped_of registry.now) }
@@ -60,40 +69,100 @@ fn escaped(alloc: Global, registry: &str) -> Result<String, Memory>
 
 /// The digits of the id of a package's log.
 fn log_digits(alloc: Global, name: &PackageName) -> Result<String, Memory>
-    ensures { IfOk result (λ digits. string_bytes digits ≡ encode_lower (package_log_id name.now)) }
+    ensures digits { IfOk result (λ digits. string_bytes digits ≡ encode_lower (package_log_id name.now)) }
+    ensures bytes { IfOk result (λ _. are_bytes_of (package_log_id name.now) ≡ true) }
 {
     let id = LogId::package_log(name);
-    Ok(hex::encode(alloc, id.hash().bytes())?)
+    let bytes = id.hash().bytes();
+    are_bytes(bytes.as_slice());
+    Ok(hex::encode(alloc, bytes)?)
+}
+
+/// Whether a byte can stand in the name of a registry's folder.
+fn is_of_name(first: bool, byte: u8) -> bool
+    ensures { result ≡ is_of_name_by first byte }
+{
+    stands(first, byte) || byte == b'%'
+}
+
+/// Whether all bytes can stand in the name of a registry's folder, behind the first.
+fn are_of_name(bytes: &[u8]) -> bool
+    ensures { result ≡ list_all (λ b. is_of_name_by false b) bytes.now }
+{
+    bytes.iter().all(|byte| is_of_name(false, *byte))
+}
+
+/// Whether a name has only bytes that the names of registries' folders have.
+fn is_plain(name: &[u8]) -> bool
+    ensures { result ≡ is_plain_by name.now }
+{
+    match name {
+        [] => false,
+        [first, rest @ ..] => is_of_name(true, *first) && are_of_name(rest),
+    }
+}
+
+/// Whether a path in a registry's folder is in the folder of packages' logs.
+fn is_in_logs(path: &str) -> bool
+    ensures { result ≡ is_under (codes "package-logs") path.now }
+{
+    path.starts_with("package-logs/")
+}
+
+/// Whether a path in a registry's folder is of what is kept there.
+fn is_entry(path: &str) -> bool
+    ensures { result ≡ is_entry_of path.now }
+{
+    path == "checkpoint" || path == "operator.log" || is_in_logs(path)
+}
+
+/// The name of the folder at a path without a slash.
+fn name_at(path: &str) -> &str
+    ensures { result.now ≡ (if nat_eq (length path.now) 0 then dot ∷ [] else path.now) }
+{
+    if path.is_empty() { "." } else { path }
+}
+
+/// What a path has behind a folder's path and a slash, where it lies under the folder.
+fn behind<'a>(path: &'a str, folder: &str) -> Option<&'a str>
+    ensures { MatchOption result ((rest : List ℕ) → path.now ≡ folder.now ++ slash ∷ rest → ⊥)
+        (λ rest. path.now ≡ folder.now ++ slash ∷ rest.now) }
+{
+    let Some(inside) = path.strip_prefix(folder) else {
+        return None;
+    };
+    inside.strip_prefix("/")
+}
+
+/// A path, split at its first slash.
+fn parts(path: &str) -> Option<(&str, &str)>
+    ensures { MatchOption result (has_slash path.now ≡ false)
+        (λ x. (path.now ≡ x.0.now ++ slash ∷ x.1.now) × (has_slash x.0.now ≡ false)) }
+{
+    path.split_once('/')
 }
 
 impl Place {
-    /// A path, split behind its last slash.
-    fn split(alloc: Global, path: &str) -> Result<Self, Memory>
-        ensures joined { IfOk result (λ place. place.beside ++ place.own ≡ path.now) }
-        ensures last { IfOk result (λ place. has_slash place.own ≡ false) }
-    {
-        let Some((before, own)) = path.rsplit_once('/') else {
-            return Ok(Place {
-                beside: Text::copy_of(alloc, "")?,
-                own: Text::copy_of(alloc, path)?,
-            });
-        };
-        let mut beside = String::from_str(alloc, before)?;
-        beside.push_str("/")?;
-        Ok(Place {
-            beside: Text::new(beside),
-            own: Text::copy_of(alloc, own)?,
-        })
-    }
+    ghost use Rattle.std.specs.Prelude.{◌≡◌, true, string_bytes, option_copied, IfOk};
+    ghost use Rattle.warg_store.specs.Held.{Package, package_key};
+    ghost use Rattle.warg_registry_files.specs.Paths.{IsPlaceOf, is_log, is_named, folder_path as folder_path_of, checkpoint_path, operator_path, packages_path, package_path};
+    ghost use Rattle.warg_registry_files.specs.Resets.{IsKept, is_folder};
+    ghost use Rattle.warg_registry_files.specs.Shown.{place_view};
 
     /// The place of a folder.
     pub fn of(alloc: Global, base: &str) -> Result<Self, Memory>
         ensures { IfOk result (λ place. IsPlaceOf base.now (place_view place)) }
     {
-        if base.is_empty() {
-            return Place::split(alloc, ".");
-        }
-        Place::split(alloc, base)
+        let Some((parent, own)) = base.rsplit_once('/') else {
+            return Ok(Place {
+                parent: Text::copy_of(alloc, ".")?,
+                own: Text::copy_of(alloc, name_at(base))?,
+            });
+        };
+        Ok(Place {
+            parent: Text::copy_of(alloc, parent)?,
+            own: Text::copy_of(alloc, own)?,
+        })
     }
 
     /// The path of a registry's folder.
@@ -102,14 +171,17 @@ impl Place {
         alloc: Global,
         registry: Option<&RegistryDomain>,
     ) -> Result<String, Memory>
-        ensures { IfOk result (λ path. string_bytes path
+        ensures path { IfOk result (λ path. string_bytes path
             ≡ folder_path_of (place_view self.now) (option_copied registry.entry)) }
+        ensures named { IfOk result (λ _. is_named (option_copied registry.entry) ≡ true) }
     {
-        let mut path = String::from_str(alloc, self.beside.as_str())?;
+        let mut path = String::from_str(alloc, self.parent.as_str())?;
+        path.push_str("/")?;
         let Some(registry) = registry else {
             path.push_str(self.own.as_str())?;
             return Ok(path);
         };
+        are_bytes(registry.as_str().as_bytes());
         let name = escaped(alloc, registry.as_str())?;
         if name.as_str() == self.own.as_str() {
             path.push_str("%%")?;
@@ -124,7 +196,9 @@ impl Place {
         alloc: Global,
         registry: Option<&RegistryDomain>,
     ) -> Result<Text, Memory>
-        ensures { IfOk result (λ path. path ≡ checkpoint_path (place_view self.now) (option_copied registry.entry)) }
+        ensures path { IfOk result (λ path.
+            path ≡ checkpoint_path (place_view self.now) (option_copied registry.entry)) }
+        ensures named { IfOk result (λ _. is_named (option_copied registry.entry) ≡ true) }
     {
         let mut path = self.folder_path(alloc, registry)?;
         path.push_str("/checkpoint")?;
@@ -137,10 +211,26 @@ impl Place {
         alloc: Global,
         registry: Option<&RegistryDomain>,
     ) -> Result<Text, Memory>
-        ensures { IfOk result (λ path. path ≡ operator_path (place_view self.now) (option_copied registry.entry)) }
+        ensures path { IfOk result (λ path.
+            path ≡ operator_path (place_view self.now) (option_copied registry.entry)) }
+        ensures named { IfOk result (λ _. is_named (option_copied registry.entry) ≡ true) }
     {
         let mut path = self.folder_path(alloc, registry)?;
         path.push_str("/operator.log")?;
+        Ok(Text::new(path))
+    }
+
+    /// The path of the folder of packages' logs.
+    pub fn packages_path(
+        &self,
+        alloc: Global,
+        registry: Option<&RegistryDomain>,
+    ) -> Result<Text, Memory>
+        ensures { IfOk result (λ path.
+            path ≡ packages_path (place_view self.now) (option_copied registry.entry)) }
+    {
+        let mut path = self.folder_path(alloc, registry)?;
+        path.push_str("/package-logs")?;
         Ok(Text::new(path))
     }
 
@@ -151,13 +241,35 @@ impl Place {
         registry: Option<&RegistryDomain>,
         name: &PackageName,
     ) -> Result<Text, Memory>
-        ensures { IfOk result (λ path. path
-            ≡ package_path (place_view self.now) (option_copied registry.entry) name.now) }
+        ensures path { IfOk result (λ path. path
+            ≡ package_path (place_view self.now) (package_key (option_copied registry.entry) name.now)) }
+        ensures named { IfOk result (λ _. is_log (package_key (option_copied registry.entry) name.now) ≡ true) }
     {
         let digits = log_digits(alloc, name)?;
         let mut path = self.folder_path(alloc, registry)?;
         path.push_str("/package-logs/sha256/")?;
         path.push_str(&digits)?;
         Ok(Text::new(path))
+    }
+
+    /// Whether a folder with a name beside the home registry's can be a registry's, or is the home registry's.
+    fn is_folder(&self, name: &str) -> bool
+        ensures { result ≡ is_folder (place_view self.now).own name.now }
+    {
+        name == self.own.as_str() || is_plain(name.as_bytes())
+    }
+
+    /// Whether a path is of what is kept of a registry.
+    pub fn is_kept(&self, path: &str) -> bool
+        ensures kept { result ≡ true → IsKept (place_view self.now) path.now }
+        ensures other { result ≡ false → ¬ (IsKept (place_view self.now) path.now) }
+    {
+        let Some(inside) = behind(path, self.parent.as_str()) else {
+            return false;
+        };
+        let Some((name, entry)) = parts(inside) else {
+            return false;
+        };
+        self.is_folder(name) && is_entry(entry)
     }
 }

@@ -1,16 +1,18 @@
 //! What is kept of registries, in files.
 
-ghost use Rattle.std.specs.Prelude.{◌≡◌, ◌≢◌, ◌≤◌, Some, IfOk, IfErr, IfSome, OnOk, OnErr, option_copied, option_map};
-ghost use Rattle.warg_base.specs.Files.{LeavesPartlyWritten, file_at, with_file};
+ghost use Rattle.std.specs.Prelude.{◌≡◌, ◌≢◌, ◌≤◌, ℕ, true, false, List, Some, None, Ok, Err, IfOk, IfErr, IfSome, OnOk, OnErr, option_copied, option_map};
+ghost use Rattle.warg_base.specs.Files.{LeavesPartlyWritten, file_at, paths_under, with_file};
 ghost use Rattle.warg_base.specs.declared.files.FileError.TheVariants.{Missing as is_missing, Failed as has_failed};
+ghost use Rattle.warg_values.specs.Faults.{Rose};
+ghost use Rattle.warg_locks.specs.declared.locks.LockError.TheVariants.{Failed as lock_failed};
 ghost use Rattle.warg_info.specs.Info.{IsSoundOperator, IsSoundPackage};
 ghost use Rattle.warg_info_text.specs.StoredTexts.{checkpoint_text, operator_text, package_text};
 ghost use Rattle.warg_store.specs.Entry.{Whole, entry_of, IsLoadFault, IsStoreFault};
-ghost use Rattle.warg_store.specs.Held.{operator_info, package_info};
+ghost use Rattle.warg_store.specs.Held.{LeavesReset, LeavesStore, Tells, after_reset, entry_named, named_info, operator_info, package_info, package_key, with_checkpoint, with_operator, with_package};
 ghost use Rattle.warg_store.specs.declared.error.StoreError.TheVariants.{Failed as store_failed, Memory as no_memory};
-ghost use Rattle.warg_registry_files.specs.Paths.{IsPlaceOf, checkpoint_path, operator_path, package_path};
-ghost use Rattle.warg_registry_files.specs.RegistryFiles.{IsLeft};
-ghost use Rattle.warg_registry_files.specs.Shown.{files_of, place_of, held_of};
+ghost use Rattle.warg_registry_files.specs.Paths.{IsPlaceOf, checkpoint_path, lock_path, operator_path, package_path};
+ghost use Rattle.warg_registry_files.specs.Resets.{HasNone, IsKept, LeavesOthers, MayGo, is_at};
+ghost use Rattle.warg_registry_files.specs.Shown.{files_of, place_of, held_of, lock_of};
 
 use crate::paths::Place;
 use std::alloc::Global;
@@ -21,16 +23,18 @@ use warg_info::{OperatorInfo, PackageInfo};
 use warg_info_text::{
     read_checkpoint, read_operator, read_package, write_checkpoint, write_operator, write_package,
 };
-use warg_store::{EntryKind, StoreError};
+use warg_locks::{LockError, Locks};
+use warg_store::{EntryKind, RegistryStorage, StoreError};
 use warg_url::RegistryDomain;
 use warg_values::{Memory, Text};
 
 /// What is kept of registries in files: a folder for each registry, beside that of the home registry. Nothing else of
-/// the files is touched.
+/// the files is touched. It holds the lock that it was made with, until it is dropped.
 #[derive(Drop)]
-pub struct RegistryFiles<F> {
+pub struct FileSystemRegistryStorage<F, L> {
     files: F,
     place: Place,
+    held: L,
 }
 
 /// Why a store refuses what files refused, which were not asked for a file that is missing.
@@ -44,14 +48,82 @@ fn refusal(error: FileError) -> StoreError
     }
 }
 
-impl<F: Files + Drop> RegistryFiles<F> {
-    /// What files hold of registries, of which the home registry has this folder. No file is asked for.
+/// The path that a store locks, in the home registry's folder.
+fn lock_in(alloc: Global, base: &str) -> Result<Text, Memory>
+    ensures { IfOk result (λ path. path ≡ lock_path base.now) }
+{
+    if base.is_empty() {
+        return Text::copy_of(alloc, ".lock");
+    }
+    Ok(Text::new(format!(in alloc; "{base}/.lock")?))
+}
+
+impl<F: Files + Drop> FileSystemRegistryStorage<F, ()> {
+    /// What files hold of registries, of which the home registry has this folder, without a lock. No file is asked for.
     pub fn new(alloc: Global, files: F, base: &str) -> Result<Self, Memory>
         ensures files { IfOk result (λ store. files_of store ≡ files) }
         ensures place { IfOk result (λ store. IsPlaceOf base.now (place_of store)) }
     {
+        FileSystemRegistryStorage::with_lock(alloc, files, base, ())
+    }
+}
+
+impl<F: Files + Drop, L: Drop> FileSystemRegistryStorage<F, L> {
+    /// The same, holding a lock.
+    fn with_lock(alloc: Global, files: F, base: &str, held: L) -> Result<Self, Memory>
+        ensures files { IfOk result (λ store. files_of store ≡ files) }
+        ensures place { IfOk result (λ store. IsPlaceOf base.now (place_of store)) }
+        ensures lock { IfOk result (λ store. lock_of store ≡ held) }
+    {
         let place = Place::of(alloc, base)?;
-        Ok(RegistryFiles { files, place })
+        Ok(FileSystemRegistryStorage { files, place, held })
+    }
+
+    /// What files hold of registries, of which the home registry has this folder, in which it locks `.lock`. `None`
+    /// where somebody else holds that.
+    pub fn try_lock<K: Locks<Lock = L>>(
+        alloc: Global,
+        files: F,
+        locks: &mut K,
+        base: &str,
+    ) -> Result<Option<Self>, LockError>
+        ensures never_falls { K.faults locks.old ≤ K.faults locks.new }
+        ensures files { IfOk result (λ found. IfSome found (λ store. files_of store ≡ files)) }
+        ensures place { IfOk result (λ found. IfSome found (λ store. IsPlaceOf base.now (place_of store))) }
+        ensures lock { IfOk result (λ found. IfSome found (λ store. K.locked (lock_of store) ≡ lock_path base.now)) }
+        ensures held { result ≡ Ok None → Rose (K.met locks.old) (K.met locks.new) }
+        ensures failed { result ≡ Err lock_failed → Rose (K.faults locks.old) (K.faults locks.new) }
+    {
+        let path = lock_in(alloc, base)?;
+        let Some(held) = locks.try_lock(alloc, path.as_str())? else {
+            return Ok(None);
+        };
+        Ok(Some(FileSystemRegistryStorage::with_lock(alloc, files, base, held)?))
+    }
+
+    /// The same, but waits while somebody else holds the lock.
+    pub fn lock<K: Locks<Lock = L>>(
+        alloc: Global,
+        files: F,
+        locks: &mut K,
+        base: &str,
+    ) -> Result<Self, LockError>
+        ensures never_falls { K.faults locks.old ≤ K.faults locks.new }
+        ensures files { IfOk result (λ store. files_of store ≡ files) }
+        ensures place { IfOk result (λ store. IsPlaceOf base.now (place_of store)) }
+        ensures lock { IfOk result (λ store. K.locked (lock_of store) ≡ lock_path base.now) }
+        ensures failed { result ≡ Err lock_failed → Rose (K.faults locks.old) (K.faults locks.new) }
+    {
+        let path = lock_in(alloc, base)?;
+        let held = locks.lock(alloc, path.as_str())?;
+        Ok(FileSystemRegistryStorage::with_lock(alloc, files, base, held)?)
+    }
+
+    /// The lock that it holds.
+    pub fn held(&self) -> &L
+        ensures { result.now ≡ lock_of self.now }
+    {
+        &self.held
     }
 
     /// The files in which registries are kept.
@@ -95,13 +167,141 @@ impl<F: Files + Drop> RegistryFiles<F> {
         }
     }
 
-    /// The checkpoint that is kept of a registry.
-    pub fn load_checkpoint(
+    /// Takes the file at a path away, and what lies under it.
+    fn take(&mut self, alloc: Global, path: &Text) -> Result<(), StoreError>
+        ensures never_falls { F.faults (files_of self.old) ≤ F.faults (files_of self.new) }
+        ensures fault { IfErr result (λ e.
+            IsStoreFault e (F.faults (files_of self.old)) (F.faults (files_of self.new))) }
+        ensures place { place_of self.new ≡ place_of self.old }
+        ensures others { IfSome (F.told (files_of self.old)) (λ files.
+            LeavesOthers (F.told (files_of self.new)) files (λ q. is_at path.now q ≡ true)) }
+        ensures gone { OnOk result (IfSome (F.told (files_of self.old)) (λ _.
+            IfSome (F.told (files_of self.new)) (λ now.
+            (q : List ℕ) → is_at path.now q ≡ true → file_at now q ≡ None))) }
+    {
+        match self.files.remove(alloc, path.as_str()) {
+            Ok(()) => Ok(()),
+            Err(error) => Err(refusal(error)),
+        }
+    }
+
+    /// The paths of the files beside the home registry's folder, and in the folders there.
+    fn list(&mut self, alloc: Global) -> Result<Vec<Text>, StoreError>
+        ensures never_falls { F.faults (files_of self.old) ≤ F.faults (files_of self.new) }
+        ensures fault { IfErr result (λ e.
+            IsStoreFault e (F.faults (files_of self.old)) (F.faults (files_of self.new))) }
+        ensures place { place_of self.new ≡ place_of self.old }
+        ensures untouched { F.told (files_of self.new) ≡ F.told (files_of self.old) }
+        ensures listed { IfOk result (λ paths. IfSome (F.told (files_of self.old)) (λ files.
+            paths.items ≡ paths_under files (place_of self.old).parent)) }
+    {
+        match self.files.list(alloc, self.place.parent.as_str()) {
+            Ok(paths) => Ok(paths),
+            Err(error) => Err(refusal(error)),
+        }
+    }
+
+    /// Takes the file at a path away where it is of what is kept of a registry.
+    fn take_kept(&mut self, alloc: Global, path: &Text) -> Result<(), StoreError>
+        ensures never_falls { F.faults (files_of self.old) ≤ F.faults (files_of self.new) }
+        ensures fault { IfErr result (λ e.
+            IsStoreFault e (F.faults (files_of self.old)) (F.faults (files_of self.new))) }
+        ensures place { place_of self.new ≡ place_of self.old }
+        ensures others { IfSome (F.told (files_of self.old)) (λ files.
+            LeavesOthers (F.told (files_of self.new)) files (MayGo (place_of self.old) true)) }
+        ensures gone { OnOk result (IfSome (F.told (files_of self.old)) (λ _.
+            IfSome (F.told (files_of self.new)) (λ now.
+            IsKept (place_of self.old) path.now → file_at now path.now ≡ None))) }
+    {
+        if !self.place.is_kept(path.as_str()) {
+            return Ok(());
+        }
+        self.take(alloc, path)
+    }
+
+    /// Takes away what is kept of all registries.
+    fn take_all(&mut self, alloc: Global) -> Result<(), StoreError>
+        ensures never_falls { F.faults (files_of self.old) ≤ F.faults (files_of self.new) }
+        ensures fault { IfErr result (λ e.
+            IsStoreFault e (F.faults (files_of self.old)) (F.faults (files_of self.new))) }
+        ensures place { place_of self.new ≡ place_of self.old }
+        ensures others { IfSome (F.told (files_of self.old)) (λ files.
+            LeavesOthers (F.told (files_of self.new)) files (MayGo (place_of self.old) true)) }
+        ensures gone { OnOk result (IfSome (F.told (files_of self.old)) (λ _.
+            IfSome (F.told (files_of self.new)) (HasNone (place_of self.old) true))) }
+    {
+        let paths = self.list(alloc)?;
+        for path in &paths {
+            self.take_kept(alloc, path)?;
+        }
+        Ok(())
+    }
+
+    /// Takes away what is kept of the home registry.
+    fn take_home(&mut self, alloc: Global) -> Result<(), StoreError>
+        ensures never_falls { F.faults (files_of self.old) ≤ F.faults (files_of self.new) }
+        ensures fault { IfErr result (λ e.
+            IsStoreFault e (F.faults (files_of self.old)) (F.faults (files_of self.new))) }
+        ensures place { place_of self.new ≡ place_of self.old }
+        ensures others { IfSome (F.told (files_of self.old)) (λ files.
+            LeavesOthers (F.told (files_of self.new)) files (MayGo (place_of self.old) false)) }
+        ensures gone { OnOk result (IfSome (F.told (files_of self.old)) (λ _.
+            IfSome (F.told (files_of self.new)) (HasNone (place_of self.old) false))) }
+    {
+        let checkpoint = self.place.checkpoint_path(alloc, None)?;
+        let operator = self.place.operator_path(alloc, None)?;
+        let packages = self.place.packages_path(alloc, None)?;
+        self.take(alloc, &checkpoint)?;
+        self.take(alloc, &operator)?;
+        self.take(alloc, &packages)
+    }
+
+    /// Takes away what is kept of all registries, or of the home registry.
+    fn take_away(&mut self, alloc: Global, all: bool) -> Result<(), StoreError>
+        ensures never_falls { F.faults (files_of self.old) ≤ F.faults (files_of self.new) }
+        ensures fault { IfErr result (λ e.
+            IsStoreFault e (F.faults (files_of self.old)) (F.faults (files_of self.new))) }
+        ensures place { place_of self.new ≡ place_of self.old }
+        ensures others { IfSome (F.told (files_of self.old)) (λ files.
+            LeavesOthers (F.told (files_of self.new)) files (MayGo (place_of self.old) all)) }
+        ensures gone { OnOk result (IfSome (F.told (files_of self.old)) (λ _.
+            IfSome (F.told (files_of self.new)) (HasNone (place_of self.old) all))) }
+    {
+        if all {
+            self.take_all(alloc)
+        } else {
+            self.take_home(alloc)
+        }
+    }
+}
+
+impl<F: Files + Drop, L: Drop> RegistryStorage for FileSystemRegistryStorage<F, L> {
+    ghost faults = { λ s. F.faults (files_of s) };
+
+    ghost told = { λ s. held_of F.told s };
+
+    fn reset(&mut self, alloc: Global, all_registries: bool) -> Result<(), StoreError>
+        ensures never_falls { F.faults (files_of self.old) ≤ F.faults (files_of self.new) }
+        ensures reset { OnOk result (IfSome (held_of F.told self.old) (λ held.
+            Tells (held_of F.told self.new) (after_reset all_registries held))) }
+        ensures refused { OnErr result (IfSome (held_of F.told self.old)
+            (LeavesReset (held_of F.told self.new) all_registries)) }
+        ensures fault { IfErr result (λ e.
+            IsStoreFault e (F.faults (files_of self.old)) (F.faults (files_of self.new))) }
+        ensures place { place_of self.new ≡ place_of self.old }
+        ensures others { IfSome (F.told (files_of self.old)) (λ files.
+            LeavesOthers (F.told (files_of self.new)) files (MayGo (place_of self.old) all_registries)) }
+    {
+        self.take_away(alloc, all_registries)
+    }
+
+    fn load_checkpoint(
         &mut self,
         alloc: Global,
         registry: Option<&RegistryDomain>,
     ) -> Result<Option<SignedCheckpoint>, StoreError>
         ensures never_falls { F.faults (files_of self.old) ≤ F.faults (files_of self.new) }
+        ensures kept { IfSome (held_of F.told self.old) (Tells (held_of F.told self.new)) }
         ensures found { IfOk result (λ o. IfSome (held_of F.told self.old) (λ held.
             held.checkpoints (option_copied registry.entry) ≡ entry_of o)) }
         ensures fault { IfErr result (λ e. IsLoadFault e EntryKind.Checkpoint (F.faults (files_of self.old))
@@ -120,20 +320,17 @@ impl<F: Files + Drop> RegistryFiles<F> {
         }
     }
 
-    /// Keeps a checkpoint of a registry. A refusal leaves the old entry, the new one, or what can't be read.
-    pub fn store_checkpoint(
+    fn store_checkpoint(
         &mut self,
         alloc: Global,
         registry: Option<&RegistryDomain>,
         checkpoint: &SignedCheckpoint,
     ) -> Result<(), StoreError>
         ensures never_falls { F.faults (files_of self.old) ≤ F.faults (files_of self.new) }
-        ensures stored { OnOk result (IfSome (held_of F.told self.old) (λ _. IfSome (held_of F.told self.new) (λ now.
-            now.checkpoints (option_copied registry.entry) ≡ Whole checkpoint.now))) }
-        ensures refused { OnErr result (IfSome (held_of F.told self.old) (λ old.
-            IfSome (held_of F.told self.new) (λ now.
-            IsLeft (old.checkpoints (option_copied registry.entry)) checkpoint.now
-            (now.checkpoints (option_copied registry.entry))))) }
+        ensures stored { OnOk result (IfSome (held_of F.told self.old) (λ held. Tells (held_of F.told self.new)
+            (with_checkpoint held (option_copied registry.entry) (Whole checkpoint.now)))) }
+        ensures refused { OnErr result (IfSome (held_of F.told self.old) (λ held. LeavesStore (held_of F.told self.new)
+            held (with_checkpoint held (option_copied registry.entry)) checkpoint.now)) }
         ensures fault { IfErr result (λ e.
             IsStoreFault e (F.faults (files_of self.old)) (F.faults (files_of self.new))) }
         ensures place { place_of self.new ≡ place_of self.old }
@@ -150,13 +347,13 @@ impl<F: Files + Drop> RegistryFiles<F> {
         Ok(())
     }
 
-    /// What is kept of the log of a registry's operator. It is sound.
-    pub fn load_operator(
+    fn load_operator(
         &mut self,
         alloc: Global,
         registry: Option<&RegistryDomain>,
     ) -> Result<Option<OperatorInfo>, StoreError>
         ensures never_falls { F.faults (files_of self.old) ≤ F.faults (files_of self.new) }
+        ensures kept { IfSome (held_of F.told self.old) (Tells (held_of F.told self.new)) }
         ensures found { IfOk result (λ o. IfSome (held_of F.told self.old) (λ held.
             held.operators (option_copied registry.entry) ≡ entry_of (option_map operator_info o))) }
         ensures sound { IfOk result (λ o. IfSome o IsSoundOperator) }
@@ -176,8 +373,7 @@ impl<F: Files + Drop> RegistryFiles<F> {
         }
     }
 
-    /// Keeps the log of a registry's operator. A refusal leaves the old entry, the new one, or what can't be read.
-    pub fn store_operator(
+    fn store_operator(
         &mut self,
         alloc: Global,
         registry: Option<&RegistryDomain>,
@@ -185,12 +381,10 @@ impl<F: Files + Drop> RegistryFiles<F> {
     ) -> Result<(), StoreError>
         requires { IsSoundOperator info.now }
         ensures never_falls { F.faults (files_of self.old) ≤ F.faults (files_of self.new) }
-        ensures stored { OnOk result (IfSome (held_of F.told self.old) (λ _. IfSome (held_of F.told self.new) (λ now.
-            now.operators (option_copied registry.entry) ≡ Whole (operator_info info.now)))) }
-        ensures refused { OnErr result (IfSome (held_of F.told self.old) (λ old.
-            IfSome (held_of F.told self.new) (λ now.
-            IsLeft (old.operators (option_copied registry.entry)) (operator_info info.now)
-            (now.operators (option_copied registry.entry))))) }
+        ensures stored { OnOk result (IfSome (held_of F.told self.old) (λ held. Tells (held_of F.told self.new)
+            (with_operator held (option_copied registry.entry) (Whole (operator_info info.now))))) }
+        ensures refused { OnErr result (IfSome (held_of F.told self.old) (λ held. LeavesStore (held_of F.told self.new)
+            held (with_operator held (option_copied registry.entry)) (operator_info info.now))) }
         ensures fault { IfErr result (λ e.
             IsStoreFault e (F.faults (files_of self.old)) (F.faults (files_of self.new))) }
         ensures place { place_of self.new ≡ place_of self.old }
@@ -208,21 +402,23 @@ impl<F: Files + Drop> RegistryFiles<F> {
         Ok(())
     }
 
-    /// What is kept of the log of a package in a registry. It is sound, and has the package's name.
-    pub fn load_package(
+    fn load_package(
         &mut self,
         alloc: Global,
         registry: Option<&RegistryDomain>,
         name: &PackageName,
     ) -> Result<Option<PackageInfo>, StoreError>
         ensures never_falls { F.faults (files_of self.old) ≤ F.faults (files_of self.new) }
+        ensures kept { IfSome (held_of F.told self.old) (Tells (held_of F.told self.new)) }
         ensures found { IfOk result (λ o. IfSome (held_of F.told self.old) (λ held.
-            held.packages (option_copied registry.entry, name.now) ≡ entry_of (option_map package_info o))) }
+            entry_named name.now (held.packages (package_key (option_copied registry.entry) name.now))
+            ≡ entry_of (option_map named_info o))) }
         ensures sound { IfOk result (λ o. IfSome o IsSoundPackage) }
         ensures name { IfOk result (λ o. IfSome o (λ info. info.name ≡ name.now)) }
         ensures fault { IfErr result (λ e. IsLoadFault e EntryKind.Package (F.faults (files_of self.old))
             (F.faults (files_of self.new))
-            (option_map (λ held. held.packages (option_copied registry.entry, name.now)) (held_of F.told self.old))) }
+            (option_map (λ held. entry_named name.now (held.packages (package_key (option_copied registry.entry)
+            name.now))) (held_of F.told self.old))) }
         ensures place { place_of self.new ≡ place_of self.old }
         ensures untouched { F.told (files_of self.new) ≡ F.told (files_of self.old) }
     {
@@ -230,14 +426,14 @@ impl<F: Files + Drop> RegistryFiles<F> {
         let Some(bytes) = self.read(alloc, &path)? else {
             return Ok(None);
         };
+        // Of two packages whose logs have one id, the file has the one that was kept last.
         match read_package(alloc, &bytes)? {
             Some(info) if info.name == *name => Ok(Some(info)),
             _ => Err(StoreError::Damaged(EntryKind::Package)),
         }
     }
 
-    /// Keeps the log of a package in a registry. A refusal leaves the old entry, the new one, or what can't be read.
-    pub fn store_package(
+    fn store_package(
         &mut self,
         alloc: Global,
         registry: Option<&RegistryDomain>,
@@ -245,21 +441,22 @@ impl<F: Files + Drop> RegistryFiles<F> {
     ) -> Result<(), StoreError>
         requires { IsSoundPackage info.now }
         ensures never_falls { F.faults (files_of self.old) ≤ F.faults (files_of self.new) }
-        ensures stored { OnOk result (IfSome (held_of F.told self.old) (λ _. IfSome (held_of F.told self.new) (λ now.
-            now.packages (option_copied registry.entry, info.now.name) ≡ Whole (package_info info.now)))) }
-        ensures refused { OnErr result (IfSome (held_of F.told self.old) (λ old.
-            IfSome (held_of F.told self.new) (λ now.
-            IsLeft (old.packages (option_copied registry.entry, info.now.name)) (package_info info.now)
-            (now.packages (option_copied registry.entry, info.now.name))))) }
+        ensures stored { OnOk result (IfSome (held_of F.told self.old) (λ held. Tells (held_of F.told self.new)
+            (with_package held (package_key (option_copied registry.entry) info.now.name)
+            (Whole (named_info info.now))))) }
+        ensures refused { OnErr result (IfSome (held_of F.told self.old) (λ held. LeavesStore (held_of F.told self.new)
+            held (with_package held (package_key (option_copied registry.entry) info.now.name))
+            (named_info info.now))) }
         ensures fault { IfErr result (λ e.
             IsStoreFault e (F.faults (files_of self.old)) (F.faults (files_of self.new))) }
         ensures place { place_of self.new ≡ place_of self.old }
         ensures written { OnOk result (IfSome (F.told (files_of self.old)) (λ files. F.told (files_of self.new)
-            ≡ Some (with_file files (package_path (place_of self.old) (option_copied registry.entry) info.now.name)
+            ≡ Some (with_file files
+            (package_path (place_of self.old) (package_key (option_copied registry.entry) info.now.name))
             (package_text info.now.name (package_info info.now))))) }
         ensures partly_written { OnErr result (LeavesPartlyWritten (F.told (files_of self.old))
             (F.told (files_of self.new))
-            (package_path (place_of self.old) (option_copied registry.entry) info.now.name)
+            (package_path (place_of self.old) (package_key (option_copied registry.entry) info.now.name))
             (package_text info.now.name (package_info info.now))) }
     {
         let path = self.place.package_path(alloc, registry, &info.name)?;

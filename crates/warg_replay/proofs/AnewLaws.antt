@@ -8,7 +8,7 @@ use Rattle.warg_plan.specs.Walk.{Entry, nothing_known}
 use Rattle.warg_plan.specs.declared.plan.Plan.{Plan}
 use Rattle.warg_store.specs.Contents.{Contents, SameContents}
 use Rattle.warg_store.specs.Entry.{Absent, Whole}
-use Rattle.warg_store.specs.Held.{Held, Info, SameHeld}
+use Rattle.warg_store.specs.Held.{Held, SameHeld}
 use Rattle.warg_store.specs.Held as held
 use Rattle.warg_assemble.specs.Parts.{exchanges_in}
 use Rattle.warg_assemble.specs.Session.{IsSession, IsPlanOf}
@@ -24,14 +24,14 @@ use Rattle.warg_client.specs.Complete.{IsValidCall}
 use Rattle.warg_client.specs.Assembled.{LeavesWhatIsAllowed, wanted, IsAssembleFault, IsPlanOfText}
 use Rattle.warg_replay.specs.Anew.{HaveNotFailed, IsAnewFault, IsAnewOver, IsAssembledAnew, IsRefusedAnew, nothing, says}
 
-absent_whole : {P : Type 0} (info : Info) → Absent ≡ Whole info → P
-absent_whole info e = cc
+absent_whole : {X P : Type 0} (x : X) → Absent ≡ Whole x → P
+absent_whole x e = cc
 
 -- by a store that holds nothing no log is known, and it is its client's own
 own_nothing : (accepts : Accepts) (now : Held) → SameHeld now held.nothing → IsOwn accepts now
 own_nothing accepts now same = record {
   operators = λ r info e. absent_whole info (sym (same.operators r) ∙ e);
-  packages = λ p info e. absent_whole info (sym (same.packages p) ∙ e);
+  packages = λ p kept e. absent_whole kept (sym (same.packages p) ∙ e);
 }
 
 -- by stores that hold nothing, nothing is known

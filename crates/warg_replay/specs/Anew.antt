@@ -24,7 +24,7 @@ use Rattle.warg_store.specs.declared.memory_registry.MemoryRegistry.{MemoryRegis
 use Rattle.warg_assemble.specs.Known.{Known}
 use Rattle.warg_assemble.specs.Parts.{Part, exchanges_in}
 use Rattle.warg_assemble.specs.Session.{AreOnce, IsSession, IsPlanOf}
-use Rattle.warg_client.specs.Seen.{Faults, Seen, IsKnown, ReadsStores}
+use Rattle.warg_client.specs.Seen.{Faults, Seen, IsKnown, ReadsStores, tells}
 use Rattle.warg_compose.specs.Linked.{IsPlanLinked}
 use Rattle.warg_compose.specs.Open.{IsAllowed}
 use Rattle.warg_compose.specs.Read.{IsComponent}
@@ -34,7 +34,7 @@ use Rattle.warg_client.specs.ClientError.{ClientError}
 use Rattle.warg_client.specs.ClientError.TheVariants as error
 use Rattle.warg_client.specs.Assembled.{IsAssembleFault, wanted}
 use Rattle.warg_client.specs.Complete.{IsValidCall}
-use Rattle.warg_client.specs.Shown.{seen_by, tells}
+use Rattle.warg_client.specs.Shown.{seen_by}
 use Rattle.warg_client.specs.declared.client.Client.{Client}
 
 -- a signature is accepted where it is listed, with its key and the digest of what was signed

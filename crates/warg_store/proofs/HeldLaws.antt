@@ -7,7 +7,7 @@ use Rattle.warg_store.specs.Faults.{has_store_failed}
 use Rattle.warg_store.specs.declared.after.After.{After}
 use Rattle.warg_store.specs.declared.after.After.TheVariants as after
 use Rattle.warg_store.specs.Entry.{Entry, SameEntries, entry_of}
-use Rattle.warg_store.specs.Held.{Held, Info, Registry, Package, is_registry, is_package, with_checkpoint, with_operator, with_package}
+use Rattle.warg_store.specs.Held.{Held, Info, NamedInfo, Registry, Package, is_registry, is_package, with_checkpoint, with_operator, with_package}
 use Rattle.warg_store.specs.Memory.{IsAfterStore}
 use Rattle.warg_store.specs.Slots.{AreAfterStore}
 
@@ -40,7 +40,7 @@ after_operator (Some after.New) held now k info c p put = record { checkpoints =
 after_operator (Some after.Unreadable) held now k info c p put = record { checkpoints = c; operators = put; packages = p }
 
 -- the logs of packages alone changed
-pub after_package : (failing : Option After) (held now : Held) (k : Package) (info : Info) → SameEntries now.checkpoints held.checkpoints → SameEntries now.operators held.operators → AreAfterStore is_package failing held.packages k info now.packages → IsAfterStore failing held (with_package held k) info now
+pub after_package : (failing : Option After) (held now : Held) (k : Package) (info : NamedInfo) → SameEntries now.checkpoints held.checkpoints → SameEntries now.operators held.operators → AreAfterStore is_package failing held.packages k info now.packages → IsAfterStore failing held (with_package held k) info now
 after_package None held now k info c o put = record { checkpoints = c; operators = o; packages = put }
 after_package (Some after.Old) held now k info c o put = record { checkpoints = c; operators = o; packages = put }
 after_package (Some after.New) held now k info c o put = record { checkpoints = c; operators = o; packages = put }

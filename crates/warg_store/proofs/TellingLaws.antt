@@ -3,8 +3,8 @@ use Rattle.std.proofs.Common.{◌≡◌, ◌&&◌, Bool, true, cond, Option, Som
 use Rattle.std.specs.Prelude.{bytes_eq}
 use Rattle.std.specs.Cmp.Lexicographic.{nat_list_eq_equiv}
 use Rattle.warg_exchange.specs.declared.checkpoint.SignedCheckpoint.{SignedCheckpoint}
-use Rattle.warg_store.specs.Entry.{Entry, Absent, SameEntries, with_entry, without_entries}
-use Rattle.warg_store.specs.Held.{Held, Info, Registry, Package, SameHeld, Tells, is_registry, is_package, is_reset, with_checkpoint, with_operator, with_package, after_reset}
+use Rattle.warg_store.specs.Entry.{Entry, Absent, Whole, Unreadable, SameEntries, with_entry, without_entries}
+use Rattle.warg_store.specs.Held.{Held, Info, NamedInfo, Registry, Package, SameHeld, Tells, is_registry, is_package, is_reset, with_checkpoint, with_operator, with_package, after_reset, entry_named}
 
 module _ {K X : Type 0} where
   -- one after the other
@@ -39,7 +39,7 @@ pub same_operator : (held other : Held) (r : Registry) (entry : Entry Info) → 
 same_operator held other r entry h =
     record { checkpoints = h.checkpoints; operators = same_with is_registry _ _ r entry h.operators; packages = h.packages }
 
-pub same_package : (held other : Held) (p : Package) (entry : Entry Info) → SameHeld held other → SameHeld (with_package held p entry) (with_package other p entry)
+pub same_package : (held other : Held) (p : Package) (entry : Entry NamedInfo) → SameHeld held other → SameHeld (with_package held p entry) (with_package other p entry)
 same_package held other p entry h =
     record { checkpoints = h.checkpoints; operators = h.operators; packages = same_with is_package _ _ p entry h.packages }
 
@@ -65,5 +65,8 @@ checkpoint_stands held r entry = stands is_registry held.checkpoints r entry (ow
 pub operator_stands : (held : Held) (r : Registry) (entry : Entry Info) → (with_operator held r entry).operators r ≡ entry
 operator_stands held r entry = stands is_registry held.operators r entry (own_registry r)
 
-pub package_stands : (held : Held) (p : Package) (entry : Entry Info) → (with_package held p entry).packages p ≡ entry
+pub package_stands : (held : Held) (p : Package) (entry : Entry NamedInfo) → (with_package held p entry).packages p ≡ entry
 package_stands held p entry = stands is_package held.packages p entry (own_package p)
+
+pub named_stands : (kept : NamedInfo) → entry_named kept.name (Whole kept) ≡ Whole kept
+named_stands kept = ap (λ (b : Bool). cond b (Whole kept) Unreadable) (nat_list_eq_equiv.refl kept.name)

@@ -1,8 +1,9 @@
 -- What is held of registries.
-use Rattle.std.specs.Prelude.{◌≡◌, ◌⊎◌, ◌||◌, ◌&&◌, not, ℕ, Bool, List, bytes_eq, Option, Some, is_some}
+use Rattle.std.specs.Prelude.{◌≡◌, ◌⊎◌, ◌||◌, ◌&&◌, not, ℕ, Bool, if◌then◌else◌, List, bytes_eq, Option, Some, is_some}
 use Rattle.std.specs.Option.{option_eq}
 use Rattle.warg_exchange.specs.declared.checkpoint.Checkpoint.{Checkpoint}
 use Rattle.warg_exchange.specs.declared.checkpoint.SignedCheckpoint.{SignedCheckpoint}
+use Rattle.warg_hash.specs.Hash.{package_log_id}
 use Rattle.warg_info.specs.declared.operator.OperatorInfo.{OperatorInfo}
 use Rattle.warg_info.specs.declared.package.PackageInfo.{PackageInfo}
 use Rattle.warg_info.specs.Info.{operator_log, package_log}
@@ -15,9 +16,13 @@ use Rattle.warg_store.specs.Entry.{Entry, Absent, Whole, Unreadable, SameEntries
 abbrev pub Registry : Type 0
 Registry = Option (List ℕ)
 
--- a registry, and the name of a package
+-- a registry, and the id of the log of a package
 abbrev pub Package : Type 0
 Package = Registry × List ℕ
+
+-- the key of the package of a name
+abbrev pub package_key : Registry → List ℕ → Package
+package_key r name = (r, package_log_id name)
 
 abbrev pub is_registry : Registry → Registry → Bool
 is_registry r s = option_eq bytes_eq r s
@@ -39,12 +44,26 @@ operator_info info = record { registry = info.registry; checkpoint = info.checkp
 abbrev pub package_info : PackageInfo → Info
 package_info info = record { registry = info.registry; checkpoint = info.checkpoint; log = package_log info }
 
+-- what is kept of a package: its name, and what is kept of its log
+pub record NamedInfo : Type 0 where
+  pub name : List ℕ
+  pub info : Info
+
+abbrev pub named_info : PackageInfo → NamedInfo
+named_info info = record { name = info.name; info = package_info info }
+
+-- an entry as it stands for the package of a name: what has another name can't be read
+abbrev pub entry_named : List ℕ → Entry NamedInfo → Entry NamedInfo
+entry_named name Absent = Absent
+entry_named name (Whole found) = if bytes_eq found.name name then Whole found else Unreadable
+entry_named name Unreadable = Unreadable
+
 -- ---- what is held
 
 pub record Held : Type 0 where
   pub checkpoints : Registry → Entry SignedCheckpoint
   pub operators : Registry → Entry Info
-  pub packages : Package → Entry Info
+  pub packages : Package → Entry NamedInfo
 
 abbrev pub nothing : Held
 nothing = record { checkpoints = λ _. Absent; operators = λ _. Absent; packages = λ _. Absent }
@@ -61,7 +80,7 @@ with_checkpoint held r entry = record held { checkpoints = with_entry is_registr
 abbrev pub with_operator : Held → Registry → Entry Info → Held
 with_operator held r entry = record held { operators = with_entry is_registry held.operators r entry }
 
-abbrev pub with_package : Held → Package → Entry Info → Held
+abbrev pub with_package : Held → Package → Entry NamedInfo → Held
 with_package held p entry = record held { packages = with_entry is_package held.packages p entry }
 
 -- ---- resets

@@ -5,7 +5,7 @@ use Rattle.warg_store.specs.declared.after.After.TheVariants as after
 use Rattle.warg_store.specs.declared.memory_registry.MemoryRegistry.{MemoryRegistry}
 use Rattle.warg_store.specs.Entry.{Entry, Whole, Unreadable}
 use Rattle.warg_store.specs.Faults.{Schedule}
-use Rattle.warg_store.specs.Held.{Held, SameHeld, after_reset, is_registry, is_package, operator_info, package_info}
+use Rattle.warg_store.specs.Held.{Held, SameHeld, after_reset, is_registry, is_package, operator_info, named_info}
 use Rattle.warg_store.specs.Schedules.{schedule_of}
 use Rattle.warg_store.specs.Slots.{entries_in}
 
@@ -13,7 +13,7 @@ abbrev pub held_in : MemoryRegistry → Held
 held_in store = record {
   checkpoints = entries_in is_registry (λ c. c) store.checkpoints;
   operators = entries_in is_registry operator_info store.operators;
-  packages = entries_in is_package package_info store.packages;
+  packages = entries_in is_package named_info store.packages;
 }
 
 abbrev pub schedule_in : MemoryRegistry → Schedule

@@ -4,7 +4,7 @@ ghost use Rattle.std.specs.Prelude.{◌≡◌, ◌≤◌, ◌++◌, ◌∷◌, �
 ghost use Rattle.warg_info.specs.Info.{IsSoundOperator, IsSoundPackage};
 ghost use Rattle.warg_store.specs.Entry.{Whole, entry_of, IsLoadFault, IsStoreFault};
 ghost use Rattle.warg_store.specs.Faults.{planned, after_call, has_store_failed};
-ghost use Rattle.warg_store.specs.Held.{Tells, SameHeld, nothing, LeavesStore, LeavesReset, after_reset, is_package, operator_info, package_info, with_checkpoint, with_operator, with_package};
+ghost use Rattle.warg_store.specs.Held.{Tells, SameHeld, nothing, LeavesStore, LeavesReset, after_reset, entry_named, is_package, named_info, operator_info, package_key, with_checkpoint, with_operator, with_package};
 ghost use Rattle.warg_store.specs.Slots.{entries_in};
 ghost use Rattle.warg_store.specs.Memory.{held_in, schedule_in, IsAfterStore, IsAfterReset};
 
@@ -17,7 +17,7 @@ use crate::slots::SlotMap;
 use crate::sound::Sound;
 use std::alloc::Global;
 use warg_exchange::SignedCheckpoint;
-use warg_hash::PackageName;
+use warg_hash::{LogId, PackageName};
 use warg_info::{OperatorInfo, PackageInfo};
 use warg_url::RegistryDomain;
 use warg_values::Memory;
@@ -27,7 +27,7 @@ use warg_values::Memory;
 pub struct MemoryRegistry {
     checkpoints: SlotMap<Option<RegistryDomain>, SignedCheckpoint>,
     operators: SlotMap<Option<RegistryDomain>, OperatorInfo>,
-    packages: SlotMap<(Option<RegistryDomain>, PackageName), PackageInfo>,
+    packages: SlotMap<(Option<RegistryDomain>, LogId), PackageInfo>,
     schedule: StoreSchedule,
 }
 
@@ -44,37 +44,37 @@ fn key_of(
     }
 }
 
-/// A registry's name and a package's as a key.
-fn package_key(
+/// A registry's name and the id of a package's log as a key.
+fn log_key(
     alloc: Global,
     registry: Option<&RegistryDomain>,
     name: &PackageName,
-) -> Result<(Option<RegistryDomain>, PackageName), Memory>
-    ensures { IfOk result (λ key. key ≡ (option_copied registry.entry, name.now)) }
+) -> Result<(Option<RegistryDomain>, LogId), Memory>
+    ensures { IfOk result (λ key. key ≡ package_key (option_copied registry.entry) name.now) }
 {
-    Ok((key_of(alloc, registry)?, name.try_clone(alloc)?))
+    Ok((key_of(alloc, registry)?, LogId::package_log(name)))
 }
 
-/// A copy of the log of a package, under its name.
+/// A copy of the log of a package, where the one under its key has its name.
 fn load_named(
     alloc: Global,
-    packages: &SlotMap<(Option<RegistryDomain>, PackageName), PackageInfo>,
-    key: &(Option<RegistryDomain>, PackageName),
+    packages: &SlotMap<(Option<RegistryDomain>, LogId), PackageInfo>,
+    key: &(Option<RegistryDomain>, LogId),
     name: &PackageName,
 ) -> Result<Option<PackageInfo>, StoreError>
-    ensures found { IfOk result (λ o. entries_in is_package package_info packages.now key.now
-        ≡ entry_of (option_map package_info o)) }
+    ensures found { IfOk result (λ o. entry_named name.now (entries_in is_package named_info packages.now key.now)
+        ≡ entry_of (option_map named_info o)) }
     ensures sound { IfOk result (λ o. IfSome o IsSoundPackage) }
     ensures name { IfOk result (λ o. IfSome o (λ info. info.name ≡ name.now)) }
     ensures fault { (before after : ℕ) → IfErr result (λ e. IsLoadFault e EntryKind.Package before after
-        (Some (entries_in is_package package_info packages.now key.now))) }
+        (Some (entry_named name.now (entries_in is_package named_info packages.now key.now)))) }
     ensures no_failure { has_store_failed result ≡ false }
 {
-    let Some(info) = packages.load(alloc, EntryKind::Package, key)? else {
-        return Ok(None);
-    };
-    let name = name.try_clone(alloc)?;
-    Ok(Some(PackageInfo { name, ..info }))
+    match packages.load(alloc, EntryKind::Package, key)? {
+        None => Ok(None),
+        Some(info) if info.name == *name => Ok(Some(info)),
+        Some(_) => Err(StoreError::Damaged(EntryKind::Package)),
+    }
 }
 
 impl MemoryRegistry {
@@ -171,12 +171,12 @@ impl MemoryRegistry {
     ) -> Result<(), Memory>
         requires { IsSoundPackage info.now }
         ensures put { OnOk result (IsAfterStore failing (held_in self.old)
-            (with_package (held_in self.old) (option_copied registry.entry, info.now.name)) (package_info info.now)
-            (held_in self.new)) }
+            (with_package (held_in self.old) (package_key (option_copied registry.entry) info.now.name))
+            (named_info info.now) (held_in self.new)) }
         ensures unchanged { OnErr result (SameHeld (held_in self.new) (held_in self.old)) }
         ensures schedule { schedule_in self.new ≡ schedule_in self.old }
     {
-        let key = package_key(alloc, registry, &info.name)?;
+        let key = log_key(alloc, registry, &info.name)?;
         let info = Sound::copy_of(alloc, info)?;
         self.packages.put(key, info, failing)
     }
@@ -302,20 +302,21 @@ impl RegistryStorage for MemoryRegistry {
     ) -> Result<Option<PackageInfo>, StoreError>
         ensures never_falls { (schedule_in self.old).faults ≤ (schedule_in self.new).faults }
         ensures kept { Tells (Some (held_in self.new)) (held_in self.old) }
-        ensures found { IfOk result (λ o. (held_in self.old).packages (option_copied registry.entry, name.now)
-            ≡ entry_of (option_map package_info o)) }
+        ensures found { IfOk result (λ o.
+            entry_named name.now ((held_in self.old).packages (package_key (option_copied registry.entry) name.now))
+            ≡ entry_of (option_map named_info o)) }
         ensures sound { IfOk result (λ o. IfSome o IsSoundPackage) }
         ensures name { IfOk result (λ o. IfSome o (λ info. info.name ≡ name.now)) }
         ensures fault { IfErr result (λ e. IsLoadFault e EntryKind.Package (schedule_in self.old).faults
-            (schedule_in self.new).faults
-            (Some ((held_in self.old).packages (option_copied registry.entry, name.now)))) }
+            (schedule_in self.new).faults (Some (entry_named name.now
+            ((held_in self.old).packages (package_key (option_copied registry.entry) name.now))))) }
         ensures failed { IsErrOf result StoreError.Failed ↔ IsSome (planned (schedule_in self.old)) }
         ensures scheduled { schedule_in self.new ≡ after_call (schedule_in self.old) (has_store_failed result) }
     {
         if self.schedule.fails_now() {
             return Err(StoreError::Failed);
         }
-        let key = package_key(alloc, registry, name)?;
+        let key = log_key(alloc, registry, name)?;
         load_named(alloc, &self.packages, &key, name)
     }
 
@@ -328,14 +329,15 @@ impl RegistryStorage for MemoryRegistry {
         requires { IsSoundPackage info.now }
         ensures never_falls { (schedule_in self.old).faults ≤ (schedule_in self.new).faults }
         ensures stored { OnOk result (Tells (Some (held_in self.new)) (with_package (held_in self.old)
-            (option_copied registry.entry, info.now.name) (Whole (package_info info.now)))) }
+            (package_key (option_copied registry.entry) info.now.name) (Whole (named_info info.now)))) }
         ensures refused { OnErr result (LeavesStore (Some (held_in self.new)) (held_in self.old)
-            (with_package (held_in self.old) (option_copied registry.entry, info.now.name)) (package_info info.now)) }
+            (with_package (held_in self.old) (package_key (option_copied registry.entry) info.now.name))
+            (named_info info.now)) }
         ensures fault { IfErr result (λ e. IsStoreFault e (schedule_in self.old).faults (schedule_in self.new).faults) }
         ensures left { IsErrOf result StoreError.Failed → IsSomeAnd (planned (schedule_in self.old)) (λ after.
             IsAfterStore (Some after) (held_in self.old)
-            (with_package (held_in self.old) (option_copied registry.entry, info.now.name)) (package_info info.now)
-            (held_in self.new)) }
+            (with_package (held_in self.old) (package_key (option_copied registry.entry) info.now.name))
+            (named_info info.now) (held_in self.new)) }
         ensures unchanged { IsErrOf result StoreError.Memory → SameHeld (held_in self.new) (held_in self.old) }
         ensures unplanned { OnOk result (planned (schedule_in self.old) ≡ None) }
         ensures scheduled { schedule_in self.new ≡ after_call (schedule_in self.old) (has_store_failed result) }

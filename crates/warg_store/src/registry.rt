@@ -3,7 +3,7 @@
 ghost use Rattle.std.specs.Prelude.{◌≡◌, ◌≤◌, ℕ, Option, IfOk, IfErr, IfSome, OnOk, OnErr, option_copied, option_map};
 ghost use Rattle.warg_info.specs.Info.{IsSoundOperator, IsSoundPackage};
 ghost use Rattle.warg_store.specs.Entry.{Whole, entry_of, IsLoadFault, IsStoreFault};
-ghost use Rattle.warg_store.specs.Held.{Held, Tells, LeavesStore, LeavesReset, after_reset, operator_info, package_info, with_checkpoint, with_operator, with_package};
+ghost use Rattle.warg_store.specs.Held.{Held, Tells, LeavesStore, LeavesReset, after_reset, entry_named, named_info, operator_info, package_key, with_checkpoint, with_operator, with_package};
 
 use crate::error::{EntryKind, StoreError};
 use std::alloc::Global;
@@ -88,7 +88,8 @@ pub trait RegistryStorage: Drop {
             (with_operator held (option_copied registry.entry)) (operator_info info.now))) }
         ensures fault { IfErr result (λ e. IsStoreFault e (faults self.old) (faults self.new)) };
 
-    /// What is kept of the log of a package in a registry. It is sound, and has the package's name.
+    /// What is kept of the log of a package in a registry. It is sound, and has the package's name: where a package
+    /// of another name is kept under the id of this one's log, the entry can't be read.
     fn load_package(
         &mut self,
         alloc: Global,
@@ -98,13 +99,16 @@ pub trait RegistryStorage: Drop {
         ensures never_falls { faults self.old ≤ faults self.new }
         ensures kept { IfSome (told self.old) (Tells (told self.new)) }
         ensures found { IfOk result (λ o. IfSome (told self.old) (λ held.
-            held.packages (option_copied registry.entry, name.now) ≡ entry_of (option_map package_info o))) }
+            entry_named name.now (held.packages (package_key (option_copied registry.entry) name.now))
+            ≡ entry_of (option_map named_info o))) }
         ensures sound { IfOk result (λ o. IfSome o IsSoundPackage) }
         ensures name { IfOk result (λ o. IfSome o (λ info. info.name ≡ name.now)) }
         ensures fault { IfErr result (λ e. IsLoadFault e EntryKind.Package (faults self.old) (faults self.new)
-            (option_map (λ held. held.packages (option_copied registry.entry, name.now)) (told self.old))) };
+            (option_map (λ held. entry_named name.now (held.packages (package_key (option_copied registry.entry)
+            name.now))) (told self.old))) };
 
-    /// Keeps the log of a package in a registry. A refusal leaves the old one, the new one, or what can't be read.
+    /// Keeps the log of a package in a registry, under its id. A refusal leaves the old one, the new one, or what
+    /// can't be read.
     fn store_package(
         &mut self,
         alloc: Global,
@@ -113,9 +117,9 @@ pub trait RegistryStorage: Drop {
     ) -> Result<(), StoreError>
         requires { IsSoundPackage info.now }
         ensures never_falls { faults self.old ≤ faults self.new }
-        ensures stored { OnOk result (IfSome (told self.old) (λ held. Tells (told self.new)
-            (with_package held (option_copied registry.entry, info.now.name) (Whole (package_info info.now))))) }
+        ensures stored { OnOk result (IfSome (told self.old) (λ held. Tells (told self.new) (with_package held
+            (package_key (option_copied registry.entry) info.now.name) (Whole (named_info info.now))))) }
         ensures refused { OnErr result (IfSome (told self.old) (λ held. LeavesStore (told self.new) held
-            (with_package held (option_copied registry.entry, info.now.name)) (package_info info.now))) }
+            (with_package held (package_key (option_copied registry.entry) info.now.name)) (named_info info.now))) }
         ensures fault { IfErr result (λ e. IsStoreFault e (faults self.old) (faults self.new)) };
 }

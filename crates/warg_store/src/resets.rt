@@ -6,7 +6,7 @@ ghost use Rattle.warg_store.specs.Slots.{entries_in};
 
 use crate::slots::SlotMap;
 use crate::sound::Stored;
-use warg_hash::PackageName;
+use warg_hash::LogId;
 use warg_url::RegistryDomain;
 
 /// Takes away the slots of the home registry, or of all registries.
@@ -18,10 +18,7 @@ pub fn reset_registries<T: Stored>(slots: &mut SlotMap<Option<RegistryDomain>, T
 }
 
 /// Takes away the slots of the packages of the home registry, or of all packages.
-pub fn reset_packages<T: Stored>(
-    slots: &mut SlotMap<(Option<RegistryDomain>, PackageName), T>,
-    all: bool,
-)
+pub fn reset_packages<T: Stored>(slots: &mut SlotMap<(Option<RegistryDomain>, LogId), T>, all: bool)
     ensures { SameEntries (entries_in is_package T.seen slots.new)
         (without_entries (λ p. is_reset all p.0) (entries_in is_package T.seen slots.old)) }
 {

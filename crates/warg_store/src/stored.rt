@@ -2,7 +2,7 @@
 
 ghost use Rattle.warg_exchange.specs.declared.checkpoint.SignedCheckpoint.{SignedCheckpoint as Signed};
 ghost use Rattle.warg_info.specs.Info.{IsSoundOperator, IsSoundPackage};
-ghost use Rattle.warg_store.specs.Held.{Info, operator_info, package_info};
+ghost use Rattle.warg_store.specs.Held.{Info, NamedInfo, named_info, operator_info};
 
 use crate::sound::Stored;
 use std::alloc::Global;
@@ -35,9 +35,9 @@ impl Stored for OperatorInfo {
 }
 
 impl Stored for PackageInfo {
-    ghost Seen = { Info };
+    ghost Seen = { NamedInfo };
 
-    ghost seen = { package_info };
+    ghost seen = { named_info };
 
     ghost IsSound = { IsSoundPackage };
 

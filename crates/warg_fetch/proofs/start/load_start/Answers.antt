@@ -1,7 +1,7 @@
 use Rattle.std.proofs.Common.{ap, ◌∙◌, inr}
 use Rattle.std.proofs.lemmas.Result.{IfOk-weaker, IfErr-weaker}
 use Rattle.warg_fetch.specs.Stored.{registry_for}
-use Rattle.warg_fetch.proofs.StoredLaws.{own_still, later_start}
+use Rattle.warg_fetch.specs.StoredLaws.{own_still, later_start}
 use Rattle.warg_fetch.proofs.start.load_start.Goals as goal
 
 pub returns-clause-good : goal.returns-clause-good

@@ -2,7 +2,7 @@ use Rattle.std.proofs.Common.{[]}
 use Rattle.std.proofs.lemmas.List.Elements.{All-nil, All-push}
 use Rattle.warg_info.specs.Info.{IsSoundPackage}
 use Rattle.warg_page.specs.Steps.{IsGood}
-use Rattle.warg_fetch.proofs.StoredLaws.{tells_then, loaded_lawful, new_is_good}
+use Rattle.warg_fetch.specs.StoredLaws.{tells_then, loaded_lawful, new_is_good}
 use Rattle.warg_fetch.proofs.start.start_of.Goals as goal
 
 pub returns-in_err-stored-clause-kept : goal.returns-in_err-stored-clause-kept

@@ -3,7 +3,7 @@ use Rattle.std.proofs.lemmas.Result.{err_from_is_err_and}
 use Rattle.warg_api.specs.Asking.{asker}
 use Rattle.warg_fetch.specs.Fetched.{writes_in}
 use Rattle.warg_fetch.proofs.KeptLaws.{known_kept, own_kept, readable_kept, stored_front, unfetched_cause, unfetched_leaves, unkept_cause, unkept_leaves}
-use Rattle.warg_fetch.proofs.StoredLaws.{own_still}
+use Rattle.warg_fetch.specs.StoredLaws.{own_still}
 use Rattle.warg_fetch.proofs.package.Fetcher.fetch_package.Goals as goal
 
 pub returns-in_err-update-clause-held : goal.returns-in_err-update-clause-held
