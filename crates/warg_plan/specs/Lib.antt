@@ -7,6 +7,7 @@ pub mod FormLaws
 pub mod FormView
 pub mod Found
 pub mod GoesOnLaws
+pub mod ImportLaws
 pub mod KeyLaws
 pub mod Keys
 pub mod Known

@@ -14,6 +14,7 @@ mod stop;
 mod text;
 mod walk;
 
+pub use choice::chosen;
 pub use facts::{Content, Facts};
 pub use key::PlanKey;
 pub use node::{Node, Question, Wire, node_of};

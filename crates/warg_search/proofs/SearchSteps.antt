@@ -1,5 +1,6 @@
 -- How a search goes on, and how it ends.
 use Rattle.std.proofs.Common.{◌≡◌, ℕ, List, [], ◌∷◌, ◌++◌, Option, Some, IfSome, Result, Ok, Err, refl, sym, ap, subst, ◌∙◌, inl, inr}
+use Rattle.std.specs.Prelude.{fold}
 use Rattle.warg_hash.specs.declared.hash.AnyHash.{AnyHash}
 use Rattle.warg_hash.specs.declared.name.PackageName.{PackageName}
 use Rattle.warg_plan.specs.CauseLaws.{asked_unknown}
@@ -12,7 +13,6 @@ use Rattle.warg_plan.specs.Walk.{Content, Facts, NeedsContent, NeedsLog, Stop, E
 use Rattle.warg_plan.specs.View.{stop_view}
 use Rattle.warg_plan.specs.declared.stop.Stop.{Stop as Stopped}
 use Rattle.warg_plan.specs.declared.stop.Stop.TheVariants as stopped
-use Rattle.warg_assemble.specs.Parts.{Load, Loaded, Part, Update, Updated, learnt, learnt_by, releases_in}
 use Rattle.warg_assemble.specs.Session.{Wanted, walked}
 use Rattle.warg_search.specs.Search.{AreLearnt, AsksFor, IsUnderWay, HasLearnt, Finds, IsSearchRefusal}
 use Rattle.warg_search.specs.SearchLaws.{learnt_more, learns_by}
@@ -33,63 +33,59 @@ told_by (stopped.NoSuchImport key name) memory log content = (_, refl, λ asks. 
 told_by (stopped.Cycle key) memory log content = (_, refl, λ asks. asks)
 told_by stopped.TooDeep memory log content = (_, refl, λ asks. asks)
 
-module _ {T : Type 0} (Learns : T → Stop → Part → T → Type 0) (old new : T) (f g : Facts) where
-  -- a log that is learnt by an update is known from then on
-  pub log_step : (name : List ℕ) (log : List Release) (u : Update) → u.name ≡ name → releases_in u.log ≡ log → Learns old (NeedsLog name) (Updated u) new → g ≡ with_log f name log → IsStep Learns (NeedsLog name) old new f g
-  log_step name log u named releases learns added = record {
-    part = Updated u;
+module _ {T P : Type 0} (teaches : Facts → P → Facts) (Learns : T → Stop → P → T → Type 0) (old new : T) (f g : Facts) where
+  -- a log that is learnt by a lesson is known from then on
+  pub log_step : (name : List ℕ) (log : List Release) (lesson : P) → ((facts : Facts) → teaches facts lesson ≡ with_log facts name log) → Learns old (NeedsLog name) lesson new → g ≡ with_log f name log → IsStep teaches Learns (NeedsLog name) old new f g
+  log_step name log lesson taught learns added = record {
+    part = lesson;
     learns = learns;
-    knows = added ∙ sym (ap (λ n. with_log f n (releases_in u.log)) named ∙ ap (with_log f name) releases);
+    knows = added ∙ sym (taught f);
     more = λ unknown. subst (Extends f) (sym added) (log_more f name log unknown);
   }
 
-  -- and so is a content that is loaded
-  pub content_step : (name digest : List ℕ) (c : Content) (l : Load) → l.digest ≡ digest → l.content ≡ c → Learns old (NeedsContent name digest) (Loaded l) new → g ≡ with_content f digest c
-      → IsStep Learns (NeedsContent name digest) old new f g
-  content_step name digest c l asked content learns added = record {
-    part = Loaded l;
+  -- and so is a content
+  pub content_step : (name digest : List ℕ) (c : Content) (lesson : P) → ((facts : Facts) → teaches facts lesson ≡ with_content facts digest c) → Learns old (NeedsContent name digest) lesson new → g ≡ with_content f digest c
+      → IsStep teaches Learns (NeedsContent name digest) old new f g
+  content_step name digest c lesson taught learns added = record {
+    part = lesson;
     learns = learns;
-    knows = added ∙ sym (ap (λ d. with_content f d l.content) asked ∙ ap (with_content f digest) content);
+    knows = added ∙ sym (taught f);
     more = λ unknown. subst (Extends f) (sym added) (content_more f digest c unknown);
   }
 
 some_told : {X : Type 0} (P : X → Type 0) (o : Option X) (x : X) → o ≡ Some x → IfSome o P → P x
 some_told P o x e h = subst (λ o. IfSome o P) e h
 
--- what a walk from the root of a plan says, the walk for the plan says
-pub says_from : (w : Wanted) (f : Facts) (root : Key) (stop : Stopped) → root ≡ w.root → IfSome (stop_view stop) (λ s. walk (node_of w.settings f) w.depth root ≡ Err s) → IfSome (stop_view stop) (λ s. walked w f ≡ Err s)
-says_from w f root stop is says = subst (λ k. IfSome (stop_view stop) (λ s. walk (node_of w.settings f) w.depth k ≡ Err s)) is says
-
-module _ {T : Type 0} (w : Wanted) (Learns : T → Stop → Part → T → Type 0) (old : T) where
+module _ {T P : Type 0} (teaches : Facts → P → Facts) (w : Wanted) (Learns : T → Stop → P → T → Type 0) (old : T) where
   -- the walk over what is known is the one over what was learnt
-  seen : (now : T) (f : Facts) (r : Result (List Entry) Stop) → (u : IsUnderWay w Learns old now f) → walked w f ≡ r → walked w (learnt_by nothing_known u.parts) ≡ r
+  seen : (now : T) (f : Facts) (r : Result (List Entry) Stop) → (u : IsUnderWay teaches w Learns old now f) → walked w f ≡ r → walked w (fold teaches nothing_known u.parts) ≡ r
   seen now f r u e = ap (walked w) (sym u.knows) ∙ e
 
-  pub finds_by : (now : T) (f : Facts) (es : List Entry) → IsUnderWay w Learns old now f → walked w f ≡ Ok es → Finds w Learns old now es
+  pub finds_by : (now : T) (f : Facts) (es : List Entry) → IsUnderWay teaches w Learns old now f → walked w f ≡ Ok es → Finds teaches w Learns old now es
   finds_by now f es u e = record { parts = u.parts; are = u.are; finds = seen now f (Ok es) u e }
 
   -- a part that is learnt where the walk stops is the next
-  learnt_next : (mid new : T) (f : Facts) (stop : Stop) (p : Part) → (u : IsUnderWay w Learns old mid f) → walked w f ≡ Err stop → Learns mid stop p new
-      → AreLearnt w Learns nothing_known old (u.parts ++ p ∷ []) new
+  learnt_next : (mid new : T) (f : Facts) (stop : Stop) (p : P) → (u : IsUnderWay teaches w Learns old mid f) → walked w f ≡ Err stop → Learns mid stop p new
+      → AreLearnt teaches w Learns nothing_known old (u.parts ++ p ∷ []) new
   learnt_next mid new f stop p u e learns =
-      learnt_more w Learns nothing_known old mid new u.parts p u.are (record { stop = stop; stops = seen mid f (Err stop) u e; learns = learns })
+      learnt_more teaches w Learns nothing_known old mid new u.parts p u.are (record { stop = stop; stops = seen mid f (Err stop) u e; learns = learns })
 
-  pub goes_on : (mid new : T) (f g : Facts) (stop : Stopped) → IsUnderWay w Learns old mid f → IfSome (stop_view stop) (λ s. walked w f ≡ Err s)
-      → (asked : Stop) → stop_view stop ≡ Some asked → IsStep Learns asked mid new f g → IsUnderWay w Learns old new g
+  pub goes_on : (mid new : T) (f g : Facts) (stop : Stopped) → IsUnderWay teaches w Learns old mid f → IfSome (stop_view stop) (λ s. walked w f ≡ Err s)
+      → (asked : Stop) → stop_view stop ≡ Some asked → IsStep teaches Learns asked mid new f g → IsUnderWay teaches w Learns old new g
   goes_on mid new f g stop u stops asked told step = record {
     parts = u.parts ++ step.part ∷ [];
     are = learnt_next mid new f asked step.part u (some_told (λ s. walked w f ≡ Err s) (stop_view stop) asked told stops) step.learns;
-    knows = step.knows ∙ ap (λ f. learnt f step.part) u.knows ∙ sym (learns_by w Learns nothing_known u.parts step.part);
+    knows = step.knows ∙ ap (λ f. teaches f step.part) u.knows ∙ sym (learns_by teaches w Learns nothing_known u.parts step.part);
   }
 
-  pub same_learnt : (mid new : T) (f : Facts) → new ≡ mid → IsUnderWay w Learns old mid f → HasLearnt w Learns old new
-  same_learnt mid new f same u = record { parts = u.parts; are = subst (λ t. AreLearnt w Learns nothing_known old u.parts t) (sym same) u.are }
+  pub same_learnt : (mid new : T) (f : Facts) → new ≡ mid → IsUnderWay teaches w Learns old mid f → HasLearnt teaches w Learns old new
+  same_learnt mid new f same u = record { parts = u.parts; are = subst (λ t. AreLearnt teaches w Learns nothing_known old u.parts t) (sym same) u.are }
 
-  pub refused_by : {E : Type 0} (Refuses : T → Stop → E → T → Type 0) (mid new : T) (f : Facts) (stop : Stopped) (e : SearchError E) → IsUnderWay w Learns old mid f
-      → IfSome (stop_view stop) (λ s. walked w f ≡ Err s) → IsStepFault Learns Refuses stop mid new e → IsSearchRefusal w Learns Refuses old new e
+  pub refused_by : {E : Type 0} (Refuses : T → Stop → E → T → Type 0) (mid new : T) (f : Facts) (stop : Stopped) (e : SearchError E) → IsUnderWay teaches w Learns old mid f
+      → IfSome (stop_view stop) (λ s. walked w f ≡ Err s) → IsStepFault teaches Learns Refuses stop mid new e → IsSearchRefusal teaches w Learns Refuses old new e
   refused_by Refuses mid new f stop (error.NoPlan s) u stops h = record {
     parts = u.parts;
-    are = subst (λ t. AreLearnt w Learns nothing_known old u.parts t) (sym h.4) u.are;
+    are = subst (λ t. AreLearnt teaches w Learns nothing_known old u.parts t) (sym h.4) u.are;
     told = h.0;
     says = h.1;
     final = h.2;
@@ -109,10 +105,10 @@ module _ {T : Type 0} (w : Wanted) (Learns : T → Stop → Part → T → Type 
     are = learnt_next mid new f h.0 h.2.part u (some_told (λ s. walked w f ≡ Err s) (stop_view stop) h.0 h.1 stops) h.2.learns;
   }
 
-module _ {T : Type 0} (w : Wanted) (Learns : T → Stop → Part → T → Type 0) where
+module _ {T P : Type 0} (teaches : Facts → P → Facts) (w : Wanted) (Learns : T → Stop → P → T → Type 0) where
   -- what the walk has found where it stopped is on its way still, once what it asked for is learnt
   pub walks_on : (mid new : T) (f g : Facts) (root : Key) (es : List Entry) (stop : Stopped) → IfSome (stop_view stop) (λ s. walk (node_of w.settings f) w.depth root ≡ Err s)
-      → IfSome (stop_view stop) (λ s. IsOnTheWay w.settings f w.depth root es) → (asked : Stop) → stop_view stop ≡ Some asked → IsStep Learns asked mid new f g → IsOnTheWay w.settings g w.depth root es
+      → IfSome (stop_view stop) (λ s. IsOnTheWay w.settings f w.depth root es) → (asked : Stop) → stop_view stop ≡ Some asked → IsStep teaches Learns asked mid new f g → IsOnTheWay w.settings g w.depth root es
   walks_on mid new f g root es stop stops way asked told step =
       let says = some_told (λ s. walk (node_of w.settings f) w.depth root ≡ Err s) (stop_view stop) asked told stops in
       let here = some_told (λ s. IsOnTheWay w.settings f w.depth root es) (stop_view stop) asked told way in

@@ -2,9 +2,9 @@
 #![tactic(auto)]
 
 mod error;
-mod learn;
 mod plan;
+mod way;
 
 pub use error::SearchError;
-pub use learn::Learn;
-pub use plan::search_plan;
+pub use plan::{learn, search_from, search_plan};
+pub use way::Learn;

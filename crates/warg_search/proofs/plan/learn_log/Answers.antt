@@ -5,4 +5,4 @@ use Rattle.warg_search.proofs.plan.learn_log.Goals as goal
 pub returns-in-Ok-add_log-clause-learnt : goal.returns-in-Ok-add_log-clause-learnt
 returns-in-Ok-add_log-clause-learnt g c =
     let learnt = c.in-Ok.ensures.learnt in
-    log_step g.A.Learn.Learns _ _ (facts_view c.args.facts.now) (facts_view c.add_log.new.self) c.args.name (log_view c.in-Ok.releases) learnt.0 learnt.1 learnt.2 learnt.3 c.in-Ok-add_log.ensures.added
+    log_step g.A.Learn.teaches g.A.Learn.Learns _ _ (facts_view c.args.facts.now) (facts_view c.add_log.new.self) c.args.name (log_view c.in-Ok.releases) learnt.0 learnt.1 learnt.2 c.in-Ok-add_log.ensures.added
