@@ -7,9 +7,10 @@ use Rattle.warg_api.specs.Link.{Asked}
 use Rattle.warg_api.specs.declared.error.ClientError.TheVariants as call
 use Rattle.warg_session.specs.Recording.{AreKept}
 use Rattle.warg_store.specs.Held.{Registry}
-use Rattle.warg_plan.specs.Walk.{Content, NeedsContent}
+use Rattle.warg_plan.specs.Known.{with_content}
+use Rattle.warg_plan.specs.Walk.{Content, Facts, NeedsContent}
 use Rattle.warg_assemble.specs.Known.{Known}
-use Rattle.warg_assemble.specs.Parts.{Load, Loaded, Comes, updated_under}
+use Rattle.warg_assemble.specs.Parts.{Load, Loaded, Part, Comes, learnt, updated_under}
 use Rattle.warg_fetch.specs.declared.error.LoadError.{LoadError}
 use Rattle.warg_fetch.specs.declared.error.LoadError.TheVariants as load
 use Rattle.warg_fetch.specs.Loaded.{IsContentFetched, IsLoadRefusal, LeavesFetch, with_bytes}
@@ -114,11 +115,10 @@ module _ {T D : Type 0} (Steps : T → Asked → T → Type 0) (old new : Seen T
   load_since content = record { registry = registry; digest = digest; exchanges = since old.transcript new.transcript; content = content }
 
   pub content_learnt : (Reads : Content → Type 0) (content : Content) (bytes : List ℕ) → IsTaught bytes → content.bytes ≡ bytes → new.pages_left ≡ old.pages_left → new.decider ≡ old.decider → Reads content
-      → (l : Load) × (l.digest ≡ digest) × (l.content ≡ content) × IsLearnt Steps Reads old (NeedsContent name digest) (Loaded l) new
+      → (lesson : Part) × ((facts : Facts) → learnt facts lesson ≡ with_content facts digest content) × IsLearnt Steps Reads old (NeedsContent name digest) lesson new
   content_learnt Reads content bytes taught same pages undecided reads = (
-    load_since content,
-    refl,
-    refl,
+    Loaded (load_since content),
+    λ facts. refl,
     record {
       same = taught.rest.same;
       never_falls = taught.rest.never_falls;

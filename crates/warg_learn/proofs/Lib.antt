@@ -1,3 +1,4 @@
 pub mod ContentLaws
 pub mod LogLaws
+pub mod RecalledSteps
 pub mod SeenLaws

@@ -10,9 +10,10 @@ use Rattle.warg_session.specs.Updating.{LeavesPages}
 use Rattle.warg_session.specs.declared.error.UpdateRefusal.TheVariants as update
 use Rattle.warg_info.specs.Info.{package_log}
 use Rattle.warg_plan.specs.Keys.{Release}
-use Rattle.warg_plan.specs.Walk.{Content, NeedsLog}
+use Rattle.warg_plan.specs.Known.{with_log}
+use Rattle.warg_plan.specs.Walk.{Content, Facts, NeedsLog}
 use Rattle.warg_assemble.specs.Known.{Known, registry_of}
-use Rattle.warg_assemble.specs.Parts.{Update, Updated, known_after, releases_in, IsUpdate}
+use Rattle.warg_assemble.specs.Parts.{Part, Update, Updated, known_after, learnt, releases_in, IsUpdate}
 use Rattle.warg_fetch.specs.declared.error.FetchError.{FetchError}
 use Rattle.warg_fetch.specs.declared.error.FetchError.TheVariants as fetch
 use Rattle.warg_fetch.specs.declared.package.PackageUpdate.{PackageUpdate}
@@ -71,13 +72,13 @@ module _ {T D : Type 0} (Steps : T → Asked → T → Type 0) (old new : Seen T
     pub knows : ForKnown (λ known. (xs : List Exchange) → Knows old.accepts new.registries new.names (known_after known (Updated (update_of got xs))))
 
   module _ {E : Type 0} (said : D → D → Bool → Bool) (Refuses : List ℕ → E → Type 0) where
-    cause_by : (known : Known) (e : FetchError) → IsUnfetched Steps old new known said Refuses name e → IsLearnFault Steps old new known said Refuses (NeedsLog name) (fetch_refusal e)
+    cause_by : (known : Known) (e : FetchError) → IsUnfetched Steps old new known said name e → IsLearnFault Steps old new known said Refuses (NeedsLog name) (fetch_refusal e)
     cause_by known (fetch.Store e) h = h
     cause_by known (fetch.Update e) h = h
     cause_by known fetch.Memory h = record {}
 
     -- a package is not fetched
-    pub log_unfetched : (e : FetchError) → IsUnderWay → new.updated ≡ old.updated → (e ≡ fetch.Update update.LinkFault → Rose old.faults.link new.faults.link) → ForKnown (λ known. IsUnfetched Steps old new known said Refuses name e)
+    pub log_unfetched : (e : FetchError) → IsUnderWay → new.updated ≡ old.updated → (e ≡ fetch.Update update.LinkFault → Rose old.faults.link new.faults.link) → ForKnown (λ known. IsUnfetched Steps old new known said name e)
         → ((known : Known) → (k : Knows old.accepts old.registries old.names known) → LeavesPackage old.accepts old.asker known name Steps old.transcript new.transcript new.registries k.registries.held)
         → IsUnlearnt Steps said Refuses old (NeedsLog name) (fetch_refusal e) new
     log_unfetched e way updated rose cause held = record {
@@ -130,11 +131,10 @@ module _ {T D : Type 0} (Steps : T → Asked → T → Type 0) (old new : Seen T
 
   pub log_learnt : (Reads : Content → Type 0) (got : PackageUpdate) (releases : List Release) → IsTaught got → releases_in (package_log got.info) ≡ releases → ForKnown (λ known. LeavesPages (old.asker (registry_of known name)) old.transcript new.transcript old.pages_left new.pages_left) → ForKnown (λ known. new.decider ≡ old.decider) → (IsReadable old.registries → IsReadable new.registries)
       → (key : List ℕ) → key ≡ name → ((q : List ℕ) → lookup (λ n. bytes_eq q n) new.updated ≡ cond (bytes_eq key q) (Some got.info.registry) (lookup (λ n. bytes_eq q n) old.updated))
-      → (u : Update) × (u.name ≡ name) × (releases_in u.log ≡ releases) × IsLearnt Steps Reads old (NeedsLog name) (Updated u) new
+      → (lesson : Part) × ((facts : Facts) → learnt facts lesson ≡ with_log facts name releases) × IsLearnt Steps Reads old (NeedsLog name) lesson new
   log_learnt Reads got releases taught are pages undecided reads key is_key noted = (
-    update_since got,
-    refl,
-    are,
+    Updated (update_since got),
+    λ facts. ap (with_log facts name) are,
     record {
       same = taught.way.same;
       never_falls = taught.way.never_falls;

@@ -1,5 +1,9 @@
 pub mod Learnt
+pub mod Packages
+pub mod Recalled
+pub mod RecalledLaws
 pub mod Refusals
+pub mod SearchLaws
 pub mod Seen
 pub mod Unlearnt
 pub use Rattle.warg_fetch.specs.Fetched
@@ -9,7 +13,6 @@ pub use Rattle.warg_fetch.specs.Stored
 pub use Rattle.warg_fetch.specs.declared.error.FetchError
 pub use Rattle.warg_fetch.specs.declared.error.LoadError
 pub use Rattle.warg_search.specs.Search
-pub use Rattle.warg_search.specs.SearchLaws
 pub use Rattle.warg_search.specs.declared.error.SearchError
 pub use Rattle.warg_session.specs.Pages
 pub use Rattle.warg_session.specs.Recording

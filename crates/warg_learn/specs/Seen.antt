@@ -50,6 +50,21 @@ pub record Telling (L R C N V T : Type 0) : Type 0 where
   pub content_faults : C → ℕ
   pub name_faults : N → ℕ
 
+-- the same, one after the other
+abbrev pub tells : {L R C N V T : Type 0} → (V → Accepts) → (L → T) → (L → ℕ) → (R → Option Held) → (R → ℕ)
+    → (C → Option Contents) → (C → ℕ) → (N → Option (Entry Names)) → (N → ℕ) → Telling L R C N V T
+tells good link link_faults registries registry_faults contents content_faults names name_faults = record {
+  good = good;
+  link = link;
+  registries = registries;
+  contents = contents;
+  names = names;
+  link_faults = link_faults;
+  registry_faults = registry_faults;
+  content_faults = content_faults;
+  name_faults = name_faults;
+}
+
 abbrev pub seen : {L R C N V D K T : Type 0} → Telling L R C N V T → Learner L R C N V D K → Seen T D
 seen tell l = record {
   accepts = tell.good l.verifier;

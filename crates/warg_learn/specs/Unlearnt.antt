@@ -92,17 +92,17 @@ module _ {T D : Type 0} (Steps : T → Asked → T → Type 0) (old new : Seen T
 
   -- ---- refusals
 
-  module _ {E : Type 0} (said : D → D → Bool → Bool) (Refuses : List ℕ → E → Type 0) where
-    -- why a package is not fetched
-    abbrev pub IsUnfetched : List ℕ → FetchError → Type 0
-    IsUnfetched name e =
-        IsFetchFault e
-        (λ e. IsStoresFault old.accepts old.asker known name Steps old.transcript new.transcript e
-        (registry_loads old new) (name_loads old new))
-        (λ e. IsUpdateRefusal e (package_log_id name ∷ []) old.accepts (said old.decider new.decider) old.pages_left
-        (old.asker (registry_of known name)) (start_of known (registry_of known name) name) Steps
-        old.transcript new.transcript)
+  -- why a package is not fetched, by what may be said where a decision is asked
+  abbrev pub IsUnfetched : (D → D → Bool → Bool) → List ℕ → FetchError → Type 0
+  IsUnfetched said name e =
+      IsFetchFault e
+      (λ e. IsStoresFault old.accepts old.asker known name Steps old.transcript new.transcript e
+      (registry_loads old new) (name_loads old new))
+      (λ e. IsUpdateRefusal e (package_log_id name ∷ []) old.accepts (said old.decider new.decider) old.pages_left
+      (old.asker (registry_of known name)) (start_of known (registry_of known name) name) Steps
+      old.transcript new.transcript)
 
+  module _ {E : Type 0} (said : D → D → Bool → Bool) (Refuses : List ℕ → E → Type 0) where
     -- a content came, and its bytes are not read for this reason
     pub record IsUnread (digest : List ℕ) (e : E) (registry : Registry) : Type 0 where
       pub bytes : List ℕ
@@ -113,7 +113,7 @@ module _ {T D : Type 0} (Steps : T → Asked → T → Type 0) (old new : Seen T
     -- why something is not learnt. Want of memory tells nothing
     abbrev pub IsLearnFault : Stop → LearnError E → Type 0
     IsLearnFault asked error.Memory = Unit {0}
-    IsLearnFault (NeedsLog name) (error.Fetch e) = IsUnfetched name e
+    IsLearnFault (NeedsLog name) (error.Fetch e) = IsUnfetched said name e
     IsLearnFault (NeedsContent name digest) (error.Load e) = IsUnder known name (λ registry.
         IsLoadRefusal (old.asker registry) digest Steps old.transcript new.transcript e (content_loads old new))
     IsLearnFault (NeedsContent name digest) (error.Content e) = IsUnder known name (IsUnread digest e)

@@ -1,8 +1,13 @@
-//! Who learns what a plan needs.
+//! Who learns what a plan needs: the logs of packages by updates, and contents.
 
-ghost use Rattle.std.specs.Prelude.{◌≡◌};
+ghost use Rattle.std.specs.Prelude.{◌≡◌, IfOk, IfErr};
+ghost use Rattle.warg_log.specs.Places.{release_views};
+ghost use Rattle.warg_plan.specs.Known.{with_content, with_log};
+ghost use Rattle.warg_plan.specs.View.{content_view};
+ghost use Rattle.warg_plan.specs.Walk.{Facts, NeedsContent, NeedsLog};
+ghost use Rattle.warg_assemble.specs.Parts.{Part, learnt};
 ghost use Rattle.warg_learn.specs.Learnt.{IsLearnt};
-ghost use Rattle.warg_learn.specs.Seen.{Seen, seen};
+ghost use Rattle.warg_learn.specs.Seen.{seen, tells};
 ghost use Rattle.warg_learn.specs.Unlearnt.{IsUnlearnt};
 
 use crate::error::LearnError;
@@ -17,7 +22,6 @@ use warg_hash::{AnyHash, PackageName};
 use warg_hint::{Decide, HintSettings};
 use warg_log::{Release, Verifier};
 use warg_plan::Content;
-use warg_search::Learn;
 use warg_session::{Recording, Settings};
 use warg_store::{ContentStorage, NamespaceMapStorage, RegistryStorage};
 use warg_url::RegistryDomain;
@@ -57,32 +61,24 @@ impl<
     V: Verifier,
     D: Decide,
     K: ContentReader,
-> Learn for Learner<L, R, C, N, V, D, K> {
-    type Refusal = LearnError<K::Refusal>;
-
-    ghost Told = { Seen L.Told D };
-
-    ghost told = { seen (record {
-      good = V.good;
-      link = L.told;
-      registries = R.told;
-      contents = C.told;
-      names = N.told;
-      link_faults = L.faults;
-      registry_faults = R.faults;
-      content_faults = C.faults;
-      name_faults = N.faults;
-    }) };
-
-    ghost Learns = { IsLearnt L.Steps K.Reads };
-
-    ghost Refuses = { IsUnlearnt L.Steps D.said K.Refuses };
-
-    fn learn_log(
+> Learner<L, R, C, N, V, D, K> {
+    /// The releases in the log of a package, which is updated and kept.
+    pub fn update_log(
         &mut self,
         alloc: Global,
         name: &PackageName,
-    ) -> Result<Vec<Release>, LearnError<K::Refusal>> {
+    ) -> Result<Vec<Release>, LearnError<K::Refusal>>
+        ensures learnt { IfOk result (λ releases. (part : Part)
+            × ((facts : Facts) → learnt facts part ≡ with_log facts name.now (release_views releases.items))
+            × IsLearnt L.Steps K.Reads
+            (seen (tells V.good L.told L.faults R.told R.faults C.told C.faults N.told N.faults) self.old)
+            (NeedsLog name.now) part
+            (seen (tells V.good L.told L.faults R.told R.faults C.told C.faults N.told N.faults) self.new)) }
+        ensures refused { IfErr result (λ e. IsUnlearnt L.Steps D.said K.Refuses
+            (seen (tells V.good L.told L.faults R.told R.faults C.told C.faults N.told N.faults) self.old)
+            (NeedsLog name.now) e
+            (seen (tells V.good L.told L.faults R.told R.faults C.told C.faults N.told N.faults) self.new)) }
+    {
         let key = name.try_clone(alloc)?;
         let fetcher = Fetcher {
             client: &self.client,
@@ -108,12 +104,24 @@ impl<
         Ok(releases)
     }
 
-    fn learn_content(
+    /// The content of a digest, from the store or by a download, under the registry of its package's update.
+    pub fn load_content(
         &mut self,
         alloc: Global,
         name: &PackageName,
         digest: &AnyHash,
-    ) -> Result<Content, LearnError<K::Refusal>> {
+    ) -> Result<Content, LearnError<K::Refusal>>
+        ensures learnt { IfOk result (λ content. (part : Part)
+            × ((facts : Facts) → learnt facts part ≡ with_content facts digest.now (content_view content))
+            × IsLearnt L.Steps K.Reads
+            (seen (tells V.good L.told L.faults R.told R.faults C.told C.faults N.told N.faults) self.old)
+            (NeedsContent name.now digest.now) part
+            (seen (tells V.good L.told L.faults R.told R.faults C.told C.faults N.told N.faults) self.new)) }
+        ensures refused { IfErr result (λ e. IsUnlearnt L.Steps D.said K.Refuses
+            (seen (tells V.good L.told L.faults R.told R.faults C.told C.faults N.told N.faults) self.old)
+            (NeedsContent name.now digest.now) e
+            (seen (tells V.good L.told L.faults R.told R.faults C.told C.faults N.told N.faults) self.new)) }
+    {
         let Some(registry) = self.updated.get(name) else {
             // A walk asks for the contents of a package after its log, whose registry is noted then.
             return Err(LearnError::Memory);

@@ -1,7 +1,7 @@
-use Rattle.std.proofs.Common.{refl, sym, arith}
+use Rattle.std.proofs.Common.{refl, sym}
 use Rattle.warg_plan.specs.View.{content_view}
 use Rattle.warg_learn.proofs.ContentLaws.{content_learnt, content_unread, rest_by}
-use Rattle.warg_learn.proofs.learner.LearnerLearn.learn_content.Goals as goal
+use Rattle.warg_learn.proofs.learner.Learner.load_content.Goals as goal
 
 pub returns-in-Ok-clause-learnt : goal.returns-in-Ok-clause-learnt
 returns-in-Ok-clause-learnt g c =

@@ -1,7 +1,7 @@
 use Rattle.std.proofs.Common.{Err, refl, ap, ◌∙◌}
 use Rattle.std.proofs.lemmas.Result.{err_from_is_err_and}
 use Rattle.warg_learn.proofs.LogLaws.{log_learnt, log_unfetched, log_forgotten, log_unasked, under_way}
-use Rattle.warg_learn.proofs.learner.LearnerLearn.learn_log.Goals as goal
+use Rattle.warg_learn.proofs.learner.Learner.update_log.Goals as goal
 
 pub returns-in_err-key-clause-refused : goal.returns-in_err-key-clause-refused
 returns-in_err-key-clause-refused g c =
