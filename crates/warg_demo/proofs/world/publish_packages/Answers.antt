@@ -8,8 +8,8 @@ loop-number-preserved c =
     let n = c.loop-number.number in
     let next : suc n ≡ n + 1 = omega arith in (
       c.in_ok-add_drawn.ensures.added
-      ∙ ap (with_drawn n (needs_of n c.args.pairs.now)) c.loop-number.invariant.0
-      ∙ ap (packages_drawn c.args.pairs.now c.args.draws.now.state) next,
+          ∙ ap (with_drawn n (needs_of n c.args.pairs.now)) c.loop-number.invariant.0
+          ∙ ap (packages_drawn c.args.pairs.now c.args.draws.now.state) next,
       c.in_ok-add_drawn.ensures.sound c.loop-number.invariant.1,
     )
 
