@@ -8,6 +8,8 @@ mod log;
 #[cfg(test)]
 mod names;
 #[cfg(test)]
+mod publish;
+#[cfg(test)]
 mod record;
 #[cfg(test)]
 mod values;

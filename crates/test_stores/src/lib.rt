@@ -8,4 +8,8 @@ mod contents;
 #[cfg(test)]
 mod locks;
 #[cfg(test)]
+mod publishing;
+#[cfg(test)]
+mod registries;
+#[cfg(test)]
 mod stores;

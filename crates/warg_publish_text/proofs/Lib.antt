@@ -1,0 +1,4 @@
+mod EntryLaws
+mod InfoLaws
+mod LinesLaws
+mod ReadLaws

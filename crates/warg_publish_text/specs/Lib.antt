@@ -1,0 +1,2 @@
+pub mod PublishText
+pub mod ReadsBack
