@@ -219,6 +219,8 @@ def main():
         parts.append(world.constant(f"{name}_PRINTED", "What is printed for a plan.", told))
         if name != "GREATEST":
             parts.append(world.constant(f"{name}_LINKED", "What a plan is linked into, in hex.", written(linked, False).hex()))
+        if name == "TYPES":
+            parts.append(world.constant(f"{name}_LOCK", "The lock of a plan, in hex.", written(linked, True).hex()))
     with open(os.path.join(os.path.dirname(os.path.abspath(__file__)), "src", "world.rt"), "w") as out:
         out.write("\n".join(parts))
 

@@ -59,7 +59,7 @@ module _ {T D : Type 0} (Steps : T → Asked → T → Type 0) (Reads : Content 
   Learns = IsLearnt Steps Reads
 
   -- the exchanges of the parts were kept
-  pub parts_kept : (f : Facts) (old new : Seen T D) (parts : List Part) (known : Known) → IsKnown old known → AreLearnt w Learns f old parts new → AreKept Steps old.transcript (flat_map exchanges_in parts) new.transcript
+  pub parts_kept : (f : Facts) (old new : Seen T D) (parts : List Part) (known : Known) → IsKnown old known → AreLearnt learnt w Learns f old parts new → AreKept Steps old.transcript (flat_map exchanges_in parts) new.transcript
   unfolding AreLearnt
   parts_kept f old new [] known knows are = subst (λ (t : Seen T D). AreKept Steps old.transcript [] t.transcript) (sym are) (none_kept Steps old.transcript)
   parts_kept f old new (p ∷ ps) known knows are =
@@ -67,24 +67,24 @@ module _ {T D : Type 0} (Steps : T → Asked → T → Type 0) (Reads : Content 
       both_kept Steps old.transcript are.0.transcript new.transcript (exchanges_in p) (flat_map exchanges_in ps) right.kept (parts_kept (learnt f p) are.0 new ps (known_after known p) right.knows are.2)
 
   -- by which signatures a learner goes is as it was
-  pub parts_same : (f : Facts) (old new : Seen T D) (parts : List Part) → AreLearnt w Learns f old parts new → new.accepts ≡ old.accepts
+  pub parts_same : (f : Facts) (old new : Seen T D) (parts : List Part) → AreLearnt learnt w Learns f old parts new → new.accepts ≡ old.accepts
   unfolding AreLearnt
   parts_same f old new [] are = ap (λ (t : Seen T D). t.accepts) are
   parts_same f old new (p ∷ ps) are = parts_same (learnt f p) are.0 new ps are.2 ∙ are.1.learns.same.accepts
 
   -- what the parts teach is known
-  pub parts_known : (f : Facts) (old new : Seen T D) (parts : List Part) (known : Known) → IsKnown old known → AreLearnt w Learns f old parts new → IsKnown new (known_by known parts)
+  pub parts_known : (f : Facts) (old new : Seen T D) (parts : List Part) (known : Known) → IsKnown old known → AreLearnt learnt w Learns f old parts new → IsKnown new (known_by known parts)
   unfolding AreLearnt
   parts_known f old new [] known knows are = subst (λ t. IsKnown t known) (sym are) knows
   parts_known f old new (p ∷ ps) known knows are = parts_known (learnt f p) are.0 new ps (known_after known p) (are.1.learns.right known knows).knows are.2
 
   -- the store of registries is its client's own
-  pub parts_own : (f : Facts) (old new : Seen T D) (parts : List Part) (known : Known) → IsKnown old known → AreLearnt w Learns f old parts new → IsOwnStore old.accepts new.registries
+  pub parts_own : (f : Facts) (old new : Seen T D) (parts : List Part) (known : Known) → IsKnown old known → AreLearnt learnt w Learns f old parts new → IsOwnStore old.accepts new.registries
   parts_own f old new parts known knows are = subst (λ accepts. IsOwnStore accepts new.registries) (parts_same f old new parts are) (parts_known f old new parts known knows are).stores.own
 
   -- so it is where the search ends without a plan
   pub refused_own : {E : Type 0} (said : D → D → Bool → Bool) (Refuses : List ℕ → E → Type 0) (old new : Seen T D) (e : SearchError (LearnError E)) (known : Known) → IsKnown old known
-      → IsSearchRefusal w Learns (IsUnlearnt Steps said Refuses) old new e → IsOwnStore old.accepts new.registries
+      → IsSearchRefusal learnt w Learns (IsUnlearnt Steps said Refuses) old new e → IsOwnStore old.accepts new.registries
   refused_own said Refuses old new (search.NoPlan stop) known knows h = parts_own nothing_known old new h.parts known knows h.are
   refused_own said Refuses old new (search.Refused e) known knows h =
       subst (λ accepts. IsOwnStore accepts new.registries) (parts_same nothing_known old h.before h.parts h.are)
@@ -124,7 +124,7 @@ module _ {T D : Type 0} (Steps : T → Asked → T → Type 0) (s : Settings) (a
 
 module _ {T D : Type 0} (Steps : T → Asked → T → Type 0) where
   -- what a search finds is the plan of a text's settings
-  pub found_is_planned : (s : Settings) (old new : Seen T D) (es : List Entry) (known : Known) → IsKnown old known → Finds (wanted s) (IsLearnt Steps IsComponent) old new es → IsPlanned Steps old new known s es
+  pub found_is_planned : (s : Settings) (old new : Seen T D) (es : List Entry) (known : Known) → IsKnown old known → Finds learnt (wanted s) (IsLearnt Steps IsComponent) old new es → IsPlanned Steps old new known s es
   found_is_planned s old new es known knows found =
       let start : IsAt Steps s old.accepts old.asker old known = record { knows = knows; accepts_are = refl; asker_is = refl } in
       let is = search_finds (wanted s) (IsLearnt Steps IsComponent) (IsAt Steps s old.accepts old.asker) old.accepts old.asker IsComponent (is_right Steps s old.accepts old.asker) known old new es start found in
@@ -138,11 +138,11 @@ module _ {T D : Type 0} (Steps : T → Asked → T → Type 0) where
         knows = parts_known Steps IsComponent (wanted s) nothing_known old new found.parts known knows found.are;
       }
 
-  pub is_plan_of_text : (s : Settings) (old new : Seen T D) (text : List ℕ) (es : List Entry) → IsPlanText text s → Finds (wanted s) (IsLearnt Steps IsComponent) old new es → IsPlanOfText Steps old new text es
+  pub is_plan_of_text : (s : Settings) (old new : Seen T D) (text : List ℕ) (es : List Entry) → IsPlanText text s → Finds learnt (wanted s) (IsLearnt Steps IsComponent) old new es → IsPlanOfText Steps old new text es
   is_plan_of_text s old new text es reads found = record { settings = s; reads = reads; planned = λ known knows. found_is_planned s old new es known knows found }
 
   -- whether a plan is found or not, the store of registries is its client's own
-  pub found_own : (s : Settings) (old new : Seen T D) (es : List Entry) (known : Known) → IsKnown old known → Finds (wanted s) (IsLearnt Steps IsComponent) old new es → IsOwnStore old.accepts new.registries
+  pub found_own : (s : Settings) (old new : Seen T D) (es : List Entry) (known : Known) → IsKnown old known → Finds learnt (wanted s) (IsLearnt Steps IsComponent) old new es → IsOwnStore old.accepts new.registries
   found_own s old new es known knows found = parts_own Steps IsComponent (wanted s) nothing_known old new found.parts known knows found.are
 
   pub search_own : (said : D → D → Bool → Bool) (s : Settings) (old new : Seen T D) (e : ClientError) (known : Known) → IsKnown old known → IsSearchRefused Steps old new said e s → IsOwnStore old.accepts new.registries
@@ -154,7 +154,7 @@ module _ {T D : Type 0} (Steps : T → Asked → T → Type 0) (old new : Seen T
   -- what a search that ends without a plan is refused for
   abbrev pub Undisturbed : Type 0
   Undisturbed = (accepts : Accepts) (asker : Registry → Asker) (w : Wanted) (known : Known) (parts : List Part) (es : List Entry) (said : D → D → Bool → Bool) (e : SearchError (LearnError ShapeError)) (old new : Seen T D)
-      → ProvesSession Steps accepts asker w known nothing_known parts es old → IsUndisturbed parts old new → IsSearchRefusal w (IsLearnt Steps IsComponent) (IsUnlearnt Steps said (λ bytes error. IsRefused error bytes)) old new e
+      → ProvesSession Steps accepts asker w known nothing_known parts es old → IsUndisturbed parts old new → IsSearchRefusal learnt w (IsLearnt Steps IsComponent) (IsUnlearnt Steps said (λ bytes error. IsRefused error bytes)) old new e
       → (search_refusal e ≡ told.Memory) ⊎ ((search_refusal e ≡ told.LinkFault) × IsUnreplied parts old new Steps)
 
   pub search_short : Undisturbed → (said : D → D → Bool → Bool) (e : ClientError) → IsSearchRefused Steps old new said e s → (v : IsValidCall Steps old new text) → s ≡ v.settings → (e ≡ told.Memory) ⊎ ((e ≡ told.LinkFault) × IsUnreplied v.parts old new Steps)
@@ -169,16 +169,16 @@ module _ {T D : Type 0} (Steps : T → Asked → T → Type 0) (old new : Seen T
   -- that a search finds the session's plan, and that a plan which can be linked is linked
   abbrev pub Found : Type 0
   Found = (accepts : Accepts) (asker : Registry → Asker) (w : Wanted) (known : Known) (parts : List Part) (es other : List Entry) (old new : Seen T D) → ProvesSession Steps accepts asker w known nothing_known parts es old
-      → (found : Finds w (IsLearnt Steps IsComponent) old new other) → (other ≡ es) × (found.parts ≡ parts)
+      → (found : Finds learnt w (IsLearnt Steps IsComponent) old new other) → (other ≡ es) × (found.parts ≡ parts)
 
   -- that a plan which can be linked is refused for want of memory alone
   abbrev pub Linked : Type 0
   Linked = (disallow : Bool) (es : List Entry) (e : ComposeError) → AreWired es → IsLinkable disallow es → IsComposeFault disallow e es → e ≡ compose.Memory
 
-  pub compose_short : Found → Linked → (es : List Entry) (e : ComposeError) → AreWired es → Finds (wanted s) (IsLearnt Steps IsComponent) old new es
+  pub compose_short : Found → Linked → (es : List Entry) (e : ComposeError) → AreWired es → Finds learnt (wanted s) (IsLearnt Steps IsComponent) old new es
       → IsComposeFault s.disallow_imports e es → (v : IsValidCall Steps old new text) → s ≡ v.settings → compose_refusal e ≡ told.Memory
   compose_short law linked es e wired finds fault v same =
-      let here = subst (λ (t : Settings). Finds (wanted t) (IsLearnt Steps IsComponent) old new es) same finds in
+      let here = subst (λ (t : Settings). Finds learnt (wanted t) (IsLearnt Steps IsComponent) old new es) same finds in
       let is : es ≡ v.entries = (law old.accepts old.asker (wanted v.settings) v.known v.parts v.entries es old new v.proves here).0 in
       let held : IsComposeFault v.settings.disallow_imports e v.entries = subst (λ (t : Settings). IsComposeFault t.disallow_imports e v.entries) same (subst (IsComposeFault s.disallow_imports e) is fault) in
       ap compose_refusal (linked v.settings.disallow_imports v.entries e (subst AreWired is wired) v.linkable held)

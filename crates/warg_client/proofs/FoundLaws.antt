@@ -1,5 +1,6 @@
--- What a search finds is a plan over components.
-use Rattle.std.proofs.Common.{◌≡◌, ◌∙◌, sym, subst, refl, ℕ, Bool, true, false, cond, List, [], ◌∷◌, Some, bytes_eq}
+-- What a search finds is a plan over components, that of a text or that of a package.
+use Rattle.std.proofs.Common.{◌≡◌, ◌∙◌, sym, ap, subst, refl, ℕ, Bool, true, false, cond, List, [], ◌∷◌, ◌++◌, Some, bytes_eq}
+use Rattle.std.specs.Prelude.{fold}
 use Rattle.std.specs.List.{AllByRecursion}
 use Rattle.std.specs.Map.{lookup}
 use Rattle.std.proofs.lemmas.Slice.Eq.{bytes_eq-Decides}
@@ -8,16 +9,18 @@ use Rattle.sha2.specs.Sha256.{sha256}
 use Rattle.compose_config.specs.Plan.{Settings}
 use Rattle.warg_api.specs.Link.{Asked}
 use Rattle.warg_plan.specs.Keys.{Key}
-use Rattle.warg_plan.specs.Plan.{IsPlan}
+use Rattle.warg_plan.specs.Plan.{EachAfter, IsEntry, IsPlan}
 use Rattle.warg_plan.specs.PlanLaws.{walk_is_plan}
-use Rattle.warg_plan.specs.Walk.{Content, Entry, Facts, nothing_known}
+use Rattle.warg_plan.specs.Walk.{Content, Entry, Facts, NeedsLog, Stop, nothing_known}
 use Rattle.warg_assemble.specs.Parts.{Loaded, Part, Updated, learnt, learnt_by}
 use Rattle.warg_learn.specs.Learnt.{IsLearnt, IsReadPart}
+use Rattle.warg_learn.specs.Recalled.{IsRecalledOrLearnt, Learnt, Lesson, Recalled, taught}
 use Rattle.warg_learn.specs.Search.{AreLearnt, Finds}
 use Rattle.warg_learn.specs.Seen.{Seen}
 use Rattle.warg_compose.specs.Read.{IsComponent}
 use Rattle.warg_compose.specs.Wired.{AreOfComponents, AreWired}
 use Rattle.warg_client.specs.Assembled.{wanted}
+use Rattle.warg_client.specs.Packages.{IsPackagePlan, package_wanted}
 
 -- a content under its digest is a component
 record IsContent (e : List ℕ × Content) : Type 0 where
@@ -58,15 +61,61 @@ abbrev pub Wires : Type 0
 Wires = (s : Settings) (f : Facts) (root : Key) (es : List Entry) → IsPlan s f root es → AreOfComponents f → AreWired es
 
 module _ {T D : Type 0} (Steps : T → Asked → T → Type 0) (s : Settings) where
-  learnt_all : (f : Facts) (old new : Seen T D) (parts : List Part) → AreContents f → AreLearnt (wanted s) (IsLearnt Steps IsComponent) f old parts new → AreContents (learnt_by f parts)
+  learnt_all : (f : Facts) (old new : Seen T D) (parts : List Part) → AreContents f → AreLearnt learnt (wanted s) (IsLearnt Steps IsComponent) f old parts new → AreContents (learnt_by f parts)
   unfolding AreLearnt
   learnt_all f old new [] all are = all
   learnt_all f old new (p ∷ ps) all are = learnt_all (learnt f p) are.0 new ps (learnt_one f p all are.1.learns.content) are.2
 
-  pub found_wired : Wires → (old new : Seen T D) (es : List Entry) → Finds (wanted s) (IsLearnt Steps IsComponent) old new es → AreWired es
+  pub found_wired : Wires → (old new : Seen T D) (es : List Entry) → Finds learnt (wanted s) (IsLearnt Steps IsComponent) old new es → AreWired es
   found_wired law old new es found =
       let w = wanted s in
       let all = learnt_all nothing_known old new found.parts tt found.are in
       let f = learnt_by nothing_known found.parts in
       law s f w.root es (walk_is_plan s f w.depth w.root es found.finds)
       (record { digests = λ d c known. (looked_up f.contents d c all known).digest; components = λ d c known. (looked_up f.contents d c all known).component })
+
+-- ---- the plan of a package
+
+-- the content of an entry has the entry's digest
+entry_digest : (s : Settings) (f : Facts) → AreContents f → (before : List Entry) (e : Entry) → IsEntry s f before e → sha256 e.content ≡ e.digest
+entry_digest s f all before e is = ap sha256 is.bytes ∙ (looked_up f.contents e.digest is.made_of all is.known).digest
+
+each_digest : (s : Settings) (f : Facts) → AreContents f → (before es : List Entry) → EachAfter (IsEntry s f) before es → AllByRecursion (λ e. sha256 e.content ≡ e.digest) es
+unfolding EachAfter
+each_digest s f all before [] each = record {}
+each_digest s f all before (e ∷ es) each = (entry_digest s f all before e each.0, each_digest s f all (before ++ e ∷ []) es each.1)
+
+module _ {T D : Type 0} (Steps : T → Asked → T → Type 0) where
+  abbrev Learns : Seen T D → Stop → Lesson → Seen T D → Type 0
+  Learns = IsRecalledOrLearnt Steps IsComponent
+
+  taught_one : (f : Facts) (old new : Seen T D) (asked : Stop) (lesson : Lesson) → AreContents f → Learns old asked lesson new → AreContents (taught f lesson)
+  taught_one f old new (NeedsLog name) (Recalled k) all h = all
+  taught_one f old new (NeedsLog name) (Learnt p) all h = learnt_one f p all h.learns.content
+  taught_one f old new asked (Learnt p) all h = learnt_one f p all h.content
+  taught_one f old new asked (Recalled k) all h = absurd h
+
+  module _ (name : List ℕ) where
+    taught_all : (f : Facts) (old new : Seen T D) (lessons : List Lesson) → AreContents f → AreLearnt taught (package_wanted name) Learns f old lessons new → AreContents (fold taught f lessons)
+    unfolding AreLearnt
+    taught_all f old new [] all are = all
+    taught_all f old new (l ∷ ls) all are = taught_all (taught f l) are.0 new ls (taught_one f old are.0 are.1.stop l all are.1.learns) are.2
+
+    found_contents : (old new : Seen T D) (es : List Entry) → (found : Finds taught (package_wanted name) Learns old new es) → AreContents (fold taught nothing_known found.parts)
+    found_contents old new es found = taught_all nothing_known old new found.parts tt found.are
+
+    -- what a search finds is the plan of a package
+    pub package_planned : (old new : Seen T D) (es : List Entry) → Finds taught (package_wanted name) Learns old new es → IsPackagePlan Steps old new name es
+    package_planned old new es found =
+        let w = package_wanted name in
+        let f = fold taught nothing_known found.parts in
+        let plan = walk_is_plan w.settings f w.depth w.root es found.finds in
+        record { lessons = found.parts; are = found.are; plan = plan; digests = each_digest w.settings f (found_contents old new es found) [] es plan.each }
+
+    pub package_wired : Wires → (old new : Seen T D) (es : List Entry) → Finds taught (package_wanted name) Learns old new es → AreWired es
+    package_wired law old new es found =
+        let w = package_wanted name in
+        let f = fold taught nothing_known found.parts in
+        let all = found_contents old new es found in
+        law w.settings f w.root es (walk_is_plan w.settings f w.depth w.root es found.finds)
+        (record { digests = λ d c known. (looked_up f.contents d c all known).digest; components = λ d c known. (looked_up f.contents d c all known).component })

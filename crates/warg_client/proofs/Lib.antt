@@ -1,2 +1,4 @@
 pub mod AssembleLaws
+pub mod BundleLaws
 pub mod FoundLaws
+pub mod LockListLaws

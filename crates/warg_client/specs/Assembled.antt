@@ -10,7 +10,7 @@ use Rattle.warg_learn.specs.Recording.{AreKept}
 use Rattle.warg_plan.specs.Keys.{Named}
 use Rattle.warg_plan.specs.Walk.{Entry, most_open, nothing_known}
 use Rattle.warg_assemble.specs.Known.{Known}
-use Rattle.warg_assemble.specs.Parts.{Part, exchanges_in, known_by}
+use Rattle.warg_assemble.specs.Parts.{Part, exchanges_in, known_by, learnt}
 use Rattle.warg_assemble.specs.Session.{Wanted, AreOnce, IsSession, IsPlanOf}
 use Rattle.warg_learn.specs.Search.{Finds, IsSearchRefusal}
 use Rattle.warg_learn.specs.SearchError.{SearchError}
@@ -69,7 +69,7 @@ module _ {T D : Type 0} (Steps : T → Asked → T → Type 0) (old new : Seen T
   -- the search of the text's plan finds one, which is not linked
   pub record IsComposeRefused (e : ClientError) (settings : PlanSettings) : Type 0 where
     pub entries : List Entry
-    pub finds : Finds (wanted settings) (IsLearnt Steps IsComponent) old new entries
+    pub finds : Finds learnt (wanted settings) (IsLearnt Steps IsComponent) old new entries
     pub refusal : ComposeError
     pub told : e ≡ compose_refusal refusal
     pub cause : IsComposeFault settings.disallow_imports refusal entries
@@ -78,7 +78,7 @@ module _ {T D : Type 0} (Steps : T → Asked → T → Type 0) (old new : Seen T
   pub record IsSearchRefused (said : D → D → Bool → Bool) (e : ClientError) (settings : PlanSettings) : Type 0 where
     pub refusal : SearchError (LearnError ShapeError)
     pub told : e ≡ search_refusal refusal
-    pub cause : IsSearchRefusal (wanted settings) (IsLearnt Steps IsComponent)
+    pub cause : IsSearchRefusal learnt (wanted settings) (IsLearnt Steps IsComponent)
         (IsUnlearnt Steps said (λ bytes error. IsRefused error bytes)) old new refusal
 
   -- Why no component is assembled: the text is refused; or it is read, and its plan is not found, or not linked.

@@ -2,6 +2,9 @@ pub mod Errors
 pub mod Shown
 pub mod Assembled
 pub mod Complete
+pub mod Packages
+pub mod Bundler
+pub mod LockList
 pub use Rattle.warg_complete.specs.ClientError
 pub use Rattle.warg_complete.specs.Other
 pub use Rattle.warg_complete.specs.Text

@@ -1,10 +1,5 @@
 -- What a client shows.
 use Rattle.std.specs.Prelude.{ℕ, List, Option, option_map}
-use Rattle.warg_log.specs.Rules.{Accepts}
-use Rattle.warg_store.specs.Contents.{Contents}
-use Rattle.warg_store.specs.Entry.{Entry}
-use Rattle.warg_store.specs.Held.{Held}
-use Rattle.warg_store.specs.Namespaces.{Names}
 use Rattle.warg_api.specs.declared.client.Client.{Client as Asking}
 use Rattle.warg_plan.specs.declared.plan.Plan.{Plan}
 use Rattle.warg_learn.specs.Recording.{Transcript, transcript}
@@ -12,22 +7,6 @@ use Rattle.warg_learn.specs.Seen.{Seen, Telling, seen}
 use Rattle.warg_client.specs.declared.client.Assembly.{Assembly}
 use Rattle.warg_client.specs.declared.client.Client.{Client}
 use Rattle.warg_client.specs.declared.settings.Settings.{Settings}
-
--- what the parts of a client tell: the signatures that are good, and of the link and each store what it tells and how many
--- of its calls have failed
-abbrev pub tells : {L R C N V T : Type 0} → (V → Accepts) → (L → T) → (L → ℕ) → (R → Option Held) → (R → ℕ)
-    → (C → Option Contents) → (C → ℕ) → (N → Option (Entry Names)) → (N → ℕ) → Telling L R C N V T
-tells good link link_faults registries registry_faults contents content_faults names name_faults = record {
-  good = good;
-  link = link;
-  registries = registries;
-  contents = contents;
-  names = names;
-  link_faults = link_faults;
-  registry_faults = registry_faults;
-  content_faults = content_faults;
-  name_faults = name_faults;
-}
 
 module _ {L R C N V D : Type 0} where
   -- as whom it asks registries

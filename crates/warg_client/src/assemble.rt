@@ -6,21 +6,21 @@ ghost use Rattle.warg_plan.specs.View.{plan_view};
 ghost use Rattle.warg_plan.specs.declared.plan.Plan.{Plan as Found};
 ghost use Rattle.warg_client.specs.declared.client.Assembly.{Assembly as Made};
 ghost use Rattle.warg_assemble.specs.Known.{Known};
+ghost use Rattle.warg_assemble.specs.Parts.{learnt};
 ghost use Rattle.warg_learn.specs.Stored.{IsOwnStore};
 ghost use Rattle.warg_learn.specs.Search.{Finds};
 ghost use Rattle.warg_learn.specs.Learnt.{IsLearnt};
-ghost use Rattle.warg_learn.specs.Seen.{IsKnown, Telling};
+ghost use Rattle.warg_learn.specs.Seen.{IsKnown, Telling, tells};
 ghost use Rattle.warg_compose.specs.Linked.{IsPlanLinked};
 ghost use Rattle.warg_compose.specs.Read.{IsComponent};
 ghost use Rattle.warg_complete.specs.Undisturbed.{IsUnreplied};
 ghost use Rattle.warg_complete.specs.ClientError.TheVariants.{LinkFault as HasFailed, Memory as WantsMemory};
 ghost use Rattle.warg_client.specs.Assembled.{IsAssembleFault, IsPlanOfText, IsSearchRefused, LeavesWhatIsAllowed, beginning, wanted};
 ghost use Rattle.warg_client.specs.Complete.{IsValidCall};
-ghost use Rattle.warg_client.specs.Shown.{assembly_of, plan_of, registry_of, seen_by, settings_of, tells, verifier_of};
+ghost use Rattle.warg_client.specs.Shown.{assembly_of, plan_of, registry_of, seen_by, settings_of, verifier_of};
 
 use crate::client::{Assembly, Client};
 use compose_config::Config;
-use indexmap::IndexMap;
 use std::alloc::Global;
 use warg_api::Link;
 use warg_complete::laws::proving_sessions_are_found;
@@ -28,7 +28,7 @@ use warg_complete::{ClientError, plan_text};
 use warg_compose::compose_plan;
 use warg_compose::laws::{linkable_plans_are_linked, plans_over_components_are_wired};
 use warg_hint::Decide;
-use warg_learn::search_plan;
+use warg_learn::{Updates, search_plan};
 use warg_log::Verifier;
 use warg_plan::Plan;
 use warg_store::{ContentStorage, NamespaceMapStorage, RegistryStorage};
@@ -41,21 +41,21 @@ impl<
     V: Verifier,
     D: Decide,
 > Client<L, R, C, N, V, D> {
-    /// Begins a call: no package was updated in it yet, and as many pages may be asked for as are set.
+    /// Begins a call of `assemble`: nothing was assembled last.
     fn begin(&mut self, alloc: Global)
         ensures begins { (tell : Telling L R C N V L.Told) → seen_by tell self.new
             ≡ beginning (settings_of self.old) (seen_by tell self.old) }
         ensures settings { settings_of self.new ≡ settings_of self.old }
         ensures no_plan { plan_of self.new ≡ None }
     {
-        self.learner.updated = IndexMap::new(alloc);
-        self.learner.pages_left = self.settings.round_limit;
+        self.restart(alloc);
         self.last = None;
     }
 
     /// The plan of a text's settings.
     fn find_plan(&mut self, alloc: Global, config: &Config) -> Result<Plan, ClientError>
-        ensures finds { IfOk result (λ plan. Finds (wanted (plan_settings config.now)) (IsLearnt L.Steps IsComponent)
+        ensures finds { IfOk result (λ plan. Finds learnt (wanted (plan_settings config.now))
+            (IsLearnt L.Steps IsComponent)
             (seen_by (tells V.good L.told L.faults R.told R.faults C.told C.faults N.told N.faults) self.old)
             (seen_by (tells V.good L.told L.faults R.told R.faults C.told C.faults N.told N.faults) self.new)
             (plan_view plan)) }
@@ -66,7 +66,7 @@ impl<
         ensures settings { settings_of self.new ≡ settings_of self.old }
         ensures plan { plan_of self.new ≡ plan_of self.old }
     {
-        Ok(search_plan(alloc, &mut self.learner, config)?)
+        Ok(search_plan(alloc, &Updates, &mut self.learner, config)?)
     }
 
     /// The component that the plan of a text makes.

@@ -3,13 +3,15 @@ use Rattle.std.proofs.lemmas.Result.{err_from_is_err_and}
 use Rattle.compose_config.specs.Plan.{Settings as PlanSettings}
 use Rattle.compose_config.specs.View.{settings_of as plan_settings}
 use Rattle.warg_plan.specs.View.{plan_view}
+use Rattle.warg_assemble.specs.Parts.{learnt}
 use Rattle.warg_learn.specs.Stored.{IsOwnStore}
 use Rattle.warg_learn.specs.Search.{Finds}
 use Rattle.warg_learn.specs.Learnt.{IsLearnt}
+use Rattle.warg_learn.specs.Seen.{tells}
 use Rattle.warg_compose.specs.Open.{IsAllowed}
 use Rattle.warg_compose.specs.Read.{IsComponent}
 use Rattle.warg_client.specs.Assembled.{IsSearchRefused, wanted}
-use Rattle.warg_client.specs.Shown.{seen_by, tells}
+use Rattle.warg_client.specs.Shown.{seen_by}
 use Rattle.warg_client.proofs.AssembleLaws.{compose_short, found_own, is_plan_of_text, search_own, search_short}
 use Rattle.warg_client.proofs.FoundLaws.{found_wired}
 use Rattle.warg_client.proofs.client.Client.assemble.Goals as goal
@@ -76,7 +78,7 @@ returns-in_err-linked-clause-cause g c =
       c.in_ok-config.ensures.read,
       inr (record {
         entries = es;
-        finds = subst (λ old. Finds (wanted s) (IsLearnt g.L.Link.Steps IsComponent) old new es) (c.begin.ensures.begins tell) c.in_ok-plan.ensures.finds;
+        finds = subst (λ old. Finds learnt (wanted s) (IsLearnt g.L.Link.Steps IsComponent) old new es) (c.begin.ensures.begins tell) c.in_ok-plan.ensures.finds;
         refusal = c.in_err-linked.field-0.0;
         told = refl;
         cause = c.in_err-linked.ensures.fault;
@@ -89,7 +91,7 @@ returns-in_err-linked-clause-own g c = λ known knows.
     let s = plan_settings c.in_ok-config.config in
     let new = seen_by tell c.find_plan.new.self in
     let es = plan_view c.in_ok-plan.plan in
-    found_own g.L.Link.Steps s _ new es known knows (subst (λ old. Finds (wanted s) (IsLearnt g.L.Link.Steps IsComponent) old new es) (c.begin.ensures.begins tell) c.in_ok-plan.ensures.finds)
+    found_own g.L.Link.Steps s _ new es known knows (subst (λ old. Finds learnt (wanted s) (IsLearnt g.L.Link.Steps IsComponent) old new es) (c.begin.ensures.begins tell) c.in_ok-plan.ensures.finds)
 
 pub returns-in_err-linked-clause-complete : goal.returns-in_err-linked-clause-complete
 returns-in_err-linked-clause-complete g c =
@@ -98,7 +100,7 @@ returns-in_err-linked-clause-complete g c =
     let new = seen_by tell c.find_plan.new.self in
     let es = plan_view c.in_ok-plan.plan in
     let q = err_from_is_err_and c.from_residual-in_err-linked.result c.from_residual-in_err-linked.ensures.1 in
-    let finds = subst (λ old. Finds (wanted s) (IsLearnt g.L.Link.Steps IsComponent) old new es) (c.begin.ensures.begins tell) c.in_ok-plan.ensures.finds in
+    let finds = subst (λ old. Finds learnt (wanted s) (IsLearnt g.L.Link.Steps IsComponent) old new es) (c.begin.ensures.begins tell) c.in_ok-plan.ensures.finds in
     rw (q.1, q.2) (λ valid. inl (compose_short g.L.Link.Steps _ new c.args.text.now s c.proving_sessions_are_found.ensures.found c.linkable_plans_are_linked.ensures es c.in_err-linked.field-0.0
     (found_wired g.L.Link.Steps s c.plans_over_components_are_wired.ensures _ new es finds) finds c.in_err-linked.ensures.fault valid (c.in_ok-config.ensures.one valid.settings valid.reads)))
 
@@ -112,7 +114,7 @@ returns-clause-planned g c =
       c.in_ok-plan.plan,
       refl,
       is_plan_of_text g.L.Link.Steps s _ new c.args.text.now es c.in_ok-config.ensures.read
-          (subst (λ old. Finds (wanted s) (IsLearnt g.L.Link.Steps IsComponent) old new es) (c.begin.ensures.begins tell) c.in_ok-plan.ensures.finds),
+          (subst (λ old. Finds learnt (wanted s) (IsLearnt g.L.Link.Steps IsComponent) old new es) (c.begin.ensures.begins tell) c.in_ok-plan.ensures.finds),
     )
 
 pub returns-clause-own : goal.returns-clause-own
@@ -121,7 +123,7 @@ returns-clause-own g c = λ known knows.
     let s = plan_settings c.in_ok-config.config in
     let new = seen_by tell c.find_plan.new.self in
     let es = plan_view c.in_ok-plan.plan in
-    found_own g.L.Link.Steps s _ new es known knows (subst (λ old. Finds (wanted s) (IsLearnt g.L.Link.Steps IsComponent) old new es) (c.begin.ensures.begins tell) c.in_ok-plan.ensures.finds)
+    found_own g.L.Link.Steps s _ new es known knows (subst (λ old. Finds learnt (wanted s) (IsLearnt g.L.Link.Steps IsComponent) old new es) (c.begin.ensures.begins tell) c.in_ok-plan.ensures.finds)
 
 pub returns-clause-linked : goal.returns-clause-linked
 returns-clause-linked g c = (record { plan = c.in_ok-plan.plan; lock = c.in_ok-linked.linked.lock }, refl, c.in_ok-linked.ensures.linked)

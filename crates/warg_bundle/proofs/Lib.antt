@@ -1,0 +1,4 @@
+pub mod ContentLaws
+pub mod LessonLaws
+pub mod LentLaws
+pub mod BundleLaws

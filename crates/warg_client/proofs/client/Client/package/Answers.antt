@@ -1,0 +1,33 @@
+use Rattle.std.proofs.Common.{refl, sym, ap, subst}
+use Rattle.std.proofs.lemmas.Result.{err_from_is_err_and}
+use Rattle.warg_learn.specs.Packages.{IsPackageLogFault, IsPackageLog}
+use Rattle.warg_learn.specs.Seen.{Seen, IsKnown, seen, tells}
+use Rattle.warg_learn.specs.Stored.{IsOwnStore}
+use Rattle.warg_client.proofs.client.Client.package.Goals as goal
+
+pub returns-in_err-package-clause-cause : goal.returns-in_err-package-clause-cause
+returns-in_err-package-clause-cause g c =
+    let tell = tells g.V.Verifier.good g.L.Link.told g.L.Link.faults g.R.RegistryStorage.told g.R.RegistryStorage.faults g.C.ContentStorage.told g.C.ContentStorage.faults g.N.NamespaceMapStorage.told g.N.NamespaceMapStorage.faults in
+    let q = err_from_is_err_and c.from_residual.result c.from_residual.ensures.1 in
+    rw (q.1, q.2) (record {
+      refusal = c.in_err-package.field-0.0;
+      told = refl;
+      refuses = subst (λ old. IsPackageLogFault g.L.Link.Steps g.D.Decide.said old (seen tell c.package.new.self) c.args.name.now c.in_err-package.field-0.0) (c.restart.ensures.begins tell) c.in_err-package.ensures.refused;
+    })
+
+pub returns-in_err-package-clause-own : goal.returns-in_err-package-clause-own
+returns-in_err-package-clause-own g c = λ known knows.
+    let tell = tells g.V.Verifier.good g.L.Link.told g.L.Link.faults g.R.RegistryStorage.told g.R.RegistryStorage.faults g.C.ContentStorage.told g.C.ContentStorage.faults g.N.NamespaceMapStorage.told g.N.NamespaceMapStorage.faults in
+    subst (λ a. IsOwnStore a (g.R.RegistryStorage.told c.package.new.self.registries)) (ap (λ (s : Seen g.L.Link.Told g.row.D.Denot). s.accepts) (c.restart.ensures.begins tell))
+    (c.package.ensures.own known (subst (λ s. IsKnown s known) (sym (c.restart.ensures.begins tell)) knows))
+
+pub returns-clause-found : goal.returns-clause-found
+returns-clause-found g c =
+    let tell = tells g.V.Verifier.good g.L.Link.told g.L.Link.faults g.R.RegistryStorage.told g.R.RegistryStorage.faults g.C.ContentStorage.told g.C.ContentStorage.faults g.N.NamespaceMapStorage.told g.N.NamespaceMapStorage.faults in
+    subst (λ old. IsPackageLog g.L.Link.Steps old (seen tell c.package.new.self) c.args.name.now c.in_ok-package.field-0) (c.restart.ensures.begins tell) c.in_ok-package.ensures.found
+
+pub returns-clause-own : goal.returns-clause-own
+returns-clause-own g c = λ known knows.
+    let tell = tells g.V.Verifier.good g.L.Link.told g.L.Link.faults g.R.RegistryStorage.told g.R.RegistryStorage.faults g.C.ContentStorage.told g.C.ContentStorage.faults g.N.NamespaceMapStorage.told g.N.NamespaceMapStorage.faults in
+    subst (λ a. IsOwnStore a (g.R.RegistryStorage.told c.package.new.self.registries)) (ap (λ (s : Seen g.L.Link.Told g.row.D.Denot). s.accepts) (c.restart.ensures.begins tell))
+    (c.package.ensures.own known (subst (λ s. IsKnown s known) (sym (c.restart.ensures.begins tell)) knows))
