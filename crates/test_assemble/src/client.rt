@@ -103,6 +103,8 @@ fn a_call_of_a_store_that_fails_is_told_and_no_other(rt: HostRuntime) -> Result<
 enum Call {
     /// An update of its log.
     Fetch,
+    /// So many updates of its log in one call.
+    FetchAll(usize),
     /// Its log.
     Package,
     /// The lock of its plan.
@@ -145,6 +147,31 @@ fn log_told(alloc: Global, answer: Result<PackageInfo, ClientError>) -> Result<S
     }
 }
 
+/// How many logs a call answers that updates a package so many times, or the error.
+fn logs_told(
+    alloc: Global,
+    client: &mut TestClient,
+    name: &PackageName,
+    times: usize,
+) -> Result<String, Fail> {
+    let mut names = Vec::new(alloc);
+    for _ in 0..times {
+        names.push(name.try_clone(alloc)?)?;
+    }
+    match client.fetch_packages(alloc, &names) {
+        Ok(infos) => {
+            let told = format!(in alloc; "{} logs", infos.len());
+            drop(infos);
+            Ok(told?)
+        }
+        Err(error) => {
+            let told = format!(in alloc; "{error:?}");
+            drop(error);
+            Ok(told?)
+        }
+    }
+}
+
 /// The lock of a package's plan, with the contents of releases in the places of its imports.
 fn bundled_lock(
     alloc: Global,
@@ -177,6 +204,7 @@ fn asked(
 ) -> Result<String, Fail> {
     match call {
         Call::Fetch => log_told(alloc, client.fetch_package(alloc, &info.name)),
+        Call::FetchAll(times) => logs_told(alloc, client, &info.name, times),
         Call::Package => log_told(alloc, client.package(alloc, &info.name)),
         Call::Lock => bytes_told(alloc, client.lock_component(alloc, info)),
         Call::Bundle => bytes_told(alloc, client.bundle_component(alloc, info)),
@@ -213,6 +241,18 @@ const CALLS: &[(&[(Call, &str)], &[&str])] = &[
     // An update asks again, whatever is kept.
     (
         &[(Call::Fetch, "2 releases"), (Call::Fetch, "LinkFault")],
+        &[TYPES_CHECKPOINT, TYPES_PAGE, TYPES_INCLUSION],
+    ),
+    // Each package that is named is updated, and what was updated before a refusal is kept.
+    (
+        &[(Call::FetchAll(0), "0 logs"), (Call::FetchAll(1), "1 logs")],
+        &[TYPES_CHECKPOINT, TYPES_PAGE, TYPES_INCLUSION],
+    ),
+    (
+        &[
+            (Call::FetchAll(2), "LinkFault"),
+            (Call::Package, "2 releases"),
+        ],
         &[TYPES_CHECKPOINT, TYPES_PAGE, TYPES_INCLUSION],
     ),
     (

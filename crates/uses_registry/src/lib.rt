@@ -18,6 +18,8 @@ pub mod page;
 pub mod plan;
 pub mod proof;
 pub mod prover;
+pub mod publish;
+pub mod publish_text;
 pub mod record;
 pub mod recorded;
 pub mod registry_url;

@@ -1,13 +1,14 @@
 //! What is answered of a package: its log, or the component that its plan makes.
 
 ghost use Rattle.std.specs.Prelude.{◌≡◌, [], List, ℕ, IfOk, IfErr};
+ghost use Rattle.comp_shape.specs.Refusal.{IsRefused};
 ghost use Rattle.warg_info.specs.Info.{IsSoundPackage};
 ghost use Rattle.warg_names.specs.Import.{dependency};
 ghost use Rattle.warg_plan.specs.Keys.{Parsed as ParsedKey};
 ghost use Rattle.warg_plan.specs.View.{key_view, plan_view};
 ghost use Rattle.warg_plan.specs.Walk.{Entry};
 ghost use Rattle.warg_assemble.specs.Known.{Known};
-ghost use Rattle.warg_learn.specs.Packages.{IsNotUpdated, IsPackageLog, IsPackageLogFault, IsUpdatedLog};
+ghost use Rattle.warg_learn.specs.Packages.{AreNotUpdated, AreUpdatedLogs, IsNotUpdated, IsPackageLog, IsPackageLogFault, IsUpdatedLog};
 ghost use Rattle.warg_learn.specs.Recalled.{IsRecalledOrLearnt, taught};
 ghost use Rattle.warg_learn.specs.Search.{Finds};
 ghost use Rattle.warg_learn.specs.Seen.{IsKnown, Telling, tells};
@@ -76,13 +77,13 @@ impl<
         alloc: Global,
         name: &PackageName,
     ) -> Result<PackageInfo, ClientError>
-        ensures updated { IfOk result (λ info. IsUpdatedLog L.Steps
+        ensures updated { IfOk result (IsUpdatedLog L.Steps IsComponent
             (beginning (settings_of self.old)
             (seen_by (tells V.good L.told L.faults R.told R.faults C.told C.faults N.told N.faults) self.old))
             (seen_by (tells V.good L.told L.faults R.told R.faults C.told C.faults N.told N.faults) self.new)
-            name.now info) }
+            name.now) }
         ensures sound { IfOk result IsSoundPackage }
-        ensures cause { IfErr result (λ e. IsOfFetch e (IsNotUpdated L.Steps D.said
+        ensures cause { IfErr result (λ e. IsOfFetch e (IsNotUpdated L.Steps D.said (λ bytes error. IsRefused error bytes)
             (beginning (settings_of self.old)
             (seen_by (tells V.good L.told L.faults R.told R.faults C.told C.faults N.told N.faults) self.old))
             (seen_by (tells V.good L.told L.faults R.told R.faults C.told C.faults N.told N.faults) self.new)
@@ -98,16 +99,48 @@ impl<
         Ok(self.learner.fetch_package(alloc, name)?)
     }
 
-    /// The log of a package that is kept, under the registry that has it, or where none is, that of an update as
-    /// `fetch_package` makes it.
-    pub fn package(&mut self, alloc: Global, name: &PackageName) -> Result<PackageInfo, ClientError>
-        ensures found { IfOk result (λ info. IsPackageLog L.Steps
+    /// The logs of packages, each by an update as `fetch_package` makes it, one after the other, in the order of the names.
+    /// The pages of records that may be asked for are those of all these updates together.
+    ///
+    /// A refusal leaves what was updated before it kept.
+    pub fn fetch_packages(
+        &mut self,
+        alloc: Global,
+        names: &[PackageName],
+    ) -> Result<Vec<PackageInfo>, ClientError>
+        ensures updated { IfOk result (λ infos. AreUpdatedLogs L.Steps IsComponent
             (beginning (settings_of self.old)
             (seen_by (tells V.good L.told L.faults R.told R.faults C.told C.faults N.told N.faults) self.old))
             (seen_by (tells V.good L.told L.faults R.told R.faults C.told C.faults N.told N.faults) self.new)
-            name.now info) }
+            names.now infos.items) }
+        ensures cause { IfErr result (λ e. IsOfFetch e (AreNotUpdated L.Steps D.said (λ bytes error. IsRefused error bytes)
+            IsComponent
+            (beginning (settings_of self.old)
+            (seen_by (tells V.good L.told L.faults R.told R.faults C.told C.faults N.told N.faults) self.old))
+            (seen_by (tells V.good L.told L.faults R.told R.faults C.told C.faults N.told N.faults) self.new)
+            names.now)) }
+        ensures own { (known : Known)
+            → IsKnown (beginning (settings_of self.old)
+            (seen_by (tells V.good L.told L.faults R.told R.faults C.told C.faults N.told N.faults) self.old)) known
+            → IsOwnStore (V.good (verifier_of self.old)) (R.told (registry_of self.new)) }
+        ensures same_settings { settings_of self.new ≡ settings_of self.old }
+        ensures same_assembly { assembly_of self.new ≡ assembly_of self.old }
+    {
+        self.restart(alloc);
+        Ok(self.learner.fetch_packages(alloc, names)?)
+    }
+
+    /// The log of a package that is kept, under the registry that has it, or where none is, that of an update as
+    /// `fetch_package` makes it.
+    pub fn package(&mut self, alloc: Global, name: &PackageName) -> Result<PackageInfo, ClientError>
+        ensures found { IfOk result (IsPackageLog L.Steps IsComponent
+            (beginning (settings_of self.old)
+            (seen_by (tells V.good L.told L.faults R.told R.faults C.told C.faults N.told N.faults) self.old))
+            (seen_by (tells V.good L.told L.faults R.told R.faults C.told C.faults N.told N.faults) self.new)
+            name.now) }
         ensures sound { IfOk result IsSoundPackage }
         ensures cause { IfErr result (λ e. IsOfFetch e (IsPackageLogFault L.Steps D.said
+            (λ bytes error. IsRefused error bytes)
             (beginning (settings_of self.old)
             (seen_by (tells V.good L.told L.faults R.told R.faults C.told C.faults N.told N.faults) self.old))
             (seen_by (tells V.good L.told L.faults R.told R.faults C.told C.faults N.told N.faults) self.new)

@@ -14,5 +14,5 @@ mod start;
 pub use content::fetch_content;
 pub use error::{FetchError, LoadError};
 pub use keep::keep_update;
-pub use package::{Fetcher, PackageUpdate};
+pub use package::{Fetcher, PackageUpdate, domain_copy};
 pub use registry::registry_for;

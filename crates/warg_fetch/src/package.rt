@@ -55,8 +55,8 @@ pub struct Fetcher<'a, V> {
     pub settings: Settings,
 }
 
-/// An equal name of its own, where there is one.
-fn domain_copy(
+/// An equal name of a registry of its own, where there is one. It is refused only for want of memory.
+pub fn domain_copy(
     alloc: Global,
     domain: &Option<RegistryDomain>,
 ) -> Result<Option<RegistryDomain>, Memory>

@@ -1,4 +1,5 @@
 pub mod ContentLaws
 pub mod LogLaws
+pub mod PackageLaws
 pub mod RecalledSteps
 pub mod SeenLaws

@@ -5,6 +5,7 @@ pub mod RecalledLaws
 pub mod Refusals
 pub mod SearchLaws
 pub mod Seen
+pub mod Taught
 pub mod Unlearnt
 pub use Rattle.warg_fetch.specs.Fetched
 pub use Rattle.warg_fetch.specs.Kept

@@ -1,15 +1,20 @@
 -- What a learner answers of the log of a package, and why it answers nothing.
-use Rattle.std.specs.Prelude.{◌≡◌, ◌⊎◌, Bool, ℕ, List, IfSome}
+use Rattle.std.specs.Prelude.{◌≡◌, ◌⊎◌, ◌++◌, Bool, ℕ, List, [], ◌∷◌, IfSome}
 use Rattle.warg_api.specs.Link.{Asked}
-use Rattle.warg_info.specs.Info.{package_log}
+use Rattle.warg_info.specs.Info.{package_log, IsSoundPackage}
 use Rattle.warg_info.specs.declared.package.PackageInfo.{PackageInfo}
 use Rattle.warg_store.specs.Entry.{Whole}
 use Rattle.warg_store.specs.Held.{named_info}
+use Rattle.warg_plan.specs.Walk.{Content, NeedsLog}
 use Rattle.warg_assemble.specs.Known.{Known}
+use Rattle.warg_assemble.specs.Parts.{Update, Updated}
 use Rattle.warg_fetch.specs.declared.error.FetchError.{FetchError}
+use Rattle.warg_fetch.specs.declared.error.FetchError.TheVariants as fetch
+use Rattle.warg_learn.specs.Learnt.{IsLearnt}
 use Rattle.warg_learn.specs.Recalled.{AsksStores, IsKeptFault, IsUnkept, kept_entry}
+use Rattle.warg_learn.specs.Refusals.{fetch_refusal}
 use Rattle.warg_learn.specs.Seen.{Seen, IsKnown, name_loads, registry_loads}
-use Rattle.warg_learn.specs.Unlearnt.{KeepsUpdate, IsUnfetched}
+use Rattle.warg_learn.specs.Unlearnt.{IsUnlearnt}
 
 -- what was kept of a package is answered: nothing was asked, and this is the log that is kept, in the registry that has
 -- the package by what is known
@@ -24,19 +29,13 @@ pub record IsNotGiven {T D : Type 0} (old new : Seen T D) (name : List ℕ) (e :
   pub cause : (known : Known) → IsKnown old known
       → IsKeptFault known name e (registry_loads old new) (name_loads old new)
 
-module _ {T D : Type 0} (Steps : T → Asked → T → Type 0) where
-  -- The log is that of an update of the package: the exchanges since are its own, and just what it teaches is known
-  -- besides.
-  pub record IsUpdated (old new : Seen T D) (known : Known) (name : List ℕ) (info : PackageInfo) : Type 0 where
-    pub keeps : KeepsUpdate Steps old new known name
-    pub has : keeps.update.log ≡ package_log info
-
-  abbrev pub IsUpdatedLog : Seen T D → Seen T D → List ℕ → PackageInfo → Type 0
-  IsUpdatedLog old new name info = (known : Known) → IsKnown old known → IsUpdated old new known name info
-
-  -- why a package is not updated
-  abbrev pub IsNotUpdated : (D → D → Bool → Bool) → Seen T D → Seen T D → List ℕ → FetchError → Type 0
-  IsNotUpdated said old new name e = (known : Known) → IsKnown old known → IsUnfetched Steps old new known said name e
+module _ {T D : Type 0} (Steps : T → Asked → T → Type 0) (Reads : Content → Type 0) where
+  -- the log is that of an update of the package, which is learnt as for a search
+  pub record IsUpdatedLog (old new : Seen T D) (name : List ℕ) (info : PackageInfo) : Type 0 where
+    pub update : Update
+    pub has : update.log ≡ package_log info
+    pub sound : IsSoundPackage info
+    pub learnt : IsLearnt Steps Reads old (NeedsLog name) (Updated update) new
 
   -- no log of the package is kept, and the log is that of an update
   pub record IsFetchedLog (old new : Seen T D) (name : List ℕ) (info : PackageInfo) : Type 0 where
@@ -44,16 +43,51 @@ module _ {T D : Type 0} (Steps : T → Asked → T → Type 0) where
     pub unkept : IsUnkept old between name
     pub updated : IsUpdatedLog between new name info
 
-  -- no log of the package is kept, and it is not updated
-  pub record IsNotFetched (said : D → D → Bool → Bool) (old new : Seen T D) (name : List ℕ) (e : FetchError) :
-      Type 0 where
-    pub between : Seen T D
-    pub unkept : IsUnkept old between name
-    pub refused : IsNotUpdated said between new name e
-
   -- the log that is kept of a package, or where none is that of an update
   abbrev pub IsPackageLog : Seen T D → Seen T D → List ℕ → PackageInfo → Type 0
   IsPackageLog old new name info = IsKeptLog old new name info ⊎ IsFetchedLog old new name info
 
-  abbrev pub IsPackageLogFault : (D → D → Bool → Bool) → Seen T D → Seen T D → List ℕ → FetchError → Type 0
-  IsPackageLogFault said old new name e = IsNotGiven old new name e ⊎ IsNotFetched said old new name e
+  -- the logs are those of updates of the packages, one after the other
+  unfoldable pub AreUpdatedLogs : Seen T D → Seen T D → List (List ℕ) → List PackageInfo → Type 0
+  AreUpdatedLogs old new [] [] = new ≡ old
+  AreUpdatedLogs old new (name ∷ names) (info ∷ infos) =
+      (next : Seen T D) × IsUpdatedLog old next name info × AreUpdatedLogs next new names infos
+  AreUpdatedLogs old new names infos = ⊥
+
+module _ {T D E : Type 0} (Steps : T → Asked → T → Type 0) (said : D → D → Bool → Bool) (Refuses : List ℕ → E → Type 0) where
+  -- why a package is not updated
+  abbrev pub IsNotUpdated : Seen T D → Seen T D → List ℕ → FetchError → Type 0
+  IsNotUpdated old new name e = IsUnlearnt Steps said Refuses old (NeedsLog name) (fetch_refusal e) new
+
+  -- no log of the package is kept, and it is not updated
+  pub record IsNotFetched (old new : Seen T D) (name : List ℕ) (e : FetchError) : Type 0 where
+    pub between : Seen T D
+    pub unkept : IsUnkept old between name
+    pub refused : IsNotUpdated between new name e
+
+  abbrev pub IsPackageLogFault : Seen T D → Seen T D → List ℕ → FetchError → Type 0
+  IsPackageLogFault old new name e = IsNotGiven old new name e ⊎ IsNotFetched old new name e
+
+  -- the first of these packages is not updated
+  pub record IsFirstNotUpdated (old new : Seen T D) (names : List (List ℕ)) (e : FetchError) : Type 0 where
+    pub name : List ℕ
+    pub later : List (List ℕ)
+    pub are : names ≡ name ∷ later
+    pub refused : IsNotUpdated old new name e
+
+  -- no memory is left for what was updated
+  pub record IsForgotten (old new : Seen T D) (e : FetchError) : Type 0 where
+    pub told : e ≡ fetch.Memory
+    pub nothing : new ≡ old
+
+  -- Packages are updated, one after the other, up to where it ends: the next is not updated, or there is no memory for
+  -- the logs of those that were.
+  pub record AreNotUpdated (Reads : Content → Type 0) (old new : Seen T D) (names : List (List ℕ)) (e : FetchError) :
+      Type 0 where
+    pub front : List (List ℕ)
+    pub rest : List (List ℕ)
+    pub are : names ≡ front ++ rest
+    pub before : Seen T D
+    pub infos : List PackageInfo
+    pub updated : AreUpdatedLogs Steps Reads old before front infos
+    pub cause : IsFirstNotUpdated before new rest e ⊎ IsForgotten before new e

@@ -7,7 +7,9 @@ ghost use Rattle.warg_plan.specs.View.{content_view};
 ghost use Rattle.warg_plan.specs.Walk.{Facts, NeedsContent, NeedsLog};
 ghost use Rattle.warg_assemble.specs.Parts.{Part, learnt};
 ghost use Rattle.warg_learn.specs.Learnt.{IsLearnt};
+ghost use Rattle.warg_learn.specs.Refusals.{fetch_refusal};
 ghost use Rattle.warg_learn.specs.Seen.{seen, tells};
+ghost use Rattle.warg_learn.specs.Taught.{IsTaught};
 ghost use Rattle.warg_learn.specs.Unlearnt.{IsUnlearnt};
 
 use crate::error::LearnError;
@@ -17,7 +19,7 @@ use indexmap::IndexMap;
 use std::alloc::Global;
 use warg_api::{Client, Link};
 use warg_assemble::ContentReader;
-use warg_fetch::{Fetcher, fetch_content};
+use warg_fetch::{FetchError, Fetcher, PackageUpdate, fetch_content};
 use warg_hash::{AnyHash, PackageName};
 use warg_hint::{Decide, HintSettings};
 use warg_log::{Release, Verifier};
@@ -62,6 +64,40 @@ impl<
     D: Decide,
     K: ContentReader,
 > Learner<L, R, C, N, V, D, K> {
+    /// The update of a package, which begins with no log of it. What it proves is kept; it does not count as updated yet.
+    pub(crate) fn update_package(
+        &mut self,
+        alloc: Global,
+        name: &PackageName,
+    ) -> Result<PackageUpdate, FetchError>
+        ensures taught { IfOk result (IsTaught L.Steps
+            (seen (tells V.good L.told L.faults R.told R.faults C.told C.faults N.told N.faults) self.old)
+            (seen (tells V.good L.told L.faults R.told R.faults C.told C.faults N.told N.faults) self.new)
+            name.now) }
+        ensures refused { IfErr result (λ e. IsUnlearnt L.Steps D.said K.Refuses
+            (seen (tells V.good L.told L.faults R.told R.faults C.told C.faults N.told N.faults) self.old)
+            (NeedsLog name.now) (fetch_refusal e)
+            (seen (tells V.good L.told L.faults R.told R.faults C.told C.faults N.told N.faults) self.new)) }
+        ensures updated { self.new.updated ≡ self.old.updated }
+    {
+        let fetcher = Fetcher {
+            client: &self.client,
+            verifier: &self.verifier,
+            settings: Settings {
+                hints: self.hints,
+                round_limit: self.pages_left,
+            },
+        };
+        fetcher.fetch_package(
+            alloc,
+            &mut self.link,
+            &mut self.registries,
+            &mut self.namespaces,
+            &mut self.decide,
+            name,
+        )
+    }
+
     /// The releases in the log of a package, which is updated and kept.
     pub fn update_log(
         &mut self,
@@ -80,22 +116,7 @@ impl<
             (seen (tells V.good L.told L.faults R.told R.faults C.told C.faults N.told N.faults) self.new)) }
     {
         let key = name.try_clone(alloc)?;
-        let fetcher = Fetcher {
-            client: &self.client,
-            verifier: &self.verifier,
-            settings: Settings {
-                hints: self.hints,
-                round_limit: self.pages_left,
-            },
-        };
-        let update = fetcher.fetch_package(
-            alloc,
-            &mut self.link,
-            &mut self.registries,
-            &mut self.namespaces,
-            &mut self.decide,
-            name,
-        )?;
+        let update = self.update_package(alloc, name)?;
         let pages_left = update.pages_left;
         let info = update.info;
         let releases = releases_of(alloc, &info)?;

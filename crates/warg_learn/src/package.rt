@@ -1,23 +1,23 @@
-//! The log of a package, as it is answered.
+//! The logs of packages, as they are answered.
 
 ghost use Rattle.std.specs.Prelude.{IfOk, IfErr};
 ghost use Rattle.warg_info.specs.Info.{IsSoundPackage};
 ghost use Rattle.warg_assemble.specs.Known.{Known};
-ghost use Rattle.warg_learn.specs.Packages.{IsNotUpdated, IsPackageLog, IsPackageLogFault, IsUpdatedLog};
+ghost use Rattle.warg_learn.specs.Packages.{AreNotUpdated, AreUpdatedLogs, IsNotUpdated, IsPackageLog, IsPackageLogFault, IsUpdatedLog};
 ghost use Rattle.warg_learn.specs.Seen.{IsKnown, seen, tells};
 ghost use Rattle.warg_learn.specs.Stored.{IsOwnStore};
 
 use crate::kept::{KeptPackage, load_kept};
 use crate::learner::Learner;
+use crate::updated::note_registry;
 use std::alloc::Global;
 use warg_api::Link;
 use warg_assemble::ContentReader;
-use warg_fetch::{FetchError, Fetcher};
+use warg_fetch::{FetchError, domain_copy};
 use warg_hash::PackageName;
 use warg_hint::Decide;
 use warg_info::PackageInfo;
 use warg_log::Verifier;
-use warg_session::Settings;
 use warg_store::{ContentStorage, NamespaceMapStorage, RegistryStorage};
 
 impl<
@@ -35,48 +35,63 @@ impl<
         alloc: Global,
         name: &PackageName,
     ) -> Result<PackageInfo, FetchError>
-        ensures updated { IfOk result (λ info. IsUpdatedLog L.Steps
+        ensures updated { IfOk result (IsUpdatedLog L.Steps K.Reads
             (seen (tells V.good L.told L.faults R.told R.faults C.told C.faults N.told N.faults) self.old)
             (seen (tells V.good L.told L.faults R.told R.faults C.told C.faults N.told N.faults) self.new)
-            name.now info) }
+            name.now) }
         ensures sound { IfOk result IsSoundPackage }
-        ensures refused { IfErr result (λ e. IsNotUpdated L.Steps D.said
+        ensures refused { IfErr result (IsNotUpdated L.Steps D.said K.Refuses
             (seen (tells V.good L.told L.faults R.told R.faults C.told C.faults N.told N.faults) self.old)
-            (seen (tells V.good L.told L.faults R.told R.faults C.told C.faults N.told N.faults) self.new) name.now e) }
+            (seen (tells V.good L.told L.faults R.told R.faults C.told C.faults N.told N.faults) self.new) name.now) }
         ensures own { (known : Known)
             → IsKnown (seen (tells V.good L.told L.faults R.told R.faults C.told C.faults N.told N.faults) self.old)
             known
             → IsOwnStore (V.good self.old.verifier) (R.told self.new.registries) }
     {
-        let fetcher = Fetcher {
-            client: &self.client,
-            verifier: &self.verifier,
-            settings: Settings {
-                hints: self.hints,
-                round_limit: self.pages_left,
-            },
-        };
-        let update = fetcher.fetch_package(
-            alloc,
-            &mut self.link,
-            &mut self.registries,
-            &mut self.namespaces,
-            &mut self.decide,
-            name,
-        )?;
+        let key = name.try_clone(alloc)?;
+        let update = self.update_package(alloc, name)?;
+        let registry = domain_copy(alloc, &update.info.registry)?;
+        note_registry(&mut self.updated, key, registry)?;
+        self.pages_left = update.pages_left;
         Ok(update.info)
+    }
+
+    /// The logs of packages, each by an update as `fetch_package` makes it, one after the other.
+    pub fn fetch_packages(
+        &mut self,
+        alloc: Global,
+        names: &[PackageName],
+    ) -> Result<Vec<PackageInfo>, FetchError>
+        ensures updated { IfOk result (λ infos. AreUpdatedLogs L.Steps K.Reads
+            (seen (tells V.good L.told L.faults R.told R.faults C.told C.faults N.told N.faults) self.old)
+            (seen (tells V.good L.told L.faults R.told R.faults C.told C.faults N.told N.faults) self.new)
+            names.now infos.items) }
+        ensures refused { IfErr result (AreNotUpdated L.Steps D.said K.Refuses K.Reads
+            (seen (tells V.good L.told L.faults R.told R.faults C.told C.faults N.told N.faults) self.old)
+            (seen (tells V.good L.told L.faults R.told R.faults C.told C.faults N.told N.faults) self.new)
+            names.now) }
+        ensures own { (known : Known)
+            → IsKnown (seen (tells V.good L.told L.faults R.told R.faults C.told C.faults N.told N.faults) self.old)
+            known
+            → IsOwnStore (V.good self.old.verifier) (R.told self.new.registries) }
+    {
+        let mut infos = Vec::new(alloc);
+        for name in names {
+            infos.push(self.fetch_package(alloc, name)?)?;
+        }
+        Ok(infos)
     }
 
     /// The log of a package that is kept, or where none is, that of an update.
     pub fn package(&mut self, alloc: Global, name: &PackageName) -> Result<PackageInfo, FetchError>
-        ensures found { IfOk result (λ info. IsPackageLog L.Steps
+        ensures found { IfOk result (IsPackageLog L.Steps K.Reads
             (seen (tells V.good L.told L.faults R.told R.faults C.told C.faults N.told N.faults) self.old)
             (seen (tells V.good L.told L.faults R.told R.faults C.told C.faults N.told N.faults) self.new)
-            name.now info) }
+            name.now) }
         ensures sound { IfOk result IsSoundPackage }
-        ensures refused { IfErr result (λ e. IsPackageLogFault L.Steps D.said
+        ensures refused { IfErr result (IsPackageLogFault L.Steps D.said K.Refuses
             (seen (tells V.good L.told L.faults R.told R.faults C.told C.faults N.told N.faults) self.old)
-            (seen (tells V.good L.told L.faults R.told R.faults C.told C.faults N.told N.faults) self.new) name.now e) }
+            (seen (tells V.good L.told L.faults R.told R.faults C.told C.faults N.told N.faults) self.new) name.now) }
         ensures own { (known : Known)
             → IsKnown (seen (tells V.good L.told L.faults R.told R.faults C.told C.faults N.told N.faults) self.old)
             known

@@ -1,8 +1,10 @@
 use Rattle.std.proofs.Common.{refl, sym, ap, subst}
 use Rattle.std.proofs.lemmas.Result.{err_from_is_err_and}
+use Rattle.comp_shape.specs.Refusal.{IsRefused}
 use Rattle.warg_learn.specs.Packages.{IsNotUpdated, IsUpdatedLog}
 use Rattle.warg_learn.specs.Seen.{Seen, IsKnown, seen, tells}
 use Rattle.warg_learn.specs.Stored.{IsOwnStore}
+use Rattle.warg_compose.specs.Read.{IsComponent}
 use Rattle.warg_client.proofs.client.Client.fetch_package.Goals as goal
 
 pub returns-in_err-fetch_package-clause-cause : goal.returns-in_err-fetch_package-clause-cause
@@ -12,7 +14,7 @@ returns-in_err-fetch_package-clause-cause g c =
     rw (q.1, q.2) (record {
       refusal = c.in_err-fetch_package.field-0.0;
       told = refl;
-      refuses = subst (λ old. IsNotUpdated g.L.Link.Steps g.D.Decide.said old (seen tell c.fetch_package.new.self) c.args.name.now c.in_err-fetch_package.field-0.0) (c.restart.ensures.begins tell) c.in_err-fetch_package.ensures.refused;
+      refuses = subst (λ old. IsNotUpdated g.L.Link.Steps g.D.Decide.said (λ bytes error. IsRefused error bytes) old (seen tell c.fetch_package.new.self) c.args.name.now c.in_err-fetch_package.field-0.0) (c.restart.ensures.begins tell) c.in_err-fetch_package.ensures.refused;
     })
 
 pub returns-in_err-fetch_package-clause-own : goal.returns-in_err-fetch_package-clause-own
@@ -24,7 +26,7 @@ returns-in_err-fetch_package-clause-own g c = λ known knows.
 pub returns-clause-updated : goal.returns-clause-updated
 returns-clause-updated g c =
     let tell = tells g.V.Verifier.good g.L.Link.told g.L.Link.faults g.R.RegistryStorage.told g.R.RegistryStorage.faults g.C.ContentStorage.told g.C.ContentStorage.faults g.N.NamespaceMapStorage.told g.N.NamespaceMapStorage.faults in
-    subst (λ old. IsUpdatedLog g.L.Link.Steps old (seen tell c.fetch_package.new.self) c.args.name.now c.in_ok-fetch_package.field-0) (c.restart.ensures.begins tell) c.in_ok-fetch_package.ensures.updated
+    subst (λ old. IsUpdatedLog g.L.Link.Steps IsComponent old (seen tell c.fetch_package.new.self) c.args.name.now c.in_ok-fetch_package.field-0) (c.restart.ensures.begins tell) c.in_ok-fetch_package.ensures.updated
 
 pub returns-clause-own : goal.returns-clause-own
 returns-clause-own g c = λ known knows.

@@ -1,8 +1,10 @@
 use Rattle.std.proofs.Common.{refl, sym, ap, subst}
 use Rattle.std.proofs.lemmas.Result.{err_from_is_err_and}
+use Rattle.comp_shape.specs.Refusal.{IsRefused}
 use Rattle.warg_learn.specs.Packages.{IsPackageLogFault, IsPackageLog}
 use Rattle.warg_learn.specs.Seen.{Seen, IsKnown, seen, tells}
 use Rattle.warg_learn.specs.Stored.{IsOwnStore}
+use Rattle.warg_compose.specs.Read.{IsComponent}
 use Rattle.warg_client.proofs.client.Client.package.Goals as goal
 
 pub returns-in_err-package-clause-cause : goal.returns-in_err-package-clause-cause
@@ -12,7 +14,7 @@ returns-in_err-package-clause-cause g c =
     rw (q.1, q.2) (record {
       refusal = c.in_err-package.field-0.0;
       told = refl;
-      refuses = subst (λ old. IsPackageLogFault g.L.Link.Steps g.D.Decide.said old (seen tell c.package.new.self) c.args.name.now c.in_err-package.field-0.0) (c.restart.ensures.begins tell) c.in_err-package.ensures.refused;
+      refuses = subst (λ old. IsPackageLogFault g.L.Link.Steps g.D.Decide.said (λ bytes error. IsRefused error bytes) old (seen tell c.package.new.self) c.args.name.now c.in_err-package.field-0.0) (c.restart.ensures.begins tell) c.in_err-package.ensures.refused;
     })
 
 pub returns-in_err-package-clause-own : goal.returns-in_err-package-clause-own
@@ -24,7 +26,7 @@ returns-in_err-package-clause-own g c = λ known knows.
 pub returns-clause-found : goal.returns-clause-found
 returns-clause-found g c =
     let tell = tells g.V.Verifier.good g.L.Link.told g.L.Link.faults g.R.RegistryStorage.told g.R.RegistryStorage.faults g.C.ContentStorage.told g.C.ContentStorage.faults g.N.NamespaceMapStorage.told g.N.NamespaceMapStorage.faults in
-    subst (λ old. IsPackageLog g.L.Link.Steps old (seen tell c.package.new.self) c.args.name.now c.in_ok-package.field-0) (c.restart.ensures.begins tell) c.in_ok-package.ensures.found
+    subst (λ old. IsPackageLog g.L.Link.Steps IsComponent old (seen tell c.package.new.self) c.args.name.now c.in_ok-package.field-0) (c.restart.ensures.begins tell) c.in_ok-package.ensures.found
 
 pub returns-clause-own : goal.returns-clause-own
 returns-clause-own g c = λ known knows.
