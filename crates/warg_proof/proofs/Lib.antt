@@ -4,6 +4,7 @@ pub mod MapLaws
 pub mod Loops
 pub mod Listing
 pub mod Climbing
+pub mod EmptyRoots
 pub mod Fields
 pub mod Bundles
 pub mod Tops

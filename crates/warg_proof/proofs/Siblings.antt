@@ -1,5 +1,5 @@
 -- The siblings of a path, from the leaf up.
-use Rattle.std.proofs.Common.{◌≡◌, ℕ, zero, suc, ◌+◌, ◌-◌, ◌<◌, ◌≤◌, true, false, cond, List, [], ◌∷◌, length, get_or, refl, sym, ap, subst, ◌∙◌, inl, inr, add-one, arith}
+use Rattle.std.proofs.Common.{◌≡◌, ℕ, zero, suc, ◌+◌, ◌-◌, ◌<◌, ◌≤◌, true, false, cond, List, [], ◌∷◌, length, get_or, refl, sym, ap, subst, ◌∙◌, inl, inr, arith}
 use Rattle.std.specs.List.{AllByRecursion}
 use Rattle.std.proofs.lemmas.Bool.{cases_Bool, cond-true, cond-false, cond_both}
 use Rattle.std.proofs.lemmas.List.Elements.{All-from_recursion}
@@ -51,14 +51,6 @@ length-siblings (suc height) path = ap suc (length-siblings height path)
 pub none_below : (path : MapPath) (key value : List ℕ) → subtree_path_root key value (siblings_within 0 path) ≡ leaf_hash value
 unfolding siblings_within subtree_path_root
 none_below path key value = refl
-
-pub empty_below : empty_root 0 ≡ 0 ∷ 0 ∷ 0 ∷ 0 ∷ 0 ∷ 0 ∷ 0 ∷ 0 ∷ 0 ∷ 0 ∷ 0 ∷ 0 ∷ 0 ∷ 0 ∷ 0 ∷ 0 ∷ 0 ∷ 0 ∷ 0 ∷ 0 ∷ 0 ∷ 0 ∷ 0 ∷ 0 ∷ 0 ∷ 0 ∷ 0 ∷ 0 ∷ 0 ∷ 0 ∷ 0 ∷ 0 ∷ []
-unfolding empty_root
-empty_below = refl
-
-pub empty_above : (height : ℕ) → empty_root (height + 1) ≡ branch_hash (empty_root height) (empty_root height)
-unfolding empty_root
-empty_above height = rw add-one refl
 
 pub root_above : (path : MapPath) (key value root sibling : List ℕ) (height : ℕ) → root ≡ subtree_path_root key value (siblings_within height path) → sibling ≡ sibling_at path (255 - height)
     → cond (has_bit key (255 - height)) (branch_hash sibling root) (branch_hash root sibling) ≡ subtree_path_root key value (siblings_within (height + 1) path)

@@ -5,6 +5,7 @@
 //! strings of one hash are computed from it.
 #![tactic(auto)]
 
+mod empty_root;
 mod fault;
 mod hashing;
 pub mod laws;

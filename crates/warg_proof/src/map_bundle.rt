@@ -7,6 +7,7 @@ ghost use Rattle.warg_proof.specs.MapProofs.{MapPath, path_of, map_text, IsMapBu
 ghost use Rattle.warg_proof.specs.Reading.{GivesOrForm, path_at, map_at, map_rest_at};
 ghost use Rattle.warg_proof.specs.Judging.{map_verdict};
 
+use crate::empty_root::empty_root;
 use crate::fault::ProofFault;
 use crate::hashing::{branch_hash, has_bit, leaf_hash};
 use crate::reading::{Field, counted_of, each_of, given_count};
@@ -118,7 +119,6 @@ fn root_of(given: &[u8; 32], siblings: &[[u8; 32]], key: &[u8; 32], value: &[u8]
         ≡ subtree_path_root key.now value.now (siblings_of (path_of given.now siblings.now)) }
 {
     let mut root = leaf_hash(value);
-    let mut empty = [0u8; 32];
     let mut next = siblings.len();
     for height in 0..256usize {
         let depth = 255 - height;
@@ -126,10 +126,9 @@ fn root_of(given: &[u8; 32], siblings: &[[u8; 32]], key: &[u8; 32], value: &[u8]
             next -= 1;
             siblings[next]
         } else {
-            empty
+            empty_root(height)
         };
         root = branch_beside(has_bit(key, depth), &root, &sibling);
-        empty = branch_hash(&empty, &empty);
     }
     root
 }

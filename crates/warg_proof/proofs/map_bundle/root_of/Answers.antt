@@ -1,16 +1,15 @@
-use Rattle.std.proofs.Common.{◌≡◌, ◌+◌, ◌-◌, ◌∙◌, ℕ, List, [], get_or, Bool, true, false, cond, sym, ap, arith}
+use Rattle.std.proofs.Common.{◌≡◌, ◌+◌, ◌-◌, ◌∙◌, ℕ, [], get_or, Bool, true, false, cond, sym, ap, arith}
 use Rattle.warg_proof.specs.MapTree.{has_bit}
 use Rattle.warg_proof.specs.Merkle.{branch_hash}
 use Rattle.warg_proof.specs.MapProofs.{MapPath, given_before, sibling_at}
 use Rattle.warg_proof.proofs.Loops.{given_before-le}
-use Rattle.warg_proof.proofs.Siblings.{given_before-mono, given-at, not_given-at, none_below, empty_below, empty_above, root_above, sibling-given, sibling-empty}
+use Rattle.warg_proof.proofs.Siblings.{given_before-mono, given-at, not_given-at, none_below, root_above, sibling-given, sibling-empty}
 use Rattle.warg_proof.proofs.map_bundle.root_of.Goals as goal
 use Rattle.warg_proof.proofs.map_bundle.root_of.Goals.{then-has_bit, else-has_bit}
 
 pub loop-height-init : goal.loop-height-init
 loop-height-init c = record {
   root_is = c.leaf_hash-root.ensures ∙ sym (none_below (record { given = c.args.given.now; siblings = c.args.siblings.now }) c.args.key.now c.args.value.now);
-  empty_is = sym empty_below;
   next_is = c.requires;
 }
 
@@ -47,12 +46,11 @@ loop-height-preserved c =
       | else-has_bit w ↦
           let unset : has_bit given (255 - height) ≡ false = sym c.has_bit.ensures ∙ w.if-has_bit.false in (
             w.next-is ∙ c.loop-height.invariant.next_is ∙ not_given-at height given (omega arith) unset,
-            w.sibling-is ∙ c.loop-height.invariant.empty_is ∙ sym (sibling-empty path height (omega arith) unset),
+            w.sibling-is ∙ w.empty_root-sibling.ensures ∙ sym (sibling-empty path height (omega arith) unset),
           )
     ] in
     record {
       root_is = c.branch_beside-root.ensures ∙ ap (λ (b : Bool). cond b (branch_hash c.if-has_bit.sibling c.loop-height.root) (branch_hash c.loop-height.root c.if-has_bit.sibling)) c.has_bit-in-loop-height.ensures
           ∙ root_above path c.args.key.now c.args.value.now c.loop-height.root c.if-has_bit.sibling height c.loop-height.invariant.root_is chosen.1;
-      empty_is = c.branch_hash-empty.ensures ∙ ap (λ (e : List ℕ). branch_hash e e) c.loop-height.invariant.empty_is ∙ sym (empty_above height);
       next_is = let same : 255 - height ≡ 256 - (height + 1) = omega arith in chosen.0 ∙ ap (λ (d : ℕ). given_before d given) same;
     }
