@@ -2,9 +2,9 @@
 """Writes replies.json and checked.json: what the registry of a demo world replies while plan.yaml is assembled, and the
 signatures that are good.
 
-usage: world.py [SEED COUNT FOLDER]
+usage: world.py [SEED COUNT FOLDER [RELEASES]]
 
-Without words the world is that of `demo 1 5`, and the files are written here. The world is drawn by docs/FORMATS.md, with
+With RELEASES each package has so many, and none is yanked. Without words the world is that of `demo 1 5`, and the files are written here. The world is drawn by docs/FORMATS.md, with
 crates/test_demo/world.py, and its registry is made by the formats alone, with crates/test_vectors/world.py."""
 import importlib.util, json, os, sys
 
@@ -82,8 +82,12 @@ def write(path, value):
 
 
 def main():
-    seed, count, folder = sys.argv[1:] or ("1", "5", here)
+    seed, count, folder, *releases = sys.argv[1:] or ("1", "5", here)
     world = demo.World(int(seed), int(count))
+    for number in releases:
+        world.releases = [int(number)] * len(world.releases)
+        world.yanks_last = [False] * len(world.releases)
+        world.chosen = [int(number) - 1] * len(world.releases)
     registry = registry_of(world)
     write(os.path.join(folder, "replies.json"), session(world, registry))
     write(os.path.join(folder, "checked.json"), registry.checked)
