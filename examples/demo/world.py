@@ -45,8 +45,8 @@ def reply(body):
 
 def session(world, registry):
     """The replies to a client that has kept nothing: for each package that the plan comes to, the update of its log, and
-    where the content of its release is, and the content."""
-    replies, met = [], []
+    where the content of its release is, and the content, where no release before had the same."""
+    replies, met, held = [], [], set()
     checkpoint = registry.checkpoint()
     operator, first = registry.published(proofs.OPERATOR_LOG)
 
@@ -64,10 +64,12 @@ def session(world, registry):
                 proofs.body(checkpoint),
                 proofs.body(proofs.page(False, [] if met[:-1] else first, {log: rows})),
                 proofs.body(registry.inclusion([operator[-1], places[-1]])),
-                proofs.body({"contentSources": {text(sha(content)): [{"type": "httpGet", "url": url}]}}),
-                proofs.b64(content),
             )
         )
+        if content not in held:
+            held.add(content)
+            sources = {text(sha(content)): [{"type": "httpGet", "url": url}]}
+            replies.extend(reply(body) for body in (proofs.body({"contentSources": sources}), proofs.b64(content)))
         for other in world.needs[index]:
             meet(other)
 
