@@ -29,7 +29,8 @@ impl<
     D: Decide,
     K: ContentReader,
 > Learner<L, R, C, N, V, D, K> {
-    /// The log of a package by an update, which begins with no log of it. It is kept from then on.
+    /// The log of a package by an update, which begins with no log of it. It is kept from then on, and the package counts as
+    /// updated under its registry. The pages that were asked for are no longer left.
     pub fn fetch_package(
         &mut self,
         alloc: Global,
@@ -56,7 +57,8 @@ impl<
         Ok(update.info)
     }
 
-    /// The logs of packages, each by an update as `fetch_package` makes it, one after the other.
+    /// The logs of packages, each by an update as `fetch_package` makes it, one after the other. A refusal leaves what was
+    /// updated before it kept.
     pub fn fetch_packages(
         &mut self,
         alloc: Global,
