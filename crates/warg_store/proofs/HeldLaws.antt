@@ -18,11 +18,11 @@ found_as_it_is (Ok (Some x)) e h = h
 found_as_it_is (Err error) e h = h
 
 -- the checkpoints alone changed
-pub after_checkpoint : (failing : Option After) (held now : Held) (r : Registry) (c : SignedCheckpoint) → SameEntries now.operators held.operators → SameEntries now.packages held.packages → AreAfterStore is_registry failing held.checkpoints r c now.checkpoints → IsAfterStore failing held (with_checkpoint held r) c now
-after_checkpoint None held now r c o p put = record { checkpoints = put; operators = o; packages = p }
-after_checkpoint (Some after.Old) held now r c o p put = record { checkpoints = put; operators = o; packages = p }
-after_checkpoint (Some after.New) held now r c o p put = record { checkpoints = put; operators = o; packages = p }
-after_checkpoint (Some after.Unreadable) held now r c o p put = record { checkpoints = put; operators = o; packages = p }
+pub after_checkpoint : (failing : Option After) (held now : Held) (r : Registry) (c : SignedCheckpoint) → SameEntries now.operators held.operators → SameEntries now.packages held.packages → now.publish ≡ held.publish → AreAfterStore is_registry failing held.checkpoints r c now.checkpoints → IsAfterStore failing held (with_checkpoint held r) c now
+after_checkpoint None held now r c o p same put = record { checkpoints = put; operators = o; packages = p; publish = same }
+after_checkpoint (Some after.Old) held now r c o p same put = record { checkpoints = put; operators = o; packages = p; publish = same }
+after_checkpoint (Some after.New) held now r c o p same put = record { checkpoints = put; operators = o; packages = p; publish = same }
+after_checkpoint (Some after.Unreadable) held now r c o p same put = record { checkpoints = put; operators = o; packages = p; publish = same }
 
 -- an answer that is no failure
 pub is_no_failure : {X : Type 0} (r : Result X StoreError) → has_store_failed r ≡ false → IsErrOf r error.Failed → ⊥
@@ -33,15 +33,15 @@ pub is_not_planned : {X : Type 0} (o : Option X) (b : Bool) → b ≡ false → 
 is_not_planned o b fine is some = true≢false (sym some ∙ (sym is ∙ fine))
 
 -- the logs of operators alone changed
-pub after_operator : (failing : Option After) (held now : Held) (k : Registry) (info : Info) → SameEntries now.checkpoints held.checkpoints → SameEntries now.packages held.packages → AreAfterStore is_registry failing held.operators k info now.operators → IsAfterStore failing held (with_operator held k) info now
-after_operator None held now k info c p put = record { checkpoints = c; operators = put; packages = p }
-after_operator (Some after.Old) held now k info c p put = record { checkpoints = c; operators = put; packages = p }
-after_operator (Some after.New) held now k info c p put = record { checkpoints = c; operators = put; packages = p }
-after_operator (Some after.Unreadable) held now k info c p put = record { checkpoints = c; operators = put; packages = p }
+pub after_operator : (failing : Option After) (held now : Held) (k : Registry) (info : Info) → SameEntries now.checkpoints held.checkpoints → SameEntries now.packages held.packages → now.publish ≡ held.publish → AreAfterStore is_registry failing held.operators k info now.operators → IsAfterStore failing held (with_operator held k) info now
+after_operator None held now k info c p same put = record { checkpoints = c; operators = put; packages = p; publish = same }
+after_operator (Some after.Old) held now k info c p same put = record { checkpoints = c; operators = put; packages = p; publish = same }
+after_operator (Some after.New) held now k info c p same put = record { checkpoints = c; operators = put; packages = p; publish = same }
+after_operator (Some after.Unreadable) held now k info c p same put = record { checkpoints = c; operators = put; packages = p; publish = same }
 
 -- the logs of packages alone changed
-pub after_package : (failing : Option After) (held now : Held) (k : Package) (info : NamedInfo) → SameEntries now.checkpoints held.checkpoints → SameEntries now.operators held.operators → AreAfterStore is_package failing held.packages k info now.packages → IsAfterStore failing held (with_package held k) info now
-after_package None held now k info c o put = record { checkpoints = c; operators = o; packages = put }
-after_package (Some after.Old) held now k info c o put = record { checkpoints = c; operators = o; packages = put }
-after_package (Some after.New) held now k info c o put = record { checkpoints = c; operators = o; packages = put }
-after_package (Some after.Unreadable) held now k info c o put = record { checkpoints = c; operators = o; packages = put }
+pub after_package : (failing : Option After) (held now : Held) (k : Package) (info : NamedInfo) → SameEntries now.checkpoints held.checkpoints → SameEntries now.operators held.operators → now.publish ≡ held.publish → AreAfterStore is_package failing held.packages k info now.packages → IsAfterStore failing held (with_package held k) info now
+after_package None held now k info c o same put = record { checkpoints = c; operators = o; packages = put; publish = same }
+after_package (Some after.Old) held now k info c o same put = record { checkpoints = c; operators = o; packages = put; publish = same }
+after_package (Some after.New) held now k info c o same put = record { checkpoints = c; operators = o; packages = put; publish = same }
+after_package (Some after.Unreadable) held now k info c o same put = record { checkpoints = c; operators = o; packages = put; publish = same }

@@ -3,8 +3,9 @@ use Rattle.std.proofs.Common.{◌≡◌, ◌&&◌, Bool, true, cond, Option, Som
 use Rattle.std.specs.Prelude.{bytes_eq}
 use Rattle.std.specs.Cmp.Lexicographic.{nat_list_eq_equiv}
 use Rattle.warg_exchange.specs.declared.checkpoint.SignedCheckpoint.{SignedCheckpoint}
+use Rattle.warg_publish.specs.Publish.{PlainPublishInfo}
 use Rattle.warg_store.specs.Entry.{Entry, Absent, Whole, Unreadable, SameEntries, with_entry, without_entries}
-use Rattle.warg_store.specs.Held.{Held, Info, NamedInfo, Registry, Package, SameHeld, Tells, is_registry, is_package, is_reset, with_checkpoint, with_operator, with_package, after_reset, entry_named}
+use Rattle.warg_store.specs.Held.{Held, Info, NamedInfo, Registry, Package, SameHeld, Tells, is_registry, is_package, is_reset, with_checkpoint, with_operator, with_package, with_publish, after_reset, entry_named}
 
 module _ {K X : Type 0} where
   -- one after the other
@@ -28,26 +29,32 @@ tells_same told held other h t = record {
     checkpoints = same_then _ _ _ t.same.checkpoints h.checkpoints;
     operators = same_then _ _ _ t.same.operators h.operators;
     packages = same_then _ _ _ t.same.packages h.packages;
+    publish = t.same.publish ∙ h.publish;
   };
 }
 
 pub same_checkpoint : (held other : Held) (r : Registry) (entry : Entry SignedCheckpoint) → SameHeld held other → SameHeld (with_checkpoint held r entry) (with_checkpoint other r entry)
 same_checkpoint held other r entry h =
-    record { checkpoints = same_with is_registry _ _ r entry h.checkpoints; operators = h.operators; packages = h.packages }
+    record { checkpoints = same_with is_registry _ _ r entry h.checkpoints; operators = h.operators; packages = h.packages; publish = h.publish }
 
 pub same_operator : (held other : Held) (r : Registry) (entry : Entry Info) → SameHeld held other → SameHeld (with_operator held r entry) (with_operator other r entry)
 same_operator held other r entry h =
-    record { checkpoints = h.checkpoints; operators = same_with is_registry _ _ r entry h.operators; packages = h.packages }
+    record { checkpoints = h.checkpoints; operators = same_with is_registry _ _ r entry h.operators; packages = h.packages; publish = h.publish }
 
 pub same_package : (held other : Held) (p : Package) (entry : Entry NamedInfo) → SameHeld held other → SameHeld (with_package held p entry) (with_package other p entry)
 same_package held other p entry h =
-    record { checkpoints = h.checkpoints; operators = h.operators; packages = same_with is_package _ _ p entry h.packages }
+    record { checkpoints = h.checkpoints; operators = h.operators; packages = same_with is_package _ _ p entry h.packages; publish = h.publish }
+
+pub same_publish : (held other : Held) (entry : Entry PlainPublishInfo) → SameHeld held other → SameHeld (with_publish held entry) (with_publish other entry)
+same_publish held other entry h =
+    record { checkpoints = h.checkpoints; operators = h.operators; packages = h.packages; publish = refl }
 
 pub same_reset : (all : Bool) (held other : Held) → SameHeld held other → SameHeld (after_reset all held) (after_reset all other)
 same_reset all held other h = record {
   checkpoints = same_without (is_reset all) _ _ h.checkpoints;
   operators = same_without (is_reset all) _ _ h.operators;
   packages = same_without (λ p. is_reset all p.0) _ _ h.packages;
+  publish = refl;
 }
 
 -- ---- keys are equal to themselves
@@ -67,6 +74,9 @@ operator_stands held r entry = stands is_registry held.operators r entry (own_re
 
 pub package_stands : (held : Held) (p : Package) (entry : Entry NamedInfo) → (with_package held p entry).packages p ≡ entry
 package_stands held p entry = stands is_package held.packages p entry (own_package p)
+
+pub publish_stands : (held : Held) (entry : Entry PlainPublishInfo) → (with_publish held entry).publish ≡ entry
+publish_stands held entry = refl
 
 pub named_stands : (kept : NamedInfo) → entry_named kept.name (Whole kept) ≡ Whole kept
 named_stands kept = ap (λ (b : Bool). cond b (Whole kept) Unreadable) (nat_list_eq_equiv.refl kept.name)

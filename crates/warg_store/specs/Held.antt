@@ -1,5 +1,6 @@
--- What is held of registries.
-use Rattle.std.specs.Prelude.{◌≡◌, ◌⊎◌, ◌||◌, ◌&&◌, not, ℕ, Bool, if◌then◌else◌, List, bytes_eq, Option, Some, is_some}
+-- What is held of registries, and of what is to be published.
+use Rattle.std.specs.Prelude.{◌≡◌, ◌⊎◌, ◌||◌, ◌&&◌, not, ℕ, Bool, if◌then◌else◌, List, bytes_eq, Option, Some, None, is_some}
+use Rattle.std.specs.List.{AllByRecursion}
 use Rattle.std.specs.Option.{option_eq}
 use Rattle.warg_exchange.specs.declared.checkpoint.Checkpoint.{Checkpoint}
 use Rattle.warg_exchange.specs.declared.checkpoint.SignedCheckpoint.{SignedCheckpoint}
@@ -8,6 +9,9 @@ use Rattle.warg_info.specs.declared.operator.OperatorInfo.{OperatorInfo}
 use Rattle.warg_info.specs.declared.package.PackageInfo.{PackageInfo}
 use Rattle.warg_info.specs.Info.{operator_log, package_log}
 use Rattle.warg_info.specs.Kept.{Kept}
+use Rattle.warg_publish.specs.declared.info.PublishInfo.{PublishInfo}
+use Rattle.warg_publish.specs.Publish.{PlainPublishInfo, IsPublishableEntry}
+use Rattle.warg_publish.specs.Shown.{info_view}
 use Rattle.warg_store.specs.Entry.{Entry, Absent, Whole, Unreadable, SameEntries, with_entry, without_entries, ArePartlyGone}
 
 -- ---- keys
@@ -52,6 +56,10 @@ pub record NamedInfo : Type 0 where
 abbrev pub named_info : PackageInfo → NamedInfo
 named_info info = record { name = info.name; info = package_info info }
 
+-- what is to be published is sound where each of its entries can be published
+abbrev pub IsSoundPublish : PublishInfo → Type 0
+IsSoundPublish info = AllByRecursion IsPublishableEntry (info_view info).entries
+
 -- an entry as it stands for the package of a name: what has another name can't be read
 abbrev pub entry_named : List ℕ → Entry NamedInfo → Entry NamedInfo
 entry_named name Absent = Absent
@@ -60,19 +68,22 @@ entry_named name Unreadable = Unreadable
 
 -- ---- what is held
 
+-- entries of registries, and what is to be published
 pub record Held : Type 0 where
   pub checkpoints : Registry → Entry SignedCheckpoint
   pub operators : Registry → Entry Info
   pub packages : Package → Entry NamedInfo
+  pub publish : Entry PlainPublishInfo
 
 abbrev pub nothing : Held
-nothing = record { checkpoints = λ _. Absent; operators = λ _. Absent; packages = λ _. Absent }
+nothing = record { checkpoints = λ _. Absent; operators = λ _. Absent; packages = λ _. Absent; publish = Absent }
 
 -- the same entries
 pub record SameHeld (now held : Held) : Type 0 where
   pub checkpoints : SameEntries now.checkpoints held.checkpoints
   pub operators : SameEntries now.operators held.operators
   pub packages : SameEntries now.packages held.packages
+  pub publish : now.publish ≡ held.publish
 
 abbrev pub with_checkpoint : Held → Registry → Entry SignedCheckpoint → Held
 with_checkpoint held r entry = record held { checkpoints = with_entry is_registry held.checkpoints r entry }
@@ -83,17 +94,22 @@ with_operator held r entry = record held { operators = with_entry is_registry he
 abbrev pub with_package : Held → Package → Entry NamedInfo → Held
 with_package held p entry = record held { packages = with_entry is_package held.packages p entry }
 
+abbrev pub with_publish : Held → Entry PlainPublishInfo → Held
+with_publish held entry = record held { publish = entry }
+
 -- ---- resets
 
 -- whether a reset, of all registries or of the home registry alone, takes away what is held of a registry
 abbrev pub is_reset : Bool → Registry → Bool
 is_reset all r = all || not (is_some r)
 
+-- what is to be published is taken away by either reset
 abbrev pub after_reset : Bool → Held → Held
 after_reset all held = record {
   checkpoints = without_entries (is_reset all) held.checkpoints;
   operators = without_entries (is_reset all) held.operators;
   packages = without_entries (λ p. is_reset all p.0) held.packages;
+  publish = Absent;
 }
 
 -- what a refused reset leaves
@@ -101,6 +117,7 @@ pub record IsPartlyReset (all : Bool) (held now : Held) : Type 0 where
   pub checkpoints : ArePartlyGone (is_reset all) held.checkpoints now.checkpoints
   pub operators : ArePartlyGone (is_reset all) held.operators now.operators
   pub packages : ArePartlyGone (λ p. is_reset all p.0) held.packages now.packages
+  pub publish : (now.publish ≡ held.publish) ⊎ (now.publish ≡ Absent)
 
 -- ---- what a store tells
 
@@ -113,6 +130,12 @@ pub record Tells (told : Option Held) (held : Held) : Type 0 where
 -- a refused store of a value leaves what was held; or in the entry the value; or in the entry what can't be read
 abbrev pub LeavesStore : {X : Type 0} → Option Held → Held → (Entry X → Held) → X → Type 0
 LeavesStore told held with_it x = Tells told held ⊎ Tells told (with_it (Whole x)) ⊎ Tells told (with_it Unreadable)
+
+-- a refused store of what is to be published leaves what was held; or the info, or what can't be read; or nothing, where
+-- the entry was to be taken away
+abbrev pub LeavesPublish : Option Held → Held → Option PlainPublishInfo → Type 0
+LeavesPublish told held None = Tells told held ⊎ Tells told (with_publish held Absent)
+LeavesPublish told held (Some info) = LeavesStore told held (with_publish held) info
 
 -- what a refused reset leaves
 abbrev pub LeavesReset : Option Held → Bool → Held → Type 0

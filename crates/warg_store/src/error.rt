@@ -17,6 +17,8 @@ pub enum EntryKind {
     Operator,
     /// The log of a package.
     Package,
+    /// What is to be published.
+    Publish,
     /// The names of the registries of namespaces.
     Namespaces,
 }

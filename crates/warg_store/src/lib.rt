@@ -1,5 +1,5 @@
-//! What a client keeps of registries: checkpoints, logs, contents and the registries of namespaces, in stores that tell
-//! what they hold.
+//! What a client keeps: checkpoints and logs of registries, what is to be published, contents, and the registries of
+//! namespaces, in stores that tell what they hold.
 #![tactic(auto)]
 
 mod after;
@@ -10,6 +10,7 @@ mod memory_content;
 mod memory_namespaces;
 mod memory_registry;
 mod namespaces;
+mod one_slot;
 mod registry;
 mod resets;
 mod schedule;

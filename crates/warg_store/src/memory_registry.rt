@@ -1,15 +1,17 @@
-//! What a client keeps of registries, in memory.
+//! What a client keeps of registries and of what is to be published, in memory.
 
 ghost use Rattle.std.specs.Prelude.{◌≡◌, ◌≤◌, ◌++◌, ◌∷◌, ◌↔◌, [], ℕ, false, Some, None, IfOk, IfErr, IfSome, IsSomeAnd, IsSome, IsErrOf, OnOk, OnErr, option_copied, option_map};
 ghost use Rattle.warg_info.specs.Info.{IsSoundOperator, IsSoundPackage};
+ghost use Rattle.warg_publish.specs.Shown.{info_view};
 ghost use Rattle.warg_store.specs.Entry.{Whole, entry_of, IsLoadFault, IsStoreFault};
 ghost use Rattle.warg_store.specs.Faults.{planned, after_call, has_store_failed};
-ghost use Rattle.warg_store.specs.Held.{Tells, SameHeld, nothing, LeavesStore, LeavesReset, after_reset, entry_named, is_package, named_info, operator_info, package_key, with_checkpoint, with_operator, with_package};
+ghost use Rattle.warg_store.specs.Held.{IsSoundPublish, Tells, SameHeld, nothing, LeavesPublish, LeavesReset, LeavesStore, after_reset, entry_named, is_package, named_info, operator_info, package_key, with_checkpoint, with_operator, with_package, with_publish};
 ghost use Rattle.warg_store.specs.Slots.{entries_in};
-ghost use Rattle.warg_store.specs.Memory.{held_in, schedule_in, IsAfterStore, IsAfterReset};
+ghost use Rattle.warg_store.specs.Memory.{held_in, schedule_in, IsAfterPublish, IsAfterReset, IsAfterStore};
 
 use crate::after::After;
 use crate::error::{EntryKind, StoreError};
+use crate::one_slot::OneSlot;
 use crate::registry::RegistryStorage;
 use crate::resets::{reset_packages, reset_registries};
 use crate::schedule::StoreSchedule;
@@ -19,15 +21,17 @@ use std::alloc::Global;
 use warg_exchange::SignedCheckpoint;
 use warg_hash::{LogId, PackageName};
 use warg_info::{OperatorInfo, PackageInfo};
+use warg_publish::PublishInfo;
 use warg_url::RegistryDomain;
 use warg_values::Memory;
 
-/// What a client keeps of registries, in memory. It tells what it holds.
+/// What a client keeps of registries and of what is to be published, in memory. It tells what it holds.
 #[derive(Debug, Drop)]
 pub struct MemoryRegistry {
     checkpoints: SlotMap<Option<RegistryDomain>, SignedCheckpoint>,
     operators: SlotMap<Option<RegistryDomain>, OperatorInfo>,
     packages: SlotMap<(Option<RegistryDomain>, LogId), PackageInfo>,
+    publish: OneSlot<PublishInfo>,
     schedule: StoreSchedule,
 }
 
@@ -53,6 +57,20 @@ fn log_key(
     ensures { IfOk result (λ key. key ≡ package_key (option_copied registry.entry) name.now) }
 {
     Ok((key_of(alloc, registry)?, LogId::package_log(name)))
+}
+
+/// A copy of what is to be published, where there is an info.
+fn publish_copy(
+    alloc: Global,
+    info: Option<&PublishInfo>,
+) -> Result<Option<Sound<PublishInfo>>, Memory>
+    requires { IfSome (option_copied info) IsSoundPublish }
+    ensures { IfOk result (λ copy. option_map info_view copy ≡ option_map info_view (option_copied info.entry)) }
+{
+    match info {
+        Some(info) => Ok(Some(Sound::copy_of(alloc, info)?)),
+        None => Ok(None),
+    }
 }
 
 /// A copy of the log of a package, where the one under its key has its name.
@@ -87,6 +105,7 @@ impl MemoryRegistry {
             checkpoints: SlotMap::new(alloc),
             operators: SlotMap::new(alloc),
             packages: SlotMap::new(alloc),
+            publish: OneSlot::new(),
             schedule: StoreSchedule::new(alloc),
         }
     }
@@ -118,6 +137,7 @@ impl MemoryRegistry {
                 reset_registries(&mut self.checkpoints, all_registries);
                 reset_registries(&mut self.operators, all_registries);
                 reset_packages(&mut self.packages, all_registries);
+                self.publish.put(None, None);
             }
             Some(After::Old | After::Unreadable) => {}
         }
@@ -179,6 +199,25 @@ impl MemoryRegistry {
         let key = log_key(alloc, registry, &info.name)?;
         let info = Sound::copy_of(alloc, info)?;
         self.packages.put(key, info, failing)
+    }
+
+    /// Keeps what is to be published, or takes it away, or leaves what a call that is to fail leaves. A refusal changes
+    /// nothing.
+    fn put_publish(
+        &mut self,
+        alloc: Global,
+        info: Option<&PublishInfo>,
+        failing: Option<After>,
+    ) -> Result<(), Memory>
+        requires { IfSome (option_copied info) IsSoundPublish }
+        ensures put { OnOk result (IsAfterPublish failing (held_in self.old)
+            (option_map info_view (option_copied info.entry)) (held_in self.new)) }
+        ensures unchanged { OnErr result (SameHeld (held_in self.new) (held_in self.old)) }
+        ensures schedule { schedule_in self.new ≡ schedule_in self.old }
+    {
+        let info = publish_copy(alloc, info)?;
+        self.publish.put(info, failing);
+        Ok(())
     }
 }
 
@@ -344,6 +383,42 @@ impl RegistryStorage for MemoryRegistry {
     {
         let failing = self.schedule.planned();
         let done = self.put_package(alloc, registry, info, failing);
+        self.schedule.finish(failing, done)
+    }
+
+    fn load_publish(&mut self, alloc: Global) -> Result<Option<PublishInfo>, StoreError>
+        ensures never_falls { (schedule_in self.old).faults ≤ (schedule_in self.new).faults }
+        ensures kept { Tells (Some (held_in self.new)) (held_in self.old) }
+        ensures found { IfOk result (λ o. (held_in self.old).publish ≡ entry_of (option_map info_view o)) }
+        ensures publishable { IfOk result (λ o. IfSome o IsSoundPublish) }
+        ensures fault { IfErr result (λ e. IsLoadFault e EntryKind.Publish (schedule_in self.old).faults
+            (schedule_in self.new).faults (Some (held_in self.old).publish)) }
+        ensures failed { IsErrOf result StoreError.Failed ↔ IsSome (planned (schedule_in self.old)) }
+        ensures scheduled { schedule_in self.new ≡ after_call (schedule_in self.old) (has_store_failed result) }
+    {
+        if self.schedule.fails_now() {
+            return Err(StoreError::Failed);
+        }
+        self.publish.load(alloc, EntryKind::Publish)
+    }
+
+    fn store_publish(&mut self, alloc: Global, info: Option<&PublishInfo>) -> Result<(), StoreError>
+        requires { IfSome (option_copied info) IsSoundPublish }
+        ensures never_falls { (schedule_in self.old).faults ≤ (schedule_in self.new).faults }
+        ensures stored { OnOk result (Tells (Some (held_in self.new))
+            (with_publish (held_in self.old) (entry_of (option_map info_view (option_copied info.entry))))) }
+        ensures refused { OnErr result (LeavesPublish (Some (held_in self.new)) (held_in self.old)
+            (option_map info_view (option_copied info.entry))) }
+        ensures fault { IfErr result (λ e. IsStoreFault e (schedule_in self.old).faults (schedule_in self.new).faults) }
+        ensures left { IsErrOf result StoreError.Failed → IsSomeAnd (planned (schedule_in self.old)) (λ after.
+            IsAfterPublish (Some after) (held_in self.old) (option_map info_view (option_copied info.entry))
+            (held_in self.new)) }
+        ensures unchanged { IsErrOf result StoreError.Memory → SameHeld (held_in self.new) (held_in self.old) }
+        ensures unplanned { OnOk result (planned (schedule_in self.old) ≡ None) }
+        ensures scheduled { schedule_in self.new ≡ after_call (schedule_in self.old) (has_store_failed result) }
+    {
+        let failing = self.schedule.planned();
+        let done = self.put_publish(alloc, info, failing);
         self.schedule.finish(failing, done)
     }
 }

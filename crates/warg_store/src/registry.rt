@@ -1,18 +1,20 @@
-//! What a client keeps of registries, as stores give and take it.
+//! What a client keeps of registries and of what is to be published, as stores give and take it.
 
 ghost use Rattle.std.specs.Prelude.{◌≡◌, ◌≤◌, ℕ, Option, IfOk, IfErr, IfSome, OnOk, OnErr, option_copied, option_map};
+ghost use Rattle.warg_publish.specs.Shown.{info_view};
 ghost use Rattle.warg_info.specs.Info.{IsSoundOperator, IsSoundPackage};
 ghost use Rattle.warg_store.specs.Entry.{Whole, entry_of, IsLoadFault, IsStoreFault};
-ghost use Rattle.warg_store.specs.Held.{Held, Tells, LeavesStore, LeavesReset, after_reset, entry_named, named_info, operator_info, package_key, with_checkpoint, with_operator, with_package};
+ghost use Rattle.warg_store.specs.Held.{Held, IsSoundPublish, Tells, LeavesPublish, LeavesReset, LeavesStore, after_reset, entry_named, named_info, operator_info, package_key, with_checkpoint, with_operator, with_package, with_publish};
 
 use crate::error::{EntryKind, StoreError};
 use std::alloc::Global;
 use warg_exchange::SignedCheckpoint;
 use warg_hash::PackageName;
 use warg_info::{OperatorInfo, PackageInfo};
+use warg_publish::PublishInfo;
 use warg_url::RegistryDomain;
 
-/// Keeps checkpoints and logs of registries. The home registry is the one without a name.
+/// Keeps checkpoints and logs of registries, and what is to be published. The home registry is the one without a name.
 ///
 /// An implementation in memory tells which entries there are, and each has a count of faults, by which a caller knows
 /// that the outside failed.
@@ -23,8 +25,8 @@ pub trait RegistryStorage: Drop {
     /// What is held, where the object tells it.
     ghost told: { Self → Option Held };
 
-    /// Takes away what is kept of the home registry, or of all registries. A refusal leaves each of these entries as it
-    /// was, or none.
+    /// Takes away what is kept of the home registry, or of all registries, and what is to be published. A refusal leaves
+    /// each of these entries as it was, or none.
     fn reset(&mut self, alloc: Global, all_registries: bool) -> Result<(), StoreError>
         ensures never_falls { faults self.old ≤ faults self.new }
         ensures reset { OnOk result (IfSome (told self.old) (λ held.
@@ -121,5 +123,26 @@ pub trait RegistryStorage: Drop {
             (package_key (option_copied registry.entry) info.now.name) (Whole (named_info info.now))))) }
         ensures refused { OnErr result (IfSome (told self.old) (λ held. LeavesStore (told self.new) held
             (with_package held (package_key (option_copied registry.entry) info.now.name)) (named_info info.now))) }
+        ensures fault { IfErr result (λ e. IsStoreFault e (faults self.old) (faults self.new)) };
+
+    /// What is to be published. Each of its entries can be.
+    fn load_publish(&mut self, alloc: Global) -> Result<Option<PublishInfo>, StoreError>
+        ensures never_falls { faults self.old ≤ faults self.new }
+        ensures kept { IfSome (told self.old) (Tells (told self.new)) }
+        ensures found { IfOk result (λ o. IfSome (told self.old) (λ held.
+            held.publish ≡ entry_of (option_map info_view o))) }
+        ensures publishable { IfOk result (λ o. IfSome o IsSoundPublish) }
+        ensures fault { IfErr result (λ e. IsLoadFault e EntryKind.Publish (faults self.old) (faults self.new)
+            (option_map (λ held. held.publish) (told self.old))) };
+
+    /// Keeps what is to be published, or takes it away. A refusal leaves what was kept, what was to be, or, where there
+    /// is an info, what can't be read.
+    fn store_publish(&mut self, alloc: Global, info: Option<&PublishInfo>) -> Result<(), StoreError>
+        requires { IfSome (option_copied info) IsSoundPublish }
+        ensures never_falls { faults self.old ≤ faults self.new }
+        ensures stored { OnOk result (IfSome (told self.old) (λ held. Tells (told self.new)
+            (with_publish held (entry_of (option_map info_view (option_copied info.entry)))))) }
+        ensures refused { OnErr result (IfSome (told self.old) (λ held.
+            LeavesPublish (told self.new) held (option_map info_view (option_copied info.entry)))) }
         ensures fault { IfErr result (λ e. IsStoreFault e (faults self.old) (faults self.new)) };
 }

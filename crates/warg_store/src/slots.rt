@@ -1,6 +1,6 @@
 //! Slots in memory: for each key a value, or what can't be read.
 
-ghost use Rattle.std.specs.Prelude.{◌≡◌, ℕ, false, Some, IfOk, IfErr, IfSome, OnOk, OnErr, option_map};
+ghost use Rattle.std.specs.Prelude.{◌≡◌, ℕ, false, Some, IfOk, IfErr, IfSome, OnOk, OnErr, option_copied, option_map};
 ghost use Rattle.warg_store.specs.Entry.{Absent, SameEntries, with_entry, entry_of, IsLoadFault};
 ghost use Rattle.warg_store.specs.Faults.{has_store_failed};
 ghost use Rattle.warg_store.specs.Slots.{slot_entry, entries_in, AreAfterStore};
@@ -20,6 +20,25 @@ pub enum Slot<T: Stored> {
     Whole(Sound<T>),
     /// What can't be read.
     Unreadable,
+}
+
+/// A copy of the value of a slot, where there is one.
+pub fn value_in<T: Stored>(
+    alloc: Global,
+    kind: EntryKind,
+    slot: Option<&Slot<T>>,
+) -> Result<Option<T>, StoreError>
+    ensures found { IfOk result (λ o. slot_entry T.seen (option_copied slot.entry) ≡ entry_of (option_map T.seen o)) }
+    ensures sound { IfOk result (λ o. IfSome o T.IsSound) }
+    ensures fault { (before after : ℕ) → IfErr result (λ e. IsLoadFault e kind before after
+        (Some (slot_entry T.seen (option_copied slot.entry)))) }
+    ensures no_failure { has_store_failed result ≡ false }
+{
+    match slot {
+        None => Ok(None),
+        Some(Slot::Whole(value)) => Ok(Some(value.copy(alloc)?)),
+        Some(Slot::Unreadable) => Err(StoreError::Damaged(kind)),
+    }
 }
 
 /// What is kept of one kind of entry, by its key.
@@ -47,11 +66,7 @@ impl<K: Eq + Hash + Drop, T: Stored> SlotMap<K, T> {
             (Some (entries_in K.eq T.seen self.now key.now))) }
         ensures no_failure { has_store_failed result ≡ false }
     {
-        match self.slots.get(key) {
-            None => Ok(None),
-            Some(Slot::Whole(value)) => Ok(Some(value.copy(alloc)?)),
-            Some(Slot::Unreadable) => Err(StoreError::Damaged(kind)),
-        }
+        value_in(alloc, kind, self.slots.get(key))
     }
 
     /// Has a slot under a key. A refusal changes nothing.

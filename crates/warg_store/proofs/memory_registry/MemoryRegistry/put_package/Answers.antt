@@ -5,4 +5,4 @@ use Rattle.warg_store.proofs.memory_registry.MemoryRegistry.put_package.Goals as
 
 pub returns-clause-put : goal.returns-clause-put
 returns-clause-put c =
-    rw (← c.in_ok-key.ensures, ← c.in_ok-info.ensures) (on_ok_weaker c.put.result (after_package _ _ _ _ _ (λ _. refl) (λ _. refl)) c.put.ensures.put)
+    rw (← c.in_ok-key.ensures, ← c.in_ok-info.ensures) (on_ok_weaker c.put.result (after_package _ _ _ _ _ (λ _. refl) (λ _. refl) refl) c.put.ensures.put)
