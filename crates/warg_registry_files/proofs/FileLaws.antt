@@ -1,7 +1,7 @@
 -- What is held of registries, after a file was written.
 use Rattle.std.proofs.Common.{◌≡◌, ◌<◌, ◌≤◌, ℕ, Bool, true, false, true≢false, cond, List, length, take, bytes_eq, Option, Some, None, IfSome, Result, Ok, Err, OnErr, option_map, refl, sym, ap, subst, ◌∙◌, ◌⊎◌, inl, inr}
 use Rattle.std.specs.Option.{option_map_or}
-use Rattle.std.specs.Cmp.Lexicographic.{nat_list_cmp_total}
+use Rattle.std.specs.Cmp.Lexicographic.{nat_list_cmp_total, nat_list_eq_equiv}
 use Rattle.std.specs.FinMap as map
 use Rattle.std.proofs.lemmas.Bool.{cases_Bool, cases_lt}
 use Rattle.std.proofs.lemmas.List.{take_all}
@@ -9,10 +9,11 @@ use Rattle.std.proofs.lemmas.Map.Text.{is_eq-slice_cmp}
 use Rattle.warg_base.specs.Files.{FileMap, LeavesPartlyWritten, file_at, with_file}
 use Rattle.warg_info_text.specs.StoredTexts.{checkpoint_of, operator_of}
 use Rattle.warg_store.specs.Entry.{Entry, Absent, Whole, Unreadable, SameEntries, with_entry}
-use Rattle.warg_store.specs.Held.{Held, LeavesStore, Package, Registry, SameHeld, Tells, is_package, is_registry, with_checkpoint, with_operator, with_package}
-use Rattle.warg_registry_files.specs.Paths.{Place, checkpoint_path, has_slash, is_log, is_named, operator_path, package_path}
+use Rattle.warg_publish_text.specs.PublishText.{publish_of}
+use Rattle.warg_store.specs.Held.{Held, LeavesStore, Package, Registry, SameHeld, Tells, is_package, is_registry, with_checkpoint, with_operator, with_package, with_publish}
+use Rattle.warg_registry_files.specs.Paths.{Place, checkpoint_path, has_slash, is_log, is_named, operator_path, package_path, publish_path}
 use Rattle.warg_registry_files.specs.RegistryFiles.{entry_by, held_in, package_with_id}
-use Rattle.warg_registry_files.proofs.KeyLaws.{checkpoint_no_operator, checkpoint_no_package, checkpoints_apart, key_package, key_registry, operator_no_checkpoint, operator_no_package, operators_apart, package_no_checkpoint, package_no_operator, packages_apart}
+use Rattle.warg_registry_files.proofs.KeyLaws.{checkpoint_no_operator, checkpoint_no_package, checkpoint_no_publish, checkpoints_apart, key_package, key_registry, operator_no_checkpoint, operator_no_package, operator_no_publish, operators_apart, package_no_checkpoint, package_no_operator, package_no_publish, packages_apart, publish_no_checkpoint, publish_no_operator, publish_no_package}
 
 -- the file at a path, after a write
 file_after : (files : FileMap) (path bytes q : List ℕ) → file_at (with_file files path bytes) q ≡ cond (bytes_eq q path) (Some bytes) (file_at files q)
@@ -60,6 +61,11 @@ module _ {K X : Type 0} (named : K → Bool) (is_key : K → K → Bool) (path :
 
 -- ---- what is held, after a file of an entry was written
 
+-- what is to be published, where another file was written
+publish_elsewhere : (place : Place) (files : FileMap) (at text : List ℕ) → bytes_eq (publish_path place) at ≡ false → entry_by publish_of (file_at (with_file files at text) (publish_path place)) ≡ entry_by publish_of (file_at files (publish_path place))
+publish_elsewhere place files at text apart =
+    ap (entry_by publish_of) (file_after files at text (publish_path place) ∙ ap (λ (b : Bool). cond b (Some text) (file_at files (publish_path place))) apart)
+
 module _ (place : Place) (single : has_slash place.own ≡ false) where
   pub checkpoint_written : (r : Registry) → is_named r ≡ true → (files : FileMap) (text : List ℕ)
       → SameHeld (held_in place (with_file files (checkpoint_path place r) text)) (with_checkpoint (held_in place files) r (entry_by checkpoint_of (Some text)))
@@ -67,6 +73,7 @@ module _ (place : Place) (single : has_slash place.own ≡ false) where
     checkpoints = written_here is_named is_registry (checkpoint_path place) (λ _. checkpoint_of) files r text named (λ k of_k. checkpoints_apart place single r k named of_k) (key_registry r);
     operators = written_elsewhere is_named is_registry (operator_path place) (λ _. operator_of) files (checkpoint_path place r) text (λ k of_k. operator_no_checkpoint place single k r);
     packages = written_elsewhere is_log is_package (package_path place) (λ p. package_with_id p.1) files (checkpoint_path place r) text (λ p of_p. package_no_checkpoint place single p r);
+    publish = publish_elsewhere place files (checkpoint_path place r) text (publish_no_checkpoint place single r);
   }
 
   pub operator_written : (r : Registry) → is_named r ≡ true → (files : FileMap) (text : List ℕ)
@@ -75,6 +82,7 @@ module _ (place : Place) (single : has_slash place.own ≡ false) where
     checkpoints = written_elsewhere is_named is_registry (checkpoint_path place) (λ _. checkpoint_of) files (operator_path place r) text (λ k of_k. checkpoint_no_operator place single k r);
     operators = written_here is_named is_registry (operator_path place) (λ _. operator_of) files r text named (λ k of_k. operators_apart place single r k named of_k) (key_registry r);
     packages = written_elsewhere is_log is_package (package_path place) (λ p. package_with_id p.1) files (operator_path place r) text (λ p of_p. package_no_operator place single p r);
+    publish = publish_elsewhere place files (operator_path place r) text (publish_no_operator place single r);
   }
 
   pub package_written : (p : Package) → is_log p ≡ true → (files : FileMap) (text : List ℕ)
@@ -83,6 +91,16 @@ module _ (place : Place) (single : has_slash place.own ≡ false) where
     checkpoints = written_elsewhere is_named is_registry (checkpoint_path place) (λ _. checkpoint_of) files (package_path place p) text (λ k of_k. checkpoint_no_package place single k p);
     operators = written_elsewhere is_named is_registry (operator_path place) (λ _. operator_of) files (package_path place p) text (λ k of_k. operator_no_package place single k p);
     packages = written_here is_log is_package (package_path place) (λ q. package_with_id q.1) files p text named (λ q of_q. packages_apart place single p q named of_q) (key_package p);
+    publish = publish_elsewhere place files (package_path place p) text (publish_no_package place single p);
+  }
+
+  pub publish_written : (files : FileMap) (text : List ℕ)
+      → SameHeld (held_in place (with_file files (publish_path place) text)) (with_publish (held_in place files) (entry_by publish_of (Some text)))
+  publish_written files text = record {
+    checkpoints = written_elsewhere is_named is_registry (checkpoint_path place) (λ _. checkpoint_of) files (publish_path place) text (λ k of_k. checkpoint_no_publish place single k);
+    operators = written_elsewhere is_named is_registry (operator_path place) (λ _. operator_of) files (publish_path place) text (λ k of_k. operator_no_publish place single k);
+    packages = written_elsewhere is_log is_package (package_path place) (λ p. package_with_id p.1) files (publish_path place) text (λ p of_p. package_no_publish place single p);
+    publish = ap (entry_by publish_of) (file_after files (publish_path place) text (publish_path place) ∙ ap (λ (b : Bool). cond b (Some text) (file_at files (publish_path place))) (nat_list_eq_equiv.refl (publish_path place)));
   }
 
 -- ---- what a store tells
@@ -93,7 +111,7 @@ pub record IsWritten {X : Type 0} (read : List ℕ → Option X) (text : List �
   pub front : (n : ℕ) → n < length text → read (take n text) ≡ None
 
 same_held : (held : Held) → SameHeld held held
-same_held held = record { checkpoints = λ k. refl; operators = λ k. refl; packages = λ k. refl }
+same_held held = record { checkpoints = λ k. refl; operators = λ k. refl; packages = λ k. refl; publish = refl }
 
 -- a store whose files are as they were
 pub told_still : (place after : Place) (old new : Option FileMap) → after ≡ place → new ≡ old → IfSome (option_map (held_in place) old) (Tells (option_map (held_in after) new))

@@ -1,5 +1,5 @@
 -- Paths of what is kept: two are one only where their keys are.
-use Rattle.std.proofs.Common.{◌≡◌, ℕ, Bool, true, false, true≢false, ◌||◌, ◌&&◌, nat_eq, List, [], ◌∷◌, ◌++◌, codes, bytes_eq, Some, None, refl, sym, ap, subst, ◌∙◌, append_assoc, inl, inr}
+use Rattle.std.proofs.Common.{◌≡◌, ℕ, Bool, true, false, true≢false, ◌||◌, ◌&&◌, nat_eq, List, [], ◌∷◌, ◌++◌, get_or, codes, bytes_eq, Some, None, refl, sym, ap, subst, ◌∙◌, append_assoc, inl, inr}
 use Rattle.std.specs.Cmp.{both_ways}
 use Rattle.std.specs.Cmp.Lexicographic.{nat_list_eq_equiv}
 use Rattle.std.proofs.lemmas.Bool.{and_parts, cases_Bool}
@@ -8,7 +8,7 @@ use Rattle.std.proofs.lemmas.Slice.Eq.{bytes_eq-Decides}
 use Rattle.hex.specs.Hex.{encode_lower, decode_of}
 use Rattle.hex.proofs.HexLemmas.{decode_of-encode_lower, decode_of-same}
 use Rattle.warg_store.specs.Held.{Registry, Package, is_registry, is_package}
-use Rattle.warg_registry_files.specs.Paths.{Place, are_bytes, checkpoint_path, folder_name, folder_path, has_slash, is_log, is_named, operator_path, package_path}
+use Rattle.warg_registry_files.specs.Paths.{Place, are_bytes, checkpoint_path, folder_name, folder_path, has_slash, is_log, is_named, operator_path, package_path, publish_path}
 use Rattle.warg_registry_files.specs.Resets.{IsKept, is_entry, is_folder}
 use Rattle.warg_registry_files.proofs.PathLaws.{slash_in}
 use Rattle.warg_registry_files.proofs.FolderLaws.{bytes_by_test, folder_has_none, folders_apart}
@@ -144,6 +144,31 @@ module _ (place : Place) (single : has_slash place.own ≡ false) where
 
   pub operator_no_package : (a : Registry) (p : Package) → bytes_eq (operator_path place a) (package_path place p) ≡ false
   operator_no_package a p = ap (λ q. bytes_eq (operator_path place a) q) (package_at place p) ∙ other_name a p.0 (codes "operator.log") (log_name p.1) refl
+
+  pub publish_no_checkpoint : (b : Registry) → bytes_eq (publish_path place) (checkpoint_path place b) ≡ false
+  publish_no_checkpoint b = other_name None b (codes "pending-publish.json") (codes "checkpoint") refl
+
+  pub publish_no_operator : (b : Registry) → bytes_eq (publish_path place) (operator_path place b) ≡ false
+  publish_no_operator b = other_name None b (codes "pending-publish.json") (codes "operator.log") refl
+
+  pub publish_no_package : (p : Package) → bytes_eq (publish_path place) (package_path place p) ≡ false
+  publish_no_package p = ap (λ q. bytes_eq (publish_path place) q) (package_at place p) ∙ other_name None p.0 (codes "pending-publish.json") (log_name p.1) refl
+
+  pub checkpoint_no_publish : (a : Registry) → bytes_eq (checkpoint_path place a) (publish_path place) ≡ false
+  checkpoint_no_publish a = other_name a None (codes "checkpoint") (codes "pending-publish.json") refl
+
+  pub operator_no_publish : (a : Registry) → bytes_eq (operator_path place a) (publish_path place) ≡ false
+  operator_no_publish a = other_name a None (codes "operator.log") (codes "pending-publish.json") refl
+
+  pub package_no_publish : (p : Package) → bytes_eq (package_path place p) (publish_path place) ≡ false
+  package_no_publish p = ap (λ q. bytes_eq q (publish_path place)) (package_at place p) ∙ other_name p.0 None (log_name p.1) (codes "pending-publish.json") refl
+
+  -- what lies in a registry's folder, and has another second byte, is not at the path of what is to be published
+  pub apart_from_publish : (r : Registry) (rest entry : List ℕ) → nat_eq (get_or entry 1 0) 101 ≡ false → publish_path place ++ rest ≡ folder_path place r ++ 47 ∷ entry → ⊥
+  apart_from_publish r rest entry other e =
+      true≢false
+      (ap (λ l. nat_eq (get_or l 1 0) 101) (in_folders None r (codes "pending-publish.json" ++ rest) entry (sym (append_assoc (folder_path place None) (codes "/pending-publish.json") rest) ∙ e)).1
+      ∙ other)
 
 -- a key of its own is the same key
 pub key_registry : (a b : Registry) → is_registry a b ≡ true → a ≡ b

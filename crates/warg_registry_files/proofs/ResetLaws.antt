@@ -14,9 +14,10 @@ use Rattle.std.proofs.lemmas.Slice.Eq.{bytes_eq-Decides}
 use Rattle.hex.specs.Hex.{encode_lower}
 use Rattle.warg_base.specs.Files.{FileMap, LeavesPartlyRemoved, file_at, is_under, paths_under, without_path}
 use Rattle.warg_info_text.specs.StoredTexts.{checkpoint_of, operator_of}
+use Rattle.warg_publish_text.specs.PublishText.{publish_of}
 use Rattle.warg_store.specs.Entry.{Entry, Absent, ArePartlyGone, SameEntries, without_entries}
 use Rattle.warg_store.specs.Held.{LeavesReset, Package, Registry, Tells, after_reset, is_reset}
-use Rattle.warg_registry_files.specs.Paths.{Place, are_bytes, checkpoint_path, folder_name, folder_path, has_slash, is_log, is_named, operator_path, package_path, packages_path}
+use Rattle.warg_registry_files.specs.Paths.{Place, are_bytes, checkpoint_path, folder_name, folder_path, has_slash, is_log, is_named, operator_path, package_path, packages_path, publish_path}
 use Rattle.warg_registry_files.specs.RegistryFiles.{entry_by, held_in, package_with_id}
 use Rattle.warg_registry_files.specs.Resets.{HasNone, IsKept, IsPathOf, IsTaken, LeavesOthers, MayGo, is_at, is_entry}
 use Rattle.warg_registry_files.proofs.FolderLaws.{folder_has_none, folder_passes, no_other_home}
@@ -24,11 +25,11 @@ use Rattle.warg_registry_files.proofs.KeyLaws.{log_name, package_at, parts_in}
 
 -- ---- one removal
 
-one_path : (p q : List ℕ) → slice_cmp nat_cmp p q ≡ Equal → p ≡ q
+pub one_path : (p q : List ℕ) → slice_cmp nat_cmp p q ≡ Equal → p ≡ q
 one_path = slice_cmp-IsAntisymmetric nat_cmp-IsAntisymmetric
 
 -- the file at a path, once only some files are kept
-file_kept : (files : FileMap) (stays : List ℕ → Bool) (q : List ℕ) → file_at (map.retain_keys files stays) q ≡ cond (stays q) (file_at files q) None
+pub file_kept : (files : FileMap) (stays : List ℕ → Bool) (q : List ℕ) → file_at (map.retain_keys files stays) q ≡ cond (stays q) (file_at files q) None
 file_kept files stays q = map.get-retain_keys files stays q (λ x tie. ap stays (sym (one_path q x tie)))
 
 went : (t : Bool) (o : Option (List ℕ)) → (cond (not t) o None ≡ o) ⊎ ((t ≡ true) × (cond (not t) o None ≡ None))
@@ -119,7 +120,7 @@ at_parts path q true t same under e = ([], (bytes_eq-Decides q path).0 same ∙ 
 at_parts path q false true same under e = (47 ∷ drop (length (path ++ codes "/")) q, starts q (path ++ codes "/") under ∙ append_assoc path (codes "/") (drop (length (path ++ codes "/")) q))
 at_parts path q false false same under e = absurd (true≢false (sym e))
 
-what_is_at : (path q : List ℕ) → is_at path q ≡ true → (rest : List ℕ) × (q ≡ path ++ rest)
+pub what_is_at : (path q : List ℕ) → is_at path q ≡ true → (rest : List ℕ) × (q ≡ path ++ rest)
 what_is_at path q e = at_parts path q (bytes_eq q path) (is_under path q) refl refl e
 
 or_left : (a b : Bool) → a ≡ true → (a || b) ≡ true
@@ -141,13 +142,15 @@ under folder rest =
 
 at_log : (id : List ℕ) → is_entry (log_name id) ≡ true
 at_log id =
-    or_right (bytes_eq (log_name id) (codes "checkpoint")) (bytes_eq (log_name id) (codes "operator.log") || is_under (codes "package-logs") (log_name id))
-    (or_right (bytes_eq (log_name id) (codes "operator.log")) (is_under (codes "package-logs") (log_name id)) (under (codes "package-logs") (codes "sha256/" ++ encode_lower id)))
+    or_right (bytes_eq (log_name id) (codes "checkpoint")) (bytes_eq (log_name id) (codes "operator.log") || (bytes_eq (log_name id) (codes "pending-publish.json") || is_under (codes "package-logs") (log_name id)))
+    (or_right (bytes_eq (log_name id) (codes "operator.log")) (bytes_eq (log_name id) (codes "pending-publish.json") || is_under (codes "package-logs") (log_name id))
+    (or_right (bytes_eq (log_name id) (codes "pending-publish.json")) (is_under (codes "package-logs") (log_name id)) (under (codes "package-logs") (codes "sha256/" ++ encode_lower id))))
 
 pub path_kept : (place : Place) → has_slash place.own ≡ false → (r : Registry) (q : List ℕ) → is_named r ≡ true → IsPathOf place r q → IsKept place q
 path_kept place single r q named (inl e) = record { name = folder_name place.own r; entry = codes "checkpoint"; is = e; single = folder_has_none place.own r single; of_folder = folder_passes place.own r named; is_one = refl }
 path_kept place single r q named (inr (inl e)) = record { name = folder_name place.own r; entry = codes "operator.log"; is = e; single = folder_has_none place.own r single; of_folder = folder_passes place.own r named; is_one = refl }
-path_kept place single r q named (inr (inr (id, e))) =
+path_kept place single r q named (inr (inr (inl (home, e)))) = record { name = place.own; entry = codes "pending-publish.json"; is = e; single = single; of_folder = folder_passes place.own None refl; is_one = refl }
+path_kept place single r q named (inr (inr (inr (id, e)))) =
     record { name = folder_name place.own r; entry = log_name id; is = e ∙ package_at place (r, id); single = folder_has_none place.own r single; of_folder = folder_passes place.own r named; is_one = at_log id }
 
 kept_under : (place : Place) (q : List ℕ) → IsKept place q → is_under place.parent q ≡ true
@@ -264,29 +267,40 @@ log_at_home place id =
     split : folder_path place None ++ 47 ∷ log_name id ≡ (packages_path place None ++ codes "/") ++ tail_name id
     split = sym (append_assoc (packages_path place None) (codes "/") (tail_name id) ∙ append_assoc (folder_path place None) (codes "/package-logs") (codes "/" ++ tail_name id))
 
--- what is at three paths goes with them
-pub home_gone : (place : Place) (old t1 t2 new : Option FileMap) (p1 p2 p3 : List ℕ) → p1 ≡ checkpoint_path place None → p2 ≡ operator_path place None → p3 ≡ packages_path place None
-    → IfSome old (λ files. LeavesOthers t1 files (λ q. is_at p1 q ≡ true)) → IfSome t1 (λ files. LeavesOthers t2 files (λ q. is_at p2 q ≡ true)) → IfSome t2 (λ files. LeavesOthers new files (λ q. is_at p3 q ≡ true))
-    → IfSome old (λ _. IfSome t1 (λ now. (q : List ℕ) → is_at p1 q ≡ true → file_at now q ≡ None)) → IfSome t1 (λ _. IfSome t2 (λ now. (q : List ℕ) → is_at p2 q ≡ true → file_at now q ≡ None)) → IfSome t2 (λ _. IfSome new (λ now. (q : List ℕ) → is_at p3 q ≡ true → file_at now q ≡ None))
+-- what lies at a path
+abbrev pub At : List ℕ → List ℕ → Type 0
+At path q = is_at path q ≡ true
+
+-- is gone
+abbrev pub Gone : List ℕ → FileMap → Type 0
+Gone path now = (q : List ℕ) → At path q → file_at now q ≡ None
+
+-- what is at four paths goes with them
+pub home_gone : (place : Place) (old t1 t2 t3 new : Option FileMap) (p1 p2 p3 p4 : List ℕ) → p1 ≡ checkpoint_path place None → p2 ≡ operator_path place None → p3 ≡ publish_path place → p4 ≡ packages_path place None
+    → IfSome old (λ files. LeavesOthers t1 files (At p1)) → IfSome t1 (λ files. LeavesOthers t2 files (At p2)) → IfSome t2 (λ files. LeavesOthers t3 files (At p3)) → IfSome t3 (λ files. LeavesOthers new files (At p4))
+    → IfSome old (λ _. IfSome t1 (Gone p1)) → IfSome t1 (λ _. IfSome t2 (Gone p2)) → IfSome t2 (λ _. IfSome t3 (Gone p3)) → IfSome t3 (λ _. IfSome new (Gone p4))
     → IfSome old (λ _. IfSome new (HasNone place false))
-home_gone place None t1 t2 new p1 p2 p3 is1 is2 is3 o1 o2 o3 g1 g2 g3 = tt
-home_gone place (Some files) t1 t2 new p1 p2 p3 is1 is2 is3 o1 o2 o3 g1 g2 g3 =
-    let b : LeavesOthers t2 o1.now (λ q. is_at p2 q ≡ true) = if_some (λ f. LeavesOthers t2 f (λ q. is_at p2 q ≡ true)) t1 o1.now o1.tells o2 in
-    let c : LeavesOthers new b.now (λ q. is_at p3 q ≡ true) = if_some (λ f. LeavesOthers new f (λ q. is_at p3 q ≡ true)) t2 b.now b.tells o3 in
-    let h1 = if_some (λ now. (q : List ℕ) → is_at p1 q ≡ true → file_at now q ≡ None) t1 o1.now o1.tells g1 in
-    let h2 = if_some (λ now. (q : List ℕ) → is_at p2 q ≡ true → file_at now q ≡ None) t2 b.now b.tells (if_some (λ f. IfSome t2 (λ now. (q : List ℕ) → is_at p2 q ≡ true → file_at now q ≡ None)) t1 o1.now o1.tells g2) in
-    let h3 = if_some (λ now. (q : List ℕ) → is_at p3 q ≡ true → file_at now q ≡ None) new c.now c.tells (if_some (λ f. IfSome new (λ now. (q : List ℕ) → is_at p3 q ≡ true → file_at now q ≡ None)) t2 b.now b.tells g3) in
-    subst (λ (told : Option FileMap). IfSome told (HasNone place false)) (sym c.tells)
-    (λ r named reset q of_it. at_home c.now
-    (λ q e. none_still new b.now (λ q. is_at p3 q ≡ true) c q (none_still t2 o1.now (λ q. is_at p2 q ≡ true) b q (h1 q (subst (λ p. is_at p q ≡ true) (sym is1) e))))
-    (λ q e. none_still new b.now (λ q. is_at p3 q ≡ true) c q (h2 q (subst (λ p. is_at p q ≡ true) (sym is2) e)))
-    (λ q e. h3 q (subst (λ p. is_at p q ≡ true) (sym is3) e)) q (subst (λ (s : Registry). IsPathOf place s q) (home_reset r reset) of_it))
+home_gone place None t1 t2 t3 new p1 p2 p3 p4 is1 is2 is3 is4 o1 o2 o3 o4 g1 g2 g3 g4 = tt
+home_gone place (Some files) t1 t2 t3 new p1 p2 p3 p4 is1 is2 is3 is4 o1 o2 o3 o4 g1 g2 g3 g4 =
+    let b : LeavesOthers t2 o1.now (At p2) = if_some (λ f. LeavesOthers t2 f (At p2)) t1 o1.now o1.tells o2 in
+    let c : LeavesOthers t3 b.now (At p3) = if_some (λ f. LeavesOthers t3 f (At p3)) t2 b.now b.tells o3 in
+    let d : LeavesOthers new c.now (At p4) = if_some (λ f. LeavesOthers new f (At p4)) t3 c.now c.tells o4 in
+    let h1 : Gone p1 o1.now = if_some (Gone p1) t1 o1.now o1.tells g1 in
+    let h2 : Gone p2 b.now = if_some (Gone p2) t2 b.now b.tells (if_some (λ _. IfSome t2 (Gone p2)) t1 o1.now o1.tells g2) in
+    let h3 : Gone p3 c.now = if_some (Gone p3) t3 c.now c.tells (if_some (λ _. IfSome t3 (Gone p3)) t2 b.now b.tells g3) in
+    let h4 : Gone p4 d.now = if_some (Gone p4) new d.now d.tells (if_some (λ _. IfSome new (Gone p4)) t3 c.now c.tells g4) in
+    subst (λ (told : Option FileMap). IfSome told (HasNone place false)) (sym d.tells)
+    (λ r named reset q of_it. at_home d.now
+    (subst (λ p. Gone p d.now) is1 (λ q e. none_still new c.now (At p4) d q (none_still t3 b.now (At p3) c q (none_still t2 o1.now (At p2) b q (h1 q e)))))
+    (subst (λ p. Gone p d.now) is2 (λ q e. none_still new c.now (At p4) d q (none_still t3 b.now (At p3) c q (h2 q e))))
+    (subst (λ p. Gone p d.now) is3 (λ q e. none_still new c.now (At p4) d q (h3 q e)))
+    (subst (λ p. Gone p d.now) is4 h4) q (subst (λ (s : Registry). IsPathOf place s q) (home_reset r reset) of_it))
   where
-    at_home : (now : FileMap) → ((q : List ℕ) → is_at (checkpoint_path place None) q ≡ true → file_at now q ≡ None) → ((q : List ℕ) → is_at (operator_path place None) q ≡ true → file_at now q ≡ None) → ((q : List ℕ) → is_at (packages_path place None) q ≡ true → file_at now q ≡ None)
-        → (q : List ℕ) → IsPathOf place None q → file_at now q ≡ None
-    at_home now h1 h2 h3 q (inl e) = h1 q (subst (λ p. is_at (checkpoint_path place None) p ≡ true) (sym e) (at_itself (checkpoint_path place None)))
-    at_home now h1 h2 h3 q (inr (inl e)) = h2 q (subst (λ p. is_at (operator_path place None) p ≡ true) (sym e) (at_itself (operator_path place None)))
-    at_home now h1 h2 h3 q (inr (inr (id, e))) = h3 q (subst (λ p. is_at (packages_path place None) p ≡ true) (sym e) (log_at_home place id))
+    at_home : (now : FileMap) → Gone (checkpoint_path place None) now → Gone (operator_path place None) now → Gone (publish_path place) now → Gone (packages_path place None) now → (q : List ℕ) → IsPathOf place None q → file_at now q ≡ None
+    at_home now h1 h2 h3 h4 q (inl e) = h1 q (subst (λ p. At (checkpoint_path place None) p) (sym e) (at_itself (checkpoint_path place None)))
+    at_home now h1 h2 h3 h4 q (inr (inl e)) = h2 q (subst (λ p. At (operator_path place None) p) (sym e) (at_itself (operator_path place None)))
+    at_home now h1 h2 h3 h4 q (inr (inr (inl (home, e)))) = h3 q (subst (λ p. At (publish_path place) p) (sym e) (at_itself (publish_path place)))
+    at_home now h1 h2 h3 h4 q (inr (inr (inr (id, e)))) = h4 q (subst (λ p. At (packages_path place None) p) (sym e) (log_at_home place id))
 
 -- ---- what is held
 
@@ -294,13 +308,15 @@ home_gone place (Some files) t1 t2 new p1 p2 p3 is1 is2 is3 o1 o2 o3 g1 g2 g3 =
 in_folder : (place : Place) (r : Registry) (q : List ℕ) → IsPathOf place r q → (entry : List ℕ) × (q ≡ folder_path place r ++ 47 ∷ entry)
 in_folder place r q (inl e) = (codes "checkpoint", e)
 in_folder place r q (inr (inl e)) = (codes "operator.log", e)
-in_folder place r q (inr (inr (id, e))) = (log_name id, e ∙ package_at place (r, id))
+in_folder place r q (inr (inr (inl (home, e)))) = (codes "pending-publish.json", e ∙ ap (λ (s : Registry). folder_path place s ++ codes "/pending-publish.json") (sym home))
+in_folder place r q (inr (inr (inr (id, e)))) = (log_name id, e ∙ package_at place (r, id))
 
 -- a path that is taken of the home registry, in its folder
 home_path : (place : Place) (p rest : List ℕ) → IsTaken place false p → (entry : List ℕ) × (p ++ rest ≡ folder_path place None ++ 47 ∷ entry)
 home_path place p rest (inl e) = (codes "checkpoint" ++ rest, ap (λ l. l ++ rest) e ∙ append_assoc (folder_path place None) (codes "/checkpoint") rest)
 home_path place p rest (inr (inl e)) = (codes "operator.log" ++ rest, ap (λ l. l ++ rest) e ∙ append_assoc (folder_path place None) (codes "/operator.log") rest)
-home_path place p rest (inr (inr e)) = (codes "package-logs" ++ rest, ap (λ l. l ++ rest) e ∙ append_assoc (folder_path place None) (codes "/package-logs") rest)
+home_path place p rest (inr (inr (inl e))) = (codes "pending-publish.json" ++ rest, ap (λ l. l ++ rest) e ∙ append_assoc (folder_path place None) (codes "/pending-publish.json") rest)
+home_path place p rest (inr (inr (inr e))) = (codes "package-logs" ++ rest, ap (λ l. l ++ rest) e ∙ append_assoc (folder_path place None) (codes "/package-logs") rest)
 
 module _ (place : Place) (single : has_slash place.own ≡ false) where
   others_stay : (name q : List ℕ) → IsPathOf place (Some name) q → MayGo place false q → ⊥
@@ -375,6 +391,16 @@ module _ {K X : Type 0} (named : K → Bool) (path : K → List ℕ) (read : K �
 of_named : (p : Package) → is_log p ≡ true → is_named p.0 ≡ true
 of_named p e = (and_parts (is_named p.0) (are_bytes p.1) e).0
 
+-- a file that is as it was or gone, as what is to be published
+pub publish_partly : {P : Type 0} {now old : Option (List ℕ)} → (now ≡ old) ⊎ (P × (now ≡ None)) → (entry_by publish_of now ≡ entry_by publish_of old) ⊎ (entry_by publish_of now ≡ Absent)
+publish_partly (inl same) = inl (ap (entry_by publish_of) same)
+publish_partly (inr gone) = inr (ap (entry_by publish_of) gone.1)
+
+-- either reset is one of the home registry
+home_goes : (all : Bool) → is_reset all None ≡ true
+home_goes true = refl
+home_goes false = refl
+
 module _ (place after : Place) (stays : after ≡ place) (single : has_slash place.own ≡ false) (all : Bool) where
   tells_now : (new : Option FileMap) (now : FileMap) → new ≡ Some now → option_map (held_in after) new ≡ Some (held_in place now)
   tells_now new now tells = ap (λ (p : Place). option_map (held_in p) new) stays ∙ ap (option_map (held_in place)) tells
@@ -389,7 +415,8 @@ module _ (place after : Place) (stays : after ≡ place) (single : has_slash pla
         same = record {
           checkpoints = entries_left is_named (checkpoint_path place) (λ _. checkpoint_of) (is_reset all) files others.now (λ r named. file_left place single all new files others none r (checkpoint_path place r) named (inl refl));
           operators = entries_left is_named (operator_path place) (λ _. operator_of) (is_reset all) files others.now (λ r named. file_left place single all new files others none r (operator_path place r) named (inr (inl refl)));
-          packages = entries_left is_log (package_path place) (λ p. package_with_id p.1) (λ p. is_reset all p.0) files others.now (λ p named. file_left place single all new files others none p.0 (package_path place p) (of_named p named) (inr (inr (p.1, refl))));
+          packages = entries_left is_log (package_path place) (λ p. package_with_id p.1) (λ p. is_reset all p.0) files others.now (λ p named. file_left place single all new files others none p.0 (package_path place p) (of_named p named) (inr (inr (inr (p.1, refl)))));
+          publish = ap (entry_by publish_of) (none None refl (home_goes all) (publish_path place) (inr (inr (inl (refl, refl)))));
         };
       }
 
@@ -401,6 +428,7 @@ module _ (place after : Place) (stays : after ≡ place) (single : has_slash pla
     record {
       checkpoints = entries_partly is_named (checkpoint_path place) (λ _. checkpoint_of) (is_reset all) files others.now (λ r named. file_partly place single all new files others r (checkpoint_path place r) (inl refl));
       operators = entries_partly is_named (operator_path place) (λ _. operator_of) (is_reset all) files others.now (λ r named. file_partly place single all new files others r (operator_path place r) (inr (inl refl)));
-      packages = entries_partly is_log (package_path place) (λ p. package_with_id p.1) (λ p. is_reset all p.0) files others.now (λ p named. file_partly place single all new files others p.0 (package_path place p) (inr (inr (p.1, refl))));
+      packages = entries_partly is_log (package_path place) (λ p. package_with_id p.1) (λ p. is_reset all p.0) files others.now (λ p named. file_partly place single all new files others p.0 (package_path place p) (inr (inr (inr (p.1, refl)))));
+      publish = publish_partly (others.each (publish_path place));
     },
   )

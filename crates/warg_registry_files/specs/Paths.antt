@@ -95,6 +95,10 @@ checkpoint_path place r = folder_path place r ++ codes "/checkpoint"
 abbrev pub operator_path : Place → Registry → List ℕ
 operator_path place r = folder_path place r ++ codes "/operator.log"
 
+-- what is to be published, in the home registry's folder
+abbrev pub publish_path : Place → List ℕ
+publish_path place = folder_path place None ++ codes "/pending-publish.json"
+
 -- the folder of the packages' logs
 abbrev pub packages_path : Place → Registry → List ℕ
 packages_path place r = folder_path place r ++ codes "/package-logs"

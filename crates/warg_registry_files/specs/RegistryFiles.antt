@@ -1,12 +1,13 @@
--- What is held of registries where files stand.
+-- What is held of registries, and of what is to be published, where files stand.
 use Rattle.std.specs.Prelude.{List, ℕ, if◌then◌else◌, bytes_eq, Option, Some, None, option_and_then}
 use Rattle.std.specs.Option.{option_map_or}
 use Rattle.warg_base.specs.Files.{FileMap, file_at}
 use Rattle.warg_hash.specs.Hash.{package_log_id}
 use Rattle.warg_info_text.specs.StoredTexts.{checkpoint_of, operator_of, package_of}
+use Rattle.warg_publish_text.specs.PublishText.{publish_of}
 use Rattle.warg_store.specs.Entry.{Entry, Absent, Whole, Unreadable}
 use Rattle.warg_store.specs.Held.{Held, NamedInfo}
-use Rattle.warg_registry_files.specs.Paths.{Place, checkpoint_path, is_log, is_named, operator_path, package_path}
+use Rattle.warg_registry_files.specs.Paths.{Place, checkpoint_path, is_log, is_named, operator_path, package_path, publish_path}
 
 -- the entry of a file, which may be missing, whose bytes are read so
 abbrev pub entry_by : {X : Type 0} → (List ℕ → Option X) → Option (List ℕ) → Entry X
@@ -26,4 +27,5 @@ held_in place files = record {
   checkpoints = λ r. if is_named r then entry_by checkpoint_of (file_at files (checkpoint_path place r)) else Absent;
   operators = λ r. if is_named r then entry_by operator_of (file_at files (operator_path place r)) else Absent;
   packages = λ p. if is_log p then entry_by (package_with_id p.1) (file_at files (package_path place p)) else Absent;
+  publish = entry_by publish_of (file_at files (publish_path place));
 }

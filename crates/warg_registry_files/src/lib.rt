@@ -1,4 +1,4 @@
-//! What a client keeps of registries, in files.
+//! What a client keeps of registries and of what is to be published, in files.
 #![tactic(auto)]
 
 pub mod laws;

@@ -113,7 +113,10 @@ fn is_in_logs(path: &str) -> bool
 fn is_entry(path: &str) -> bool
     ensures { result ≡ is_entry_of path.now }
 {
-    path == "checkpoint" || path == "operator.log" || is_in_logs(path)
+    path == "checkpoint"
+        || path == "operator.log"
+        || path == "pending-publish.json"
+        || is_in_logs(path)
 }
 
 /// The name of the folder at a path without a slash.
@@ -145,7 +148,7 @@ fn parts(path: &str) -> Option<(&str, &str)>
 impl Place {
     ghost use Rattle.std.specs.Prelude.{◌≡◌, true, string_bytes, option_copied, IfOk};
     ghost use Rattle.warg_store.specs.Held.{Package, package_key};
-    ghost use Rattle.warg_registry_files.specs.Paths.{IsPlaceOf, is_log, is_named, folder_path as folder_path_of, checkpoint_path, operator_path, packages_path, package_path};
+    ghost use Rattle.warg_registry_files.specs.Paths.{IsPlaceOf, is_log, is_named, folder_path as folder_path_of, checkpoint_path, operator_path, packages_path, package_path, publish_path};
     ghost use Rattle.warg_registry_files.specs.Resets.{IsKept, is_folder};
     ghost use Rattle.warg_registry_files.specs.Shown.{place_view};
 
@@ -217,6 +220,15 @@ impl Place {
     {
         let mut path = self.folder_path(alloc, registry)?;
         path.push_str("/operator.log")?;
+        Ok(Text::new(path))
+    }
+
+    /// The path of what is to be published.
+    pub fn publish_path(&self, alloc: Global) -> Result<Text, Memory>
+        ensures { IfOk result (λ path. path ≡ publish_path (place_view self.now)) }
+    {
+        let mut path = self.folder_path(alloc, None)?;
+        path.push_str("/pending-publish.json")?;
         Ok(Text::new(path))
     }
 

@@ -1,17 +1,19 @@
-//! What is kept of registries, in files.
+//! What is kept of registries and of what is to be published, in files.
 
 ghost use Rattle.std.specs.Prelude.{◌≡◌, ◌≢◌, ◌≤◌, ℕ, true, false, List, Some, None, Ok, Err, IfOk, IfErr, IfSome, OnOk, OnErr, option_copied, option_map};
-ghost use Rattle.warg_base.specs.Files.{LeavesPartlyWritten, file_at, paths_under, with_file};
+ghost use Rattle.warg_base.specs.Files.{LeavesPartlyRemoved, LeavesPartlyWritten, file_at, paths_under, with_file, without_path};
 ghost use Rattle.warg_base.specs.declared.files.FileError.TheVariants.{Missing as is_missing, Failed as has_failed};
 ghost use Rattle.warg_values.specs.Faults.{Rose};
 ghost use Rattle.warg_locks.specs.declared.locks.LockError.TheVariants.{Failed as lock_failed};
 ghost use Rattle.warg_info.specs.Info.{IsSoundOperator, IsSoundPackage};
 ghost use Rattle.warg_info_text.specs.StoredTexts.{checkpoint_text, operator_text, package_text};
-ghost use Rattle.warg_store.specs.Entry.{Whole, entry_of, IsLoadFault, IsStoreFault};
-ghost use Rattle.warg_store.specs.Held.{LeavesReset, LeavesStore, Tells, after_reset, entry_named, named_info, operator_info, package_info, package_key, with_checkpoint, with_operator, with_package};
+ghost use Rattle.warg_publish.specs.Shown.{info_view};
+ghost use Rattle.warg_publish_text.specs.PublishText.{publish_text};
+ghost use Rattle.warg_store.specs.Entry.{Absent, Whole, entry_of, IsLoadFault, IsStoreFault};
+ghost use Rattle.warg_store.specs.Held.{IsSoundPublish, LeavesPublish, LeavesReset, LeavesStore, Tells, after_reset, entry_named, named_info, operator_info, package_info, package_key, with_checkpoint, with_operator, with_package, with_publish};
 ghost use Rattle.warg_store.specs.declared.error.StoreError.TheVariants.{Failed as store_failed, Memory as no_memory};
-ghost use Rattle.warg_registry_files.specs.Paths.{IsPlaceOf, checkpoint_path, lock_path, operator_path, package_path};
-ghost use Rattle.warg_registry_files.specs.Resets.{HasNone, IsKept, LeavesOthers, MayGo, is_at};
+ghost use Rattle.warg_registry_files.specs.Paths.{IsPlaceOf, checkpoint_path, lock_path, operator_path, package_path, publish_path};
+ghost use Rattle.warg_registry_files.specs.Resets.{HasNone, IsKept, LeavesOthers, LeavesPublishFile, MayGo, is_at, with_publish_file};
 ghost use Rattle.warg_registry_files.specs.Shown.{files_of, place_of, held_of, lock_of};
 
 use crate::paths::Place;
@@ -24,12 +26,15 @@ use warg_info_text::{
     read_checkpoint, read_operator, read_package, write_checkpoint, write_operator, write_package,
 };
 use warg_locks::{LockError, Locks};
+use warg_publish::PublishInfo;
+use warg_publish_text::{read_publish, write_publish};
 use warg_store::{EntryKind, RegistryStorage, StoreError};
 use warg_url::RegistryDomain;
 use warg_values::{Memory, Text};
 
-/// What is kept of registries in files: a folder for each registry, beside that of the home registry. Nothing else of
-/// the files is touched. It holds the lock that it was made with, until it is dropped.
+/// What is kept of registries in files: a folder for each registry, beside that of the home registry, which has what is
+/// to be published too. Nothing else of the files is touched. It holds the lock that it was made with, until it is
+/// dropped.
 #[derive(Drop)]
 pub struct FileSystemRegistryStorage<F, L> {
     files: F,
@@ -178,6 +183,10 @@ impl<F: Files + Drop, L: Drop> FileSystemRegistryStorage<F, L> {
         ensures gone { OnOk result (IfSome (F.told (files_of self.old)) (λ _.
             IfSome (F.told (files_of self.new)) (λ now.
             (q : List ℕ) → is_at path.now q ≡ true → file_at now q ≡ None))) }
+        ensures removed { OnOk result (IfSome (F.told (files_of self.old)) (λ files.
+            F.told (files_of self.new) ≡ Some (without_path files path.now))) }
+        ensures partly_removed { OnErr result (LeavesPartlyRemoved (F.told (files_of self.old))
+            (F.told (files_of self.new)) path.now) }
     {
         match self.files.remove(alloc, path.as_str()) {
             Ok(()) => Ok(()),
@@ -219,7 +228,7 @@ impl<F: Files + Drop, L: Drop> FileSystemRegistryStorage<F, L> {
         self.take(alloc, path)
     }
 
-    /// Takes away what is kept of all registries.
+    /// Takes away what is kept of all registries, and what is to be published.
     fn take_all(&mut self, alloc: Global) -> Result<(), StoreError>
         ensures never_falls { F.faults (files_of self.old) ≤ F.faults (files_of self.new) }
         ensures fault { IfErr result (λ e.
@@ -237,7 +246,7 @@ impl<F: Files + Drop, L: Drop> FileSystemRegistryStorage<F, L> {
         Ok(())
     }
 
-    /// Takes away what is kept of the home registry.
+    /// Takes away what is kept of the home registry, and what is to be published.
     fn take_home(&mut self, alloc: Global) -> Result<(), StoreError>
         ensures never_falls { F.faults (files_of self.old) ≤ F.faults (files_of self.new) }
         ensures fault { IfErr result (λ e.
@@ -250,13 +259,15 @@ impl<F: Files + Drop, L: Drop> FileSystemRegistryStorage<F, L> {
     {
         let checkpoint = self.place.checkpoint_path(alloc, None)?;
         let operator = self.place.operator_path(alloc, None)?;
+        let publish = self.place.publish_path(alloc)?;
         let packages = self.place.packages_path(alloc, None)?;
         self.take(alloc, &checkpoint)?;
         self.take(alloc, &operator)?;
+        self.take(alloc, &publish)?;
         self.take(alloc, &packages)
     }
 
-    /// Takes away what is kept of all registries, or of the home registry.
+    /// Takes away what is kept of all registries, or of the home registry, and what is to be published.
     fn take_away(&mut self, alloc: Global, all: bool) -> Result<(), StoreError>
         ensures never_falls { F.faults (files_of self.old) ≤ F.faults (files_of self.new) }
         ensures fault { IfErr result (λ e.
@@ -272,6 +283,47 @@ impl<F: Files + Drop, L: Drop> FileSystemRegistryStorage<F, L> {
         } else {
             self.take_home(alloc)
         }
+    }
+
+    /// Keeps what is to be published.
+    fn keep_publish(&mut self, alloc: Global, info: &PublishInfo) -> Result<(), StoreError>
+        requires { IsSoundPublish info.now }
+        ensures never_falls { F.faults (files_of self.old) ≤ F.faults (files_of self.new) }
+        ensures stored { OnOk result (IfSome (held_of F.told self.old) (λ held. Tells (held_of F.told self.new)
+            (with_publish held (Whole (info_view info.now))))) }
+        ensures refused { OnErr result (IfSome (held_of F.told self.old) (λ held. LeavesStore (held_of F.told self.new)
+            held (with_publish held) (info_view info.now))) }
+        ensures fault { IfErr result (λ e.
+            IsStoreFault e (F.faults (files_of self.old)) (F.faults (files_of self.new))) }
+        ensures place { place_of self.new ≡ place_of self.old }
+        ensures written { OnOk result (IfSome (F.told (files_of self.old)) (λ files. F.told (files_of self.new)
+            ≡ Some (with_file files (publish_path (place_of self.old)) (publish_text (info_view info.now))))) }
+        ensures partly_written { OnErr result (LeavesPartlyWritten (F.told (files_of self.old))
+            (F.told (files_of self.new)) (publish_path (place_of self.old)) (publish_text (info_view info.now))) }
+    {
+        let path = self.place.publish_path(alloc)?;
+        let text = write_publish(alloc, info)?;
+        self.write(alloc, &path, &text)?;
+        Ok(())
+    }
+
+    /// Takes what is to be published away.
+    fn take_publish(&mut self, alloc: Global) -> Result<(), StoreError>
+        ensures never_falls { F.faults (files_of self.old) ≤ F.faults (files_of self.new) }
+        ensures stored { OnOk result (IfSome (held_of F.told self.old) (λ held. Tells (held_of F.told self.new)
+            (with_publish held Absent))) }
+        ensures refused { OnErr result (IfSome (held_of F.told self.old) (λ held.
+            LeavesPublish (held_of F.told self.new) held None)) }
+        ensures fault { IfErr result (λ e.
+            IsStoreFault e (F.faults (files_of self.old)) (F.faults (files_of self.new))) }
+        ensures place { place_of self.new ≡ place_of self.old }
+        ensures removed { OnOk result (IfSome (F.told (files_of self.old)) (λ files.
+            F.told (files_of self.new) ≡ Some (without_path files (publish_path (place_of self.old))))) }
+        ensures partly_removed { OnErr result (LeavesPartlyRemoved (F.told (files_of self.old))
+            (F.told (files_of self.new)) (publish_path (place_of self.old))) }
+    {
+        let path = self.place.publish_path(alloc)?;
+        self.take(alloc, &path)
     }
 }
 
@@ -463,5 +515,47 @@ impl<F: Files + Drop, L: Drop> RegistryStorage for FileSystemRegistryStorage<F, 
         let text = write_package(alloc, info)?;
         self.write(alloc, &path, &text)?;
         Ok(())
+    }
+
+    fn load_publish(&mut self, alloc: Global) -> Result<Option<PublishInfo>, StoreError>
+        ensures never_falls { F.faults (files_of self.old) ≤ F.faults (files_of self.new) }
+        ensures kept { IfSome (held_of F.told self.old) (Tells (held_of F.told self.new)) }
+        ensures found { IfOk result (λ o. IfSome (held_of F.told self.old) (λ held.
+            held.publish ≡ entry_of (option_map info_view o))) }
+        ensures publishable { IfOk result (λ o. IfSome o IsSoundPublish) }
+        ensures fault { IfErr result (λ e. IsLoadFault e EntryKind.Publish (F.faults (files_of self.old))
+            (F.faults (files_of self.new)) (option_map (λ held. held.publish) (held_of F.told self.old))) }
+        ensures place { place_of self.new ≡ place_of self.old }
+        ensures untouched { F.told (files_of self.new) ≡ F.told (files_of self.old) }
+    {
+        let path = self.place.publish_path(alloc)?;
+        let Some(bytes) = self.read(alloc, &path)? else {
+            return Ok(None);
+        };
+        match read_publish(alloc, &bytes)? {
+            Some(info) => Ok(Some(info)),
+            None => Err(StoreError::Damaged(EntryKind::Publish)),
+        }
+    }
+
+    fn store_publish(&mut self, alloc: Global, info: Option<&PublishInfo>) -> Result<(), StoreError>
+        requires { IfSome (option_copied info) IsSoundPublish }
+        ensures never_falls { F.faults (files_of self.old) ≤ F.faults (files_of self.new) }
+        ensures stored { OnOk result (IfSome (held_of F.told self.old) (λ held. Tells (held_of F.told self.new)
+            (with_publish held (entry_of (option_map info_view (option_copied info.entry)))))) }
+        ensures refused { OnErr result (IfSome (held_of F.told self.old) (λ held.
+            LeavesPublish (held_of F.told self.new) held (option_map info_view (option_copied info.entry)))) }
+        ensures fault { IfErr result (λ e.
+            IsStoreFault e (F.faults (files_of self.old)) (F.faults (files_of self.new))) }
+        ensures place { place_of self.new ≡ place_of self.old }
+        ensures written { OnOk result (IfSome (F.told (files_of self.old)) (λ files. F.told (files_of self.new)
+            ≡ Some (with_publish_file (place_of self.old) files (option_map info_view (option_copied info.entry))))) }
+        ensures partly_written { OnErr result (LeavesPublishFile (place_of self.old) (F.told (files_of self.old))
+            (F.told (files_of self.new)) (option_map info_view (option_copied info.entry))) }
+    {
+        match info {
+            Some(info) => self.keep_publish(alloc, info),
+            None => self.take_publish(alloc),
+        }
     }
 }
