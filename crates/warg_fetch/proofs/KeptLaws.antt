@@ -35,16 +35,19 @@ write_still now held (OperatorLog r info) same = record {
   checkpoints = same.checkpoints;
   operators = entries_still is_registry now.operators held.operators r (Whole info) same.operators;
   packages = same.packages;
+  publish = same.publish;
 }
 write_still now held (PackageLog r kept) same = record {
   checkpoints = same.checkpoints;
   operators = same.operators;
   packages = entries_still is_package now.packages held.packages (package_key r kept.name) (Whole kept) same.packages;
+  publish = same.publish;
 }
 write_still now held (LastCheckpoint r c) same = record {
   checkpoints = entries_still is_registry now.checkpoints held.checkpoints r (Whole c) same.checkpoints;
   operators = same.operators;
   packages = same.packages;
+  publish = same.publish;
 }
 
 spoilt_still : (now held : Held) (w : Write) → SameHeld now held → SameHeld (without_write now w) (without_write held w)
@@ -52,16 +55,19 @@ spoilt_still now held (OperatorLog r info) same = record {
   checkpoints = same.checkpoints;
   operators = entries_still is_registry now.operators held.operators r Unreadable same.operators;
   packages = same.packages;
+  publish = same.publish;
 }
 spoilt_still now held (PackageLog r kept) same = record {
   checkpoints = same.checkpoints;
   operators = same.operators;
   packages = entries_still is_package now.packages held.packages (package_key r kept.name) Unreadable same.packages;
+  publish = same.publish;
 }
 spoilt_still now held (LastCheckpoint r c) same = record {
   checkpoints = entries_still is_registry now.checkpoints held.checkpoints r Unreadable same.checkpoints;
   operators = same.operators;
   packages = same.packages;
+  publish = same.publish;
 }
 
 tells_same : (told : Option Held) (now held : Held) → SameHeld now held → Tells told now → Tells told held
@@ -72,6 +78,7 @@ tells_same told now held same t = record {
     checkpoints = λ r. t.same.checkpoints r ∙ same.checkpoints r;
     operators = λ r. t.same.operators r ∙ same.operators r;
     packages = λ p. t.same.packages p ∙ same.packages p;
+    publish = t.same.publish ∙ same.publish;
   };
 }
 

@@ -33,6 +33,7 @@ tells_then (Some held) b c first later =
         checkpoints = λ r. t.same.checkpoints r ∙ first.same.checkpoints r;
         operators = λ r. t.same.operators r ∙ first.same.operators r;
         packages = λ p. t.same.packages p ∙ first.same.packages p;
+        publish = t.same.publish ∙ first.same.publish;
       };
     }
 
