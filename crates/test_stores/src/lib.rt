@@ -8,6 +8,8 @@ mod contents;
 #[cfg(test)]
 mod locks;
 #[cfg(test)]
+mod pending;
+#[cfg(test)]
 mod publishing;
 #[cfg(test)]
 mod registries;

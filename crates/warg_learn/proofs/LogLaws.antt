@@ -216,7 +216,7 @@ log_unasked Steps said Refuses s name = record {
   cause = λ known k. record {};
   leaves = λ known k. record {
     registries = inl (if_some _ s.registries k.stores.registries.held k.stores.registries.tells
-        (inl (record { now = k.stores.registries.held; tells = k.stores.registries.tells; same = record { checkpoints = λ r. refl; operators = λ r. refl; packages = λ p. refl } })));
+        (inl (record { now = k.stores.registries.held; tells = k.stores.registries.tells; same = record { checkpoints = λ r. refl; operators = λ r. refl; packages = λ p. refl; publish = refl } })));
     contents = refl;
     names = refl;
     updated = refl;

@@ -36,7 +36,7 @@ kept_fault known name error.Memory registries names h = record {}
 
 tells_self : (o : Option Held) → IfSome o (Tells o)
 tells_self None = record {}
-tells_self (Some held) = record { now = held; tells = refl; same = record { checkpoints = λ r. refl; operators = λ r. refl; packages = λ p. refl } }
+tells_self (Some held) = record { now = held; tells = refl; same = record { checkpoints = λ r. refl; operators = λ r. refl; packages = λ p. refl; publish = refl } }
 
 module _ {T D : Type 0} where
   -- before anything is asked
