@@ -2,6 +2,7 @@ pub mod Contents
 pub mod Entry
 pub mod Faults
 pub mod Held
+pub mod Listed
 pub mod Memory
 pub mod MemoryContents
 pub mod MemoryNames
