@@ -1,5 +1,6 @@
 mod ContentLaws
 mod CopyLaws
 mod HeldLaws
+mod ListingLaws
 mod ResetLaws
 mod TellingLaws

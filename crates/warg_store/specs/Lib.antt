@@ -3,6 +3,7 @@ pub mod Entry
 pub mod Faults
 pub mod Held
 pub mod Listed
+pub mod ListedLaws
 pub mod Memory
 pub mod MemoryContents
 pub mod MemoryNames

@@ -1,22 +1,26 @@
 //! What a client keeps of registries and of what is to be published, in memory.
 
 ghost use Rattle.std.specs.Prelude.{◌≡◌, ◌≤◌, ◌++◌, ◌∷◌, ◌↔◌, [], ℕ, false, Some, None, IfOk, IfErr, IfSome, IsSomeAnd, IsSome, IsErrOf, OnOk, OnErr, option_copied, option_map};
+ghost use Rattle.warg_hash.specs.Hash.{package_log_id};
 ghost use Rattle.warg_info.specs.Info.{IsSoundOperator, IsSoundPackage};
 ghost use Rattle.warg_publish.specs.Shown.{info_view};
 ghost use Rattle.warg_store.specs.Entry.{Whole, entry_of, IsLoadFault, IsStoreFault};
 ghost use Rattle.warg_store.specs.Faults.{planned, after_call, has_store_failed};
 ghost use Rattle.warg_store.specs.Held.{IsSoundPublish, Tells, SameHeld, nothing, LeavesPublish, LeavesReset, LeavesStore, after_reset, entry_named, is_package, named_info, operator_info, package_key, with_checkpoint, with_operator, with_package, with_publish};
-ghost use Rattle.warg_store.specs.Slots.{entries_in};
+ghost use Rattle.warg_store.specs.Listed.{AreAllPackages, AreSoundLists, HaveSome, IsListingFault, entry_under, listed_in};
+ghost use Rattle.warg_store.specs.Slots.{entries_in, slot_entry};
 ghost use Rattle.warg_store.specs.Memory.{held_in, schedule_in, IsAfterPublish, IsAfterReset, IsAfterStore};
 
 use crate::after::After;
 use crate::error::{EntryKind, StoreError};
+use crate::listing::list_package;
 use crate::one_slot::OneSlot;
 use crate::registry::RegistryStorage;
 use crate::resets::{reset_packages, reset_registries};
 use crate::schedule::StoreSchedule;
-use crate::slots::SlotMap;
+use crate::slots::{Slot, SlotMap};
 use crate::sound::Sound;
+use indexmap::IndexMap;
 use std::alloc::Global;
 use warg_exchange::SignedCheckpoint;
 use warg_hash::{LogId, PackageName};
@@ -93,6 +97,51 @@ fn load_named(
         Some(info) if info.name == *name => Ok(Some(info)),
         Some(_) => Err(StoreError::Damaged(EntryKind::Package)),
     }
+}
+
+/// A copy of the log of a package, where its slot can be read and stands under the log's id.
+fn load_under(
+    alloc: Global,
+    slot: &Slot<PackageInfo>,
+    id: &LogId,
+) -> Result<PackageInfo, StoreError>
+    ensures found { IfOk result (λ info. slot_entry named_info (Some slot.now) ≡ Whole (named_info info)) }
+    ensures id { IfOk result (λ info. id.now ≡ package_log_id info.name) }
+    ensures sound { IfOk result IsSoundPackage }
+    ensures fault { (before after : ℕ) → IfErr result (λ e. IsLoadFault e EntryKind.Package before after
+        (Some (entry_under id.now (slot_entry named_info (Some slot.now))))) }
+    ensures no_failure { has_store_failed result ≡ false }
+{
+    let Slot::Whole(value) = slot else {
+        return Err(StoreError::Damaged(EntryKind::Package));
+    };
+    let info = value.copy(alloc)?;
+    if LogId::package_log(&info.name) != *id {
+        return Err(StoreError::Damaged(EntryKind::Package));
+    }
+    Ok(info)
+}
+
+/// Copies of the logs of all packages, by their registries.
+fn load_all(
+    alloc: Global,
+    packages: &SlotMap<(Option<RegistryDomain>, LogId), PackageInfo>,
+) -> Result<IndexMap<Option<RegistryDomain>, Vec<PackageInfo>>, StoreError>
+    ensures found { IfOk result (λ all.
+        AreAllPackages (entries_in is_package named_info packages.now) (listed_in all)) }
+    ensures sound { IfOk result AreSoundLists }
+    ensures have_some { IfOk result HaveSome }
+    ensures fault { (before after : ℕ) → IfErr result (λ e. IsListingFault e before after
+        (Some (entries_in is_package named_info packages.now))) }
+    ensures no_failure { has_store_failed result ≡ false }
+{
+    let mut all = IndexMap::new(alloc);
+    for (key, slot) in &packages.slots {
+        let info = load_under(alloc, slot, &key.1)?;
+        let registry = key_of(alloc, key.0.as_ref())?;
+        list_package(alloc, &mut all, registry, info)?;
+    }
+    Ok(all)
 }
 
 impl MemoryRegistry {
@@ -331,6 +380,26 @@ impl RegistryStorage for MemoryRegistry {
         let failing = self.schedule.planned();
         let done = self.put_operator(alloc, registry, info, failing);
         self.schedule.finish(failing, done)
+    }
+
+    fn load_all_packages(
+        &mut self,
+        alloc: Global,
+    ) -> Result<IndexMap<Option<RegistryDomain>, Vec<PackageInfo>>, StoreError>
+        ensures never_falls { (schedule_in self.old).faults ≤ (schedule_in self.new).faults }
+        ensures kept { Tells (Some (held_in self.new)) (held_in self.old) }
+        ensures found { IfOk result (λ all. AreAllPackages (held_in self.old).packages (listed_in all)) }
+        ensures sound { IfOk result AreSoundLists }
+        ensures have_some { IfOk result HaveSome }
+        ensures fault { IfErr result (λ e. IsListingFault e (schedule_in self.old).faults
+            (schedule_in self.new).faults (Some (held_in self.old).packages)) }
+        ensures failed { IsErrOf result StoreError.Failed ↔ IsSome (planned (schedule_in self.old)) }
+        ensures scheduled { schedule_in self.new ≡ after_call (schedule_in self.old) (has_store_failed result) }
+    {
+        if self.schedule.fails_now() {
+            return Err(StoreError::Failed);
+        }
+        load_all(alloc, &self.packages)
     }
 
     fn load_package(

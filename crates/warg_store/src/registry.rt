@@ -5,8 +5,10 @@ ghost use Rattle.warg_publish.specs.Shown.{info_view};
 ghost use Rattle.warg_info.specs.Info.{IsSoundOperator, IsSoundPackage};
 ghost use Rattle.warg_store.specs.Entry.{Whole, entry_of, IsLoadFault, IsStoreFault};
 ghost use Rattle.warg_store.specs.Held.{Held, IsSoundPublish, Tells, LeavesPublish, LeavesReset, LeavesStore, after_reset, entry_named, named_info, operator_info, package_key, with_checkpoint, with_operator, with_package, with_publish};
+ghost use Rattle.warg_store.specs.Listed.{AreAllPackages, AreSoundLists, HaveSome, IsListingFault, listed_in};
 
 use crate::error::{EntryKind, StoreError};
+use indexmap::IndexMap;
 use std::alloc::Global;
 use warg_exchange::SignedCheckpoint;
 use warg_hash::PackageName;
@@ -89,6 +91,22 @@ pub trait RegistryStorage: Drop {
         ensures refused { OnErr result (IfSome (told self.old) (λ held. LeavesStore (told self.new) held
             (with_operator held (option_copied registry.entry)) (operator_info info.now))) }
         ensures fault { IfErr result (λ e. IsStoreFault e (faults self.old) (faults self.new)) };
+
+    /// What is kept of the logs of all packages: a list for each registry that has some. Each log is sound, and the
+    /// packages of one registry have different names. Where one package's entry can't be read, or stands under the id of
+    /// another one's log, nothing is given.
+    fn load_all_packages(
+        &mut self,
+        alloc: Global,
+    ) -> Result<IndexMap<Option<RegistryDomain>, Vec<PackageInfo>>, StoreError>
+        ensures never_falls { faults self.old ≤ faults self.new }
+        ensures kept { IfSome (told self.old) (Tells (told self.new)) }
+        ensures found { IfOk result (λ all. IfSome (told self.old) (λ held.
+            AreAllPackages held.packages (listed_in all))) }
+        ensures sound { IfOk result AreSoundLists }
+        ensures have_some { IfOk result HaveSome }
+        ensures fault { IfErr result (λ e. IsListingFault e (faults self.old) (faults self.new)
+            (option_map (λ held. held.packages) (told self.old))) };
 
     /// What is kept of the log of a package in a registry. It is sound, and has the package's name: where a package
     /// of another name is kept under the id of this one's log, the entry can't be read.
