@@ -1,21 +1,18 @@
 -- Lists of packages: one package more, and what slots in memory hold.
-use Rattle.std.proofs.Common.{◌≡◌, ◌≢◌, ℕ, zero, suc, ◌&&◌, Bool, true, false, true≢false, cond, List, [], ◌∷◌, ◌++◌, get_or, map, All, Contains, bytes_eq, Option, Some, None, IfSome, option_map, Vec, Result, IfErr, IsErrAnd, refl, sym, ap, ap₂, subst, ◌∙◌, arith, inl, inr, append_assoc}
-use Rattle.std.specs.Cmp.{IsEquivalence}
+use Rattle.std.proofs.Common.{◌≡◌, ◌≢◌, ℕ, zero, suc, Bool, true, false, cond, List, [], ◌∷◌, ◌++◌, get_or, map, All, Contains, Option, Some, None, IfSome, option_map, Vec, Result, IfErr, IsErrAnd, refl, sym, ap, ap₂, subst, ◌∙◌, arith, inl, inr, append_assoc}
 use Rattle.std.specs.Cmp.Lexicographic.{nat_list_eq_equiv}
 use Rattle.std.specs.Global.{Global}
 use Rattle.std.specs.List.{IsDistinct}
 use Rattle.std.specs.Map.{keys_of, lookup}
 use Rattle.std.specs.Option.{option_map_or}
-use Rattle.std.proofs.lemmas.Bool.{and_parts, cases_Bool}
+use Rattle.std.proofs.lemmas.Bool.{cases_Bool}
 use Rattle.std.proofs.lemmas.List.{append-nil, map-append}
-use Rattle.std.proofs.lemmas.List.Elements.{All-append, All-contains, All-contains_itself, All-from_recursion, All-map, All-nil, All-weaker, Contains-append_right}
+use Rattle.std.proofs.lemmas.List.Elements.{All-contains, All-contains_itself, All-map, All-weaker, Contains-append_right}
 use Rattle.std.proofs.lemmas.Map.Made.{keys_of-map_values}
 use Rattle.std.proofs.lemmas.Map.Views.{IfSome-lookup, lookup-from_Contains}
 use Rattle.std.proofs.lemmas.Result.{err_from_is_err_and}
-use Rattle.std.proofs.lemmas.Slice.Eq.{bytes_eq-Decides}
 use Rattle.warg_hash.specs.Hash.{package_log_id}
 use Rattle.warg_info.specs.declared.package.PackageInfo.{PackageInfo}
-use Rattle.warg_info.specs.Info.{IsSoundPackage}
 use Rattle.warg_store.specs.declared.error.EntryKind.TheVariants.{Package as of_package}
 use Rattle.warg_store.specs.declared.error.StoreError.{StoreError}
 use Rattle.warg_store.specs.declared.error.StoreError.TheVariants as error
@@ -23,7 +20,7 @@ use Rattle.warg_store.specs.declared.slots.Slot.{Slot}
 use Rattle.warg_store.specs.Entry.{Entry, Absent, Whole, Unreadable, IsLoadFault}
 use Rattle.warg_store.specs.Held.{NamedInfo, Package, Registry, is_package, is_registry, named_info}
 use Rattle.warg_store.specs.Listed.{AreAllPackages, IsListingFault, entry_under}
-use Rattle.warg_store.specs.ListedLaws.{AreGathered, Gathered, all_gathered, gathered_key, gathered_more, gathered_of, registry_is, registry_own}
+use Rattle.warg_store.specs.ListedLaws.{AreGathered, Gathered, all_gathered, gathered_key, gathered_more, gathered_of, package_equiv, package_is, registry_is}
 use Rattle.warg_store.specs.Slots.{slot_entry}
 
 -- ---- a list in a map
@@ -57,32 +54,6 @@ module _ (old new : Registry → Option (Vec PackageInfo Global)) (key : Registr
         | inl t ↦ subst (λ (o : Option (Vec PackageInfo Global)). IfSome o (λ l. l.items ≢ [])) (sym (new_at r true t)) (λ e. not_empty (infos_at (old key)) info (sym pushed ∙ e))
         | inr f ↦ subst (λ (o : Option (Vec PackageInfo Global)). IfSome o (λ l. l.items ≢ [])) (sym (new_at r false f)) (had r)
       ]
-
--- ---- keys
-
-registries_symm : (a b : Registry) → is_registry a b ≡ is_registry b a
-registries_symm None None = refl
-registries_symm None (Some b) = refl
-registries_symm (Some a) None = refl
-registries_symm (Some a) (Some b) = nat_list_eq_equiv.symm a b
-
-both : (a b : Bool) → a ≡ true → b ≡ true → (a && b) ≡ true
-both true b p q = q
-both false b p q = absurd (true≢false (sym p))
-
-pub package_is : (p q : Package) → is_package p q ≡ true → p ≡ q
-package_is p q e =
-    let parts = and_parts (is_registry p.0 q.0) (bytes_eq p.1 q.1) e in
-    let r = registry_is p.0 q.0 parts.0 in
-    let id = (bytes_eq-Decides p.1 q.1).0 parts.1 in
-    (λ i. (r i, id i))
-
-package_equiv : IsEquivalence is_package
-package_equiv = record {
-  refl = λ p. both _ _ (registry_own p.0) (nat_list_eq_equiv.refl p.1);
-  symm = λ p q. ap₂ (λ (a b : Bool). a && b) (registries_symm p.0 q.0) (nat_list_eq_equiv.symm p.1 q.1);
-  congr = λ p q k e. ap (λ (x : Package). is_package x k) (package_is p q e);
-}
 
 -- ---- slots that were read
 
@@ -225,22 +196,6 @@ pub all_so_far : (whole rest : Slots) (listed : Registry → List NamedInfo) →
 all_so_far whole rest listed so_far none =
     let before : so_far.before ≡ whole = sym (append-nil so_far.before) ∙ ap (λ l. so_far.before ++ l) (sym none) ∙ so_far.split in
     all_gathered (held_by whole) so_far.gathered listed (slots_gathered whole so_far.gathered (ap entries_seen (sym before) ∙ so_far.read) so_far.unique) so_far.are
-
--- ---- infos that were added
-
-pub named_more : (new old : List PackageInfo) (info : PackageInfo) (b : Bool) → new ≡ old ++ cond b (info ∷ []) [] → map named_info new ≡ map named_info old ++ cond b (named_info info ∷ []) []
-named_more new old info b is = ap (map named_info) is ∙ map-append named_info old (cond b (info ∷ []) []) ∙ ap (λ l. map named_info old ++ l) (by b)
-  where
-    by : (c : Bool) → map named_info (cond c (info ∷ []) []) ≡ cond c (named_info info ∷ []) []
-    by true = refl
-    by false = refl
-
-pub sound_more : (new old : List PackageInfo) (info : PackageInfo) (b : Bool) → new ≡ old ++ cond b (info ∷ []) [] → All IsSoundPackage old → IsSoundPackage info → All IsSoundPackage new
-sound_more new old info b is sound too = subst (All IsSoundPackage) (sym is) (All-append IsSoundPackage old (cond b (info ∷ []) []) sound (by b))
-  where
-    by : (c : Bool) → All IsSoundPackage (cond c (info ∷ []) [])
-    by true = All-from_recursion IsSoundPackage (info ∷ []) (too, tt)
-    by false = All-nil IsSoundPackage
 
 -- ---- refusals
 

@@ -1,14 +1,18 @@
 -- Packages that were gathered one by one are all packages. These are proofs: the definitions stand in `Listed`.
-use Rattle.std.proofs.Common.{◌≡◌, ◌≢◌, ◌&&◌, ℕ, zero, suc, Bool, true, false, true≢false, cond, List, [], ◌∷◌, ◌++◌, map, All, Contains, bytes_eq, Some, None, refl, sym, ap, subst, ◌∙◌, arith, inl, inr}
+use Rattle.std.proofs.Common.{◌≡◌, ◌≢◌, ◌&&◌, ℕ, zero, suc, Bool, true, false, true≢false, cond, List, [], ◌∷◌, ◌++◌, map, All, Contains, bytes_eq, Some, None, refl, sym, ap, ap₂, subst, ◌∙◌, arith, inl, inr}
+use Rattle.std.specs.Cmp.{IsEquivalence}
 use Rattle.std.specs.Cmp.Lexicographic.{nat_list_eq_equiv}
 use Rattle.std.specs.List.{AllByRecursion, IsDistinct}
-use Rattle.std.proofs.lemmas.Bool.{cases_Bool}
-use Rattle.std.proofs.lemmas.List.Elements.{All-from_recursion, Contains-append_right, recursion_from_All}
+use Rattle.std.proofs.lemmas.Bool.{and_parts, cases_Bool}
+use Rattle.std.proofs.lemmas.List.{map-append}
+use Rattle.std.proofs.lemmas.List.Elements.{All-append, All-from_recursion, All-nil, Contains-append_right, recursion_from_All}
 use Rattle.std.proofs.lemmas.Map.Keys.{IsDistinct-cons, IsDistinct-head, IsDistinct-tail}
 use Rattle.std.proofs.lemmas.Slice.Eq.{bytes_eq-Decides}
 use Rattle.warg_hash.specs.Hash.{package_log_id}
+use Rattle.warg_info.specs.declared.package.PackageInfo.{PackageInfo}
+use Rattle.warg_info.specs.Info.{IsSoundPackage}
 use Rattle.warg_store.specs.Entry.{Entry, Whole, Unreadable}
-use Rattle.warg_store.specs.Held.{NamedInfo, Package, Registry, is_package, is_registry, package_key}
+use Rattle.warg_store.specs.Held.{NamedInfo, Package, Registry, is_package, is_registry, named_info, package_key}
 use Rattle.warg_store.specs.Listed.{AreAllPackages, entry_under}
 
 -- what is kept of a package, with the registry that has it
@@ -51,6 +55,30 @@ registry_is (Some a) (Some b) e = ap Some ((bytes_eq-Decides a b).0 e)
 pub registry_own : (a : Registry) → is_registry a a ≡ true
 registry_own None = refl
 registry_own (Some a) = nat_list_eq_equiv.refl a
+
+registries_symm : (a b : Registry) → is_registry a b ≡ is_registry b a
+registries_symm None None = refl
+registries_symm None (Some b) = refl
+registries_symm (Some a) None = refl
+registries_symm (Some a) (Some b) = nat_list_eq_equiv.symm a b
+
+both : (a b : Bool) → a ≡ true → b ≡ true → (a && b) ≡ true
+both true b p q = q
+both false b p q = absurd (true≢false (sym p))
+
+pub package_is : (p q : Package) → is_package p q ≡ true → p ≡ q
+package_is p q e =
+    let parts = and_parts (is_registry p.0 q.0) (bytes_eq p.1 q.1) e in
+    let r = registry_is p.0 q.0 parts.0 in
+    let id = (bytes_eq-Decides p.1 q.1).0 parts.1 in
+    (λ i. (r i, id i))
+
+pub package_equiv : IsEquivalence is_package
+package_equiv = record {
+  refl = λ p. both _ _ (registry_own p.0) (nat_list_eq_equiv.refl p.1);
+  symm = λ p q. ap₂ (λ (a b : Bool). a && b) (registries_symm p.0 q.0) (nat_list_eq_equiv.symm p.1 q.1);
+  congr = λ p q k e. ap (λ (x : Package). is_package x k) (package_is p q e);
+}
 
 not_both : (a b : Bool) → (a && b) ≡ false → a ≡ true → b ≡ true → ⊥
 not_both true b e p q = true≢false (sym q ∙ e)
@@ -136,3 +164,19 @@ all_gathered held gs listed h is = record {
   readable = h.readable;
   differ = λ r. subst (λ l. IsDistinct bytes_eq (map name_of l)) (sym (is r)) (names_differ r gs h.distinct);
 }
+
+-- ---- infos that were added
+
+pub named_more : (new old : List PackageInfo) (info : PackageInfo) (b : Bool) → new ≡ old ++ cond b (info ∷ []) [] → map named_info new ≡ map named_info old ++ cond b (named_info info ∷ []) []
+named_more new old info b is = ap (map named_info) is ∙ map-append named_info old (cond b (info ∷ []) []) ∙ ap (λ l. map named_info old ++ l) (by b)
+  where
+    by : (c : Bool) → map named_info (cond c (info ∷ []) []) ≡ cond c (named_info info ∷ []) []
+    by true = refl
+    by false = refl
+
+pub sound_more : (new old : List PackageInfo) (info : PackageInfo) (b : Bool) → new ≡ old ++ cond b (info ∷ []) [] → All IsSoundPackage old → IsSoundPackage info → All IsSoundPackage new
+sound_more new old info b is sound too = subst (All IsSoundPackage) (sym is) (All-append IsSoundPackage old (cond b (info ∷ []) []) sound (by b))
+  where
+    by : (c : Bool) → All IsSoundPackage (cond c (info ∷ []) [])
+    by true = All-from_recursion IsSoundPackage (info ∷ []) (too, tt)
+    by false = All-nil IsSoundPackage

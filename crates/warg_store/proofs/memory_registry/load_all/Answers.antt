@@ -9,8 +9,9 @@ use Rattle.warg_info.specs.declared.package.PackageInfo.{PackageInfo}
 use Rattle.warg_info.specs.Info.{IsSoundPackage}
 use Rattle.warg_store.specs.Held.{Registry, is_registry, named_info}
 use Rattle.warg_store.specs.Listed.{IsListingFault, entry_under, infos_of, listed_in}
+use Rattle.warg_store.specs.ListedLaws.{named_more, sound_more}
 use Rattle.warg_store.specs.Slots.{slot_entry}
-use Rattle.warg_store.proofs.ListingLaws.{SoFar, Slots, all_so_far, handed_on, held_by, infos_at, named_more, none_so_far, of_one_entry, one_more, one_unreadable, sound_more}
+use Rattle.warg_store.proofs.ListingLaws.{SoFar, Slots, all_so_far, handed_on, held_by, infos_at, none_so_far, of_one_entry, one_more, one_unreadable}
 use Rattle.warg_store.proofs.memory_registry.load_all.Goals as goal
 
 pub loop-key-init : goal.loop-key-init
