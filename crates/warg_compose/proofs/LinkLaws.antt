@@ -9,7 +9,7 @@ use Rattle.compose_encode.specs.declared.refused.CompositionError.TheVariants as
 use Rattle.compose_order.specs.Needs.{LeftTree}
 use Rattle.warg_plan.specs.Walk.{Entry}
 use Rattle.warg_compose.specs.Composed.{AreComponentsOf, IsComponentOf, IsComposed, releases, root_of}
-use Rattle.warg_compose.specs.Linked.{IsComposeFault, IsLinkable}
+use Rattle.warg_compose.specs.Linked.{IsComposeFault, IsLinkable, IsLockFault, IsLockable}
 use Rattle.warg_compose.specs.Open.{first_open}
 use Rattle.warg_compose.specs.Wired.{AreWired}
 use Rattle.warg_compose.specs.declared.error.ComposeError.{ComposeError}
@@ -46,22 +46,42 @@ abbrev pub ForNumbers : Type 0
 ForNumbers = (c : CompositionTree) (define : Bool) (export : Option ℕ) (order : List ℕ) (lefts : List LeftTree) (e : CompositionError)
     → IsComposition c → CanBeEncoded c define export order lefts → IsEncodeRefusal c define export e → IsUnwritten c define export order lefts e
 
+lockable : {disallow : Bool} {es : List Entry} → IsLinkable disallow es → IsLockable disallow es
+lockable can = record {
+  allowed = can.allowed;
+  composition = can.composition;
+  composed = can.composed;
+  order = can.order;
+  lefts = can.lefts;
+  possible = can.possible;
+  small = can.small;
+}
+
 module _ (numbers : ForNumbers) (one_shape : OneShape) where
-  pub linked : (disallow : Bool) (es : List Entry) (e : ComposeError) → AreWired es → IsLinkable disallow es → IsComposeFault disallow e es → e ≡ error.Memory
-  linked disallow es (error.ImportsDisallowed name) wired can fault = none_some (first_open es) name (can.allowed fault.disallowed) fault.first
-  linked disallow es (error.Incompatible w) wired can fault =
+  pub locked : (disallow : Bool) (es : List Entry) (e : ComposeError) → AreWired es → IsLockable disallow es → IsLockFault disallow e es → e ≡ error.Memory
+  locked disallow es (error.ImportsDisallowed name) wired can fault = none_some (first_open es) name (can.allowed fault.disallowed) fault.first
+  locked disallow es (error.Incompatible w) wired can fault =
       let same = one_composition one_shape es fault.composition can.composition fault.composed can.composed in
       let refused = subst (λ c. IsRefusedBy c false (root_of es) (check.Incompatible w)) same fault.holds in
       absurd (numbers can.composition false (root_of es) can.order can.lefts (refusal.Refused (check.Incompatible w)) (is_composition es can.composition wired can.composed one_shape) can.possible refused)
-  linked disallow es (error.TooLarge n) wired can fault =
+  locked disallow es (error.TooLarge n) wired can fault =
       let same = one_composition one_shape es fault.composition can.composition fault.composed can.composed in
+      let refused = subst (λ c. IsTooLargeIn c false (root_of es) n) same fault.holds in
+      let number = numbers can.composition false (root_of es) can.order can.lefts (refusal.TooLarge n) (is_composition es can.composition wired can.composed one_shape) can.possible refused in
+      let small : n < 2 ^ 32 = can.small n number.among in
+      let above : 2 ^ 32 ≤ n = number.large in
+      absurd (omega (arith, small, above))
+  locked disallow es error.Memory wired can fault = refl
+
+  -- its lock can be made, and what that is bundled as is small
+  pub linked : (disallow : Bool) (es : List Entry) (e : ComposeError) → AreWired es → IsLinkable disallow es → IsComposeFault disallow e es → e ≡ error.Memory
+  linked disallow es (error.ImportsDisallowed name) wired can fault = locked disallow es (error.ImportsDisallowed name) wired (lockable can) fault
+  linked disallow es (error.Incompatible w) wired can fault = locked disallow es (error.Incompatible w) wired (lockable can) fault
+  linked disallow es (error.TooLarge n) wired can fault =
       elim fault.holds [
-        | inl large ↦
-            let refused = subst (λ c. IsTooLargeIn c false (root_of es) n) same large in
-            let number = numbers can.composition false (root_of es) can.order can.lefts (refusal.TooLarge n) (is_composition es can.composition wired can.composed one_shape) can.possible refused in
-            let small : n < 2 ^ 32 = can.small n number.among in
-            let above : 2 ^ 32 ≤ n = number.large in
-            absurd (omega (arith, small, above))
-        | inr bundled ↦ absurd (can.bundle_small bundled.lock n (subst (λ c. IsWhole c false (root_of es) bundled.lock) same bundled.locked) bundled.large)
+        | inl large ↦ locked disallow es (error.TooLarge n) wired (lockable can) (record { allowed = fault.allowed; composition = fault.composition; composed = fault.composed; holds = large })
+        | inr bundled ↦
+            let same = one_composition one_shape es fault.composition can.composition fault.composed can.composed in
+            absurd (can.bundle_small bundled.lock n (subst (λ c. IsWhole c false (root_of es) bundled.lock) same bundled.locked) bundled.large)
       ]
   linked disallow es error.Memory wired can fault = refl

@@ -1,6 +1,6 @@
 -- The composition of a plan, as it is encoded.
 use Rattle.std.proofs.Common.{◌≡◌, ◌<◌, ◌∙◌, ◌⊎◌, sym, ap, subst, refl, arith, ℕ, zero, suc, Bool, false, List, [], ◌∷◌, ◌++◌, length, map, get_or, Option, Some, Result, Ok, Err, inl, inr}
-use Rattle.std.specs.Prelude.{IfSome}
+use Rattle.std.specs.Prelude.{IfOk, IfSome}
 use Rattle.std.specs.List.{AllByRecursion}
 use Rattle.comp_format.specs.Fault.{Fault, Form, NotCarried, TooDeep}
 use Rattle.comp_format.specs.Fits.{IsComponent}
@@ -12,7 +12,7 @@ use Rattle.compose_bundle.specs.Bundled.{IsBundled}
 use Rattle.compose_bundle.specs.Refusing.{IsBad, IsTooLarge}
 use Rattle.compose_bundle.specs.Whole.{AreContentsOf, IsWholeBundle}
 use Rattle.compose_check.specs.Checked.{IsCircle}
-use Rattle.compose_check.specs.Composition.{CompositionTree, IsComposition}
+use Rattle.compose_check.specs.Composition.{ComponentTree, CompositionTree, IsComposition}
 use Rattle.compose_check.specs.declared.error.CheckError.TheVariants as check
 use Rattle.compose_encode.specs.Whole.{AreApart, IsNameClash, IsRefusedBy, IsTooLargeIn, IsWhole}
 use Rattle.compose_image.specs.Imports.{import_items, imports_in, imports_of, name_and_sort}
@@ -22,16 +22,15 @@ use Rattle.warg_plan.specs.Plan.{EachAfter}
 use Rattle.warg_plan.specs.View.{entry_view}
 use Rattle.warg_plan.specs.Walk.{Entry}
 use Rattle.warg_plan.specs.declared.plan.PlanEntry.{PlanEntry}
-use Rattle.warg_compose.specs.Composed.{AreComponentsOf, IsComposed, content_of, releases, root_of, wires_from}
-use Rattle.warg_compose.specs.Held.{AreReleases, HasComponent, held_component}
+use Rattle.warg_compose.specs.Composed.{AreComponentsOf, IsComposed, content_of, release_place, releases, root_of, wires_from}
+use Rattle.warg_compose.specs.Held.{HasComponent}
 use Rattle.warg_compose.specs.Left.{is_release, open_names}
-use Rattle.warg_compose.specs.Linked.{IsComposeFault, IsLock, IsOfPlan, IsPlanLinked, IsUnbundled, IsUnlocked}
+use Rattle.warg_compose.specs.Linked.{IsComposeFault, IsLock, IsLockFault, IsOfPlan, IsPlanLinked, IsPlanLocked, IsUnbundled, IsUnlocked}
 use Rattle.warg_compose.specs.Open.{IsAllowed}
 use Rattle.warg_compose.specs.Wired.{AreWired, IsOpenName, IsWired}
 use Rattle.warg_compose.specs.declared.error.ComposeError.{ComposeError}
 use Rattle.warg_compose.specs.declared.error.ComposeError.TheVariants as error
 use Rattle.warg_compose.specs.declared.lock.Lock.{Lock}
-use Rattle.warg_compose.specs.declared.releases.Releases.{Releases}
 use Rattle.warg_compose.proofs.CompositionLaws as laws
 use Rattle.warg_compose.proofs.CompositionLaws.{OneShape}
 use Rattle.warg_compose.proofs.ContentLaws.{are_contents}
@@ -115,58 +114,71 @@ not_bad each shape.Memory bytes is bad = bad.tells refl
 
 -- ---- a plan, by its composition
 
-pub composed_of : (es : List Entry) (r : Releases) (c : CompositionTree) → AreReleases r es → c.components ≡ map held_component r.components.items → c.instances ≡ r.instances.items → c.wires ≡ wires_from 0 es → IsComposed es c
-composed_of es r c are components instances wires = record {
-  components = subst (AreComponentsOf (releases es)) (sym components) are.components;
-  instances = instances ∙ are.instances;
-  wires = wires;
-}
+pub composed_of : (es : List Entry) (c : CompositionTree) (instances : List ℕ) (components : List ComponentTree) → AreComponentsOf (releases es) components → instances ≡ map (release_place es) es
+    → c.components ≡ components → c.instances ≡ instances → c.wires ≡ wires_from 0 es → IsComposed es c
+composed_of es c instances components are places same_components same_instances wires =
+    record { components = subst (AreComponentsOf (releases es)) (sym same_components) are; instances = same_instances ∙ places; wires = wires }
 
-pub lock_read : {c : CompositionTree} {root : Option ℕ} {lock : Lock} → IsLock c root lock → IsComponent lock.bytes.items
-lock_read {c} {root} locked =
-    let whole = locked.whole in
-    ((written c false root whole.order whole.items).items, whole.encoded.reads)
+pub answer_locked : (es : List Entry) (c : CompositionTree) (root : Option ℕ) (r : Result Lock ComposeError) → root ≡ root_of es → IsComposed es c → IfOk r (IsLock c root) → IfOk r (λ lock. IsPlanLocked es lock.left.items lock.bytes.items)
+answer_locked es c root (Ok lock) same composed locked =
+    let lock_is = subst (λ o. IsLock c o lock) same locked in
+    record { composition = c; composed = composed; locked = lock_is.whole; open_names = lock_is.open_names }
+answer_locked es c root (Err e) same composed locked = tt
+
+pub lock_read : {es : List Entry} {left : List (List ℕ)} {lock : List ℕ} → IsPlanLocked es left lock → IsComponent lock
+lock_read {es} locked =
+    let whole = locked.locked in
+    ((written locked.composition false (root_of es) whole.order whole.items).items, whole.encoded.reads)
 
 -- what the law `bundles_are_whole` says
 abbrev pub BundlesAreWhole : Type 0
 BundlesAreWhole = (c : CompositionTree) (content : List ℕ → Option (List ℕ)) (export : Option ℕ) (bytes out : List ℕ) (whole : IsWhole c false export bytes)
     → AreContentsOf c content bytes → IsBundled content bytes out → IsWholeBundle c export whole.order out
 
-pub plan_linked : OneShape → ImportsThese → BundlesAreWhole → (es : List Entry) (c : CompositionTree) (root : Option ℕ) (content : List ℕ → Option (List ℕ)) (lock : Lock) (bytes : List ℕ)
-    → AreWired es → root ≡ root_of es → IsComposed es c → content ≡ content_of es → IsLock c root lock → IsBundled content lock.bytes.items bytes
-    → IsPlanLinked es lock.left.items lock.bytes.items bytes
-plan_linked law these wholes es c root content lock bytes wired same composed contents locked bundled =
-    let lock_is = subst (λ r. IsLock c r lock) same locked in
-    let of : IsOfPlan c (root_of es) = record { entries = es; wired = wired; composed = composed; rooted = refl } in
-    let bundle = subst (λ f. IsBundled f lock.bytes.items bytes) contents bundled in
+pub plan_linked : OneShape → ImportsThese → BundlesAreWhole → (es : List Entry) (content : List ℕ → Option (List ℕ)) (left : List (List ℕ)) (lock bytes : List ℕ)
+    → AreWired es → content ≡ content_of es → IsPlanLocked es left lock → IsBundled content lock bytes → IsPlanLinked es left lock bytes
+plan_linked law these wholes es content left lock bytes wired contents locked bundled =
+    let c = locked.composition in
+    let of : IsOfPlan c (root_of es) = record { entries = es; wired = wired; composed = locked.composed; rooted = refl } in
+    let bundle = subst (λ f. IsBundled f lock bytes) contents bundled in
     record {
       composition = c;
-      composed = composed;
-      locked = lock_is.whole;
-      open_names = lock_is.open_names;
+      composed = locked.composed;
+      locked = locked.locked;
+      open_names = locked.open_names;
       bundled = bundle;
-      whole = wholes c (content_of es) (root_of es) lock.bytes.items bytes lock_is.whole (lock_contents law c (root_of es) of these lock.bytes.items lock_is.whole) bundle;
+      whole = wholes c (content_of es) (root_of es) lock bytes locked.locked (lock_contents law c (root_of es) of these lock locked.locked) bundle;
     }
 
-pub unlocked_fault : (disallow : Bool) (es : List Entry) (c : CompositionTree) (root : Option ℕ) (e : ComposeError) → root ≡ root_of es → IsAllowed disallow es → IsComposed es c → IsUnlocked c root e → IsComposeFault disallow e es
+-- ---- refusals
+
+pub unlocked_fault : (disallow : Bool) (es : List Entry) (c : CompositionTree) (root : Option ℕ) (e : ComposeError) → root ≡ root_of es → IsAllowed disallow es → IsComposed es c → IsUnlocked c root e → IsLockFault disallow e es
 unlocked_fault disallow es c root (error.ImportsDisallowed name) same allowed composed fault = absurd fault
 unlocked_fault disallow es c root (error.Incompatible w) same allowed composed fault =
     record { allowed = allowed; composition = c; composed = composed; holds = subst (λ r. IsRefusedBy c false r (check.Incompatible w)) same fault }
 unlocked_fault disallow es c root (error.TooLarge n) same allowed composed fault =
-    record { allowed = allowed; composition = c; composed = composed; holds = inl (subst (λ r. IsTooLargeIn c false r n) same fault) }
+    record { allowed = allowed; composition = c; composed = composed; holds = subst (λ r. IsTooLargeIn c false r n) same fault }
 unlocked_fault disallow es c root error.Memory same allowed composed fault = tt
 
-pub unbundled_fault : (disallow : Bool) (es : List Entry) (c : CompositionTree) (root : Option ℕ) (content : List ℕ → Option (List ℕ)) (lock : List ℕ) (e : ComposeError)
-    → root ≡ root_of es → IsAllowed disallow es → IsComposed es c → content ≡ content_of es → IsWhole c false root lock → IsUnbundled content lock e → IsComposeFault disallow e es
-unbundled_fault disallow es c root content lock (error.ImportsDisallowed name) same allowed composed contents locked fault = absurd fault
-unbundled_fault disallow es c root content lock (error.Incompatible w) same allowed composed contents locked fault = absurd fault
-unbundled_fault disallow es c root content lock (error.TooLarge n) same allowed composed contents locked fault = record {
+-- why there is no lock is why nothing is linked
+pub no_lock_fault : (disallow : Bool) (es : List Entry) (e : ComposeError) → IsLockFault disallow e es → IsComposeFault disallow e es
+no_lock_fault disallow es (error.ImportsDisallowed name) fault = fault
+no_lock_fault disallow es (error.Incompatible w) fault = fault
+no_lock_fault disallow es (error.TooLarge n) fault =
+    record { allowed = fault.allowed; composition = fault.composition; composed = fault.composed; holds = inl fault.holds }
+no_lock_fault disallow es error.Memory fault = tt
+
+pub unbundled_fault : (disallow : Bool) (es : List Entry) (content : List ℕ → Option (List ℕ)) (left : List (List ℕ)) (lock : List ℕ) (e : ComposeError)
+    → IsAllowed disallow es → content ≡ content_of es → IsPlanLocked es left lock → IsUnbundled content lock e → IsComposeFault disallow e es
+unbundled_fault disallow es content left lock (error.ImportsDisallowed name) allowed contents locked fault = absurd fault
+unbundled_fault disallow es content left lock (error.Incompatible w) allowed contents locked fault = absurd fault
+unbundled_fault disallow es content left lock (error.TooLarge n) allowed contents locked fault = record {
   allowed = allowed;
-  composition = c;
-  composed = composed;
-  holds = inr (record { lock = lock; locked = subst (λ r. IsWhole c false r lock) same locked; large = subst (λ f. IsTooLarge n f lock) contents fault });
+  composition = locked.composition;
+  composed = locked.composed;
+  holds = inr (record { lock = lock; locked = locked.locked; large = subst (λ f. IsTooLarge n f lock) contents fault });
 }
-unbundled_fault disallow es c root content lock error.Memory same allowed composed contents locked fault = tt
+unbundled_fault disallow es content left lock error.Memory allowed contents locked fault = tt
 
 pub each_component : (before : List Entry) (es : List PlanEntry) → EachAfter IsWired before (map entry_view es) → (k : ℕ) (d : PlanEntry) → k < length es → HasComponent (get_or es k d)
 unfolding EachAfter

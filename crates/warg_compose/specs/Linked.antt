@@ -17,9 +17,16 @@ use Rattle.warg_compose.specs.declared.error.ComposeError.{ComposeError}
 use Rattle.warg_compose.specs.declared.error.ComposeError.TheVariants as error
 
 -- The lock is a plan's: its composition with its components imported. The wires fit, and what is left open agrees. The names
--- are those of what is left open, in the order in which the lock imports it. The bytes are the lock, bundled with the contents
--- of the releases. Both have exactly one reading, whose link image is the composition's, with what the root exports: that of
--- the lock with the components imported, that of the bytes with them defined.
+-- are those of what is left open, in the order in which the lock imports it. The lock has exactly one reading, whose link
+-- image is the composition's with the components imported, with what the root exports.
+pub record IsPlanLocked (es : List Entry) (left : List (List ℕ)) (lock : List ℕ) : Type 0 where
+  pub composition : CompositionTree
+  pub composed : IsComposed es composition
+  pub locked : IsWhole composition false (root_of es) lock
+  pub open_names : left ≡ map (λ (l : LeftTree). l.name) locked.lefts
+
+-- The lock and the names are a plan's, and the bytes are the lock, bundled with the contents of the releases. They have
+-- exactly one reading too, whose link image is that of the lock, but with the components defined.
 pub record IsPlanLinked (es : List Entry) (left : List (List ℕ)) (lock bytes : List ℕ) : Type 0 where
   pub composition : CompositionTree
   pub composed : IsComposed es composition
@@ -40,6 +47,16 @@ pub record IsLinkable (disallow : Bool) (es : List Entry) : Type 0 where
   pub small : (n : ℕ) → IsOfWritten n composition false (root_of es) order lefts → n < 2 ^ 32
   pub bundle_small : (lock : List ℕ) (n : ℕ) → IsWhole composition false (root_of es) lock
       → IsTooLarge n (content_of es) lock → ⊥
+
+-- A plan that can be locked: the same of its lock alone.
+pub record IsLockable (disallow : Bool) (es : List Entry) : Type 0 where
+  pub allowed : IsAllowed disallow es
+  pub composition : CompositionTree
+  pub composed : IsComposed es composition
+  pub order : List ℕ
+  pub lefts : List LeftTree
+  pub possible : CanBeEncoded composition false (root_of es) order lefts
+  pub small : (n : ℕ) → IsOfWritten n composition false (root_of es) order lefts → n < 2 ^ 32
 
 -- ---- by the composition
 
@@ -88,6 +105,15 @@ pub record IsOfComposition (disallow : Bool) (es : List Entry) (P : CompositionT
   pub composition : CompositionTree
   pub composed : IsComposed es composition
   pub holds : P composition
+
+-- why a plan is not locked. Want of memory says nothing
+abbrev pub IsLockFault : Bool → ComposeError → List Entry → Type 0
+IsLockFault disallow (error.ImportsDisallowed name) es = IsDisallowed disallow es name
+IsLockFault disallow (error.Incompatible why) es =
+    IsOfComposition disallow es (λ c. IsRefusedBy c false (root_of es) (check.Incompatible why))
+IsLockFault disallow (error.TooLarge number) es =
+    IsOfComposition disallow es (λ c. IsTooLargeIn c false (root_of es) number)
+IsLockFault disallow error.Memory es = Unit {0}
 
 -- why a plan is not linked. Want of memory says nothing
 abbrev pub IsComposeFault : Bool → ComposeError → List Entry → Type 0

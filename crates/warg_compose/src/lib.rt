@@ -13,6 +13,6 @@ mod wires;
 pub use comp_shape::ShapeError;
 pub use compose_check::Why;
 pub use error::ComposeError;
-pub use link::{Linked, compose_plan};
+pub use link::{Linked, compose_plan, lock_plan};
 pub use lock::Lock;
 pub use reader::ComponentReader;

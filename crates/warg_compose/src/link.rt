@@ -1,14 +1,14 @@
 //! The component that a plan makes.
 
-ghost use Rattle.std.specs.Prelude.{◌≡◌, false, IfErr, IfOk, OnOk, map};
+ghost use Rattle.std.specs.Prelude.{◌≡◌, All, Bool, false, IfErr, IfOk, OnOk, map};
 ghost use Rattle.comp_format.specs.Fits.{IsComponent};
 ghost use Rattle.compose_bundle.specs.Bundled.{AreComponents, IsBundled, content_in};
 ghost use Rattle.compose_check.specs.Composition.{component_tree, composition_tree};
 ghost use Rattle.compose_encode.specs.Whole.{IsWhole};
 ghost use Rattle.warg_plan.specs.View.{entry_view, plan_view};
-ghost use Rattle.warg_compose.specs.Composed.{root_of};
+ghost use Rattle.warg_compose.specs.Composed.{AreComponentsOf, release_place, releases, root_of};
 ghost use Rattle.warg_compose.specs.Held.{held_component};
-ghost use Rattle.warg_compose.specs.Linked.{IsComposeFault, IsLock, IsOfPlan, IsPlanLinked, IsUnbundled, IsUnlocked};
+ghost use Rattle.warg_compose.specs.Linked.{IsComposeFault, IsLock, IsLockFault, IsOfPlan, IsPlanLinked, IsPlanLocked, IsUnbundled, IsUnlocked};
 ghost use Rattle.warg_compose.specs.Open.{IsAllowed};
 ghost use Rattle.warg_compose.specs.Wired.{AreWired};
 
@@ -71,7 +71,7 @@ fn check_open(
     disallow_imports: bool,
 ) -> Result<(), ComposeError>
     ensures allowed { OnOk result (IsAllowed disallow_imports (map entry_view entries.now)) }
-    ensures fault { IfErr result (λ e. IsComposeFault disallow_imports e (map entry_view entries.now)) }
+    ensures fault { IfErr result (λ e. IsLockFault disallow_imports e (map entry_view entries.now)) }
 {
     if !disallow_imports {
         return Ok(());
@@ -126,6 +126,28 @@ fn lock(
     Ok(Lock { bytes, left })
 }
 
+/// The lock of entries, by the components of their releases, and for each entry the number of its release.
+fn lock_of(
+    alloc: Global,
+    entries: &[PlanEntry],
+    components: &[Component<'_>],
+    instances: Vec<usize>,
+) -> Result<Lock, ComposeError>
+    requires wired { AreWired (map entry_view entries.now) }
+    requires components { AreComponentsOf (releases (map entry_view entries.now)) (map held_component components.now) }
+    requires instances { instances.items ≡ map (release_place (map entry_view entries.now)) (map entry_view entries.now) }
+    ensures locked { IfOk result (λ lock. IsPlanLocked (map entry_view entries.now) lock.left.items lock.bytes.items) }
+    ensures fault { (disallow : Bool) → IsAllowed disallow (map entry_view entries.now)
+        → IfErr result (λ e. IsLockFault disallow e (map entry_view entries.now)) }
+{
+    let composition = Composition {
+        components: lent(alloc, components)?,
+        instances,
+        wires: wires_of(alloc, entries)?,
+    };
+    lock(alloc, &composition, root_of(entries))
+}
+
 /// The component that a plan makes: its lock, with the contents of the releases in the places of their imports.
 fn bundle(
     alloc: Global,
@@ -145,6 +167,27 @@ fn bundle(
         // The lock is a component.
         Err(BundleError::BadComponent(_)) => unreachable!(),
     }
+}
+
+/// The lock of a plan: it imports the content of each release, makes an instance of each entry, gives it what it is wired
+/// to, imports what the entries leave open, and exports what the root exports.
+///
+/// The first that holds is answered: `ImportsDisallowed` with the first import that is left open, where none may be;
+/// `Incompatible` where wires do not fit, or what is left open does not agree, or the lock would mention what can't be had;
+/// `TooLarge` with a number that can't be written.
+pub fn lock_plan(alloc: Global, plan: &Plan, disallow_imports: bool) -> Result<Lock, ComposeError>
+    requires { AreWired (plan_view plan.now) }
+    ensures locked { IfOk result (λ lock. IsPlanLocked (plan_view plan.now) lock.left.items lock.bytes.items) }
+    ensures allowed { OnOk result (IsAllowed disallow_imports (plan_view plan.now)) }
+    ensures fault { IfErr result (λ e. IsLockFault disallow_imports e (plan_view plan.now)) }
+{
+    check_open(alloc, &plan.entries, disallow_imports)?;
+    let Releases {
+        contents: _,
+        components,
+        instances,
+    } = releases_of(alloc, &plan.entries)?;
+    lock_of(alloc, &plan.entries, &components, instances)
 }
 
 /// The component that a plan makes, and its lock. It nests the content of each release, makes an instance of each entry,
@@ -173,13 +216,7 @@ pub fn compose_plan(
         components,
         instances,
     } = releases_of(alloc, &plan.entries)?;
-    let composition = Composition {
-        components: lent(alloc, &components)?,
-        instances,
-        wires: wires_of(alloc, &plan.entries)?,
-    };
-    let root = root_of(&plan.entries);
-    let lock = lock(alloc, &composition, root)?;
+    let lock = lock_of(alloc, &plan.entries, &components, instances)?;
     let bytes = bundle(alloc, &lock.bytes, &contents)?;
     Ok(Linked { lock, bytes })
 }
