@@ -1,26 +1,33 @@
 -- What a search finds is a plan over components, that of a text or that of a package.
-use Rattle.std.proofs.Common.{◌≡◌, ◌∙◌, sym, ap, subst, refl, ℕ, Bool, true, false, cond, List, [], ◌∷◌, ◌++◌, Some, bytes_eq}
-use Rattle.std.specs.Prelude.{fold}
+use Rattle.std.proofs.Common.{◌≡◌, ◌∙◌, sym, ap, subst, refl, ℕ, Bool, true, false, cond, List, [], ◌∷◌, ◌++◌, Some, bytes_eq, Result, Ok, Err}
+use Rattle.std.specs.Prelude.{IfErr, IfOk, fold}
 use Rattle.std.specs.List.{AllByRecursion}
 use Rattle.std.specs.Map.{lookup}
 use Rattle.std.proofs.lemmas.Slice.Eq.{bytes_eq-Decides}
 use Rattle.indexmap.specs.IndexMap.{insert_entry}
 use Rattle.sha2.specs.Sha256.{sha256}
+use Rattle.comp_shape.specs.Refusal.{IsRefused}
 use Rattle.compose_config.specs.Plan.{Settings}
 use Rattle.warg_api.specs.Link.{Asked}
 use Rattle.warg_plan.specs.Keys.{Key}
 use Rattle.warg_plan.specs.Plan.{EachAfter, IsEntry, IsPlan}
 use Rattle.warg_plan.specs.PlanLaws.{walk_is_plan}
+use Rattle.warg_plan.specs.View.{plan_view}
 use Rattle.warg_plan.specs.Walk.{Content, Entry, Facts, NeedsLog, Stop, nothing_known}
+use Rattle.warg_plan.specs.declared.plan.Plan.{Plan}
+use Rattle.warg_assemble.specs.Known.{Known}
 use Rattle.warg_assemble.specs.Parts.{Loaded, Part, Updated, learnt, learnt_by}
 use Rattle.warg_learn.specs.Learnt.{IsLearnt, IsReadPart}
 use Rattle.warg_learn.specs.Recalled.{IsRecalledOrLearnt, Learnt, Lesson, Recalled, taught}
+use Rattle.warg_learn.specs.RecalledLaws.{lessons_own, search_own}
 use Rattle.warg_learn.specs.Search.{AreLearnt, Finds}
-use Rattle.warg_learn.specs.Seen.{Seen}
+use Rattle.warg_learn.specs.Seen.{IsKnown, Seen}
+use Rattle.warg_learn.specs.Stored.{IsOwnStore}
 use Rattle.warg_compose.specs.Read.{IsComponent}
 use Rattle.warg_compose.specs.Wired.{AreOfComponents, AreWired}
 use Rattle.warg_client.specs.Assembled.{wanted}
-use Rattle.warg_client.specs.Packages.{IsPackagePlan, package_wanted}
+use Rattle.warg_client.specs.Packages.{IsPackagePlan, IsPackageSearchRefused, package_wanted}
+use Rattle.warg_complete.specs.ClientError.{ClientError}
 
 -- a content under its digest is a component
 record IsContent (e : List ℕ × Content) : Type 0 where
@@ -119,3 +126,23 @@ module _ {T D : Type 0} (Steps : T → Asked → T → Type 0) where
         let all = found_contents old new es found in
         law w.settings f w.root es (walk_is_plan w.settings f w.depth w.root es found.finds)
         (record { digests = λ d c known. (looked_up f.contents d c all known).digest; components = λ d c known. (looked_up f.contents d c all known).component })
+
+    -- ---- by the answer of a search
+
+    abbrev Found : Seen T D → Seen T D → Plan → Type 0
+    Found old new plan = Finds taught (package_wanted name) Learns old new (plan_view plan)
+
+    pub answer_planned : (old new : Seen T D) (r : Result Plan ClientError) → IfOk r (Found old new) → IfOk r (λ plan. IsPackagePlan Steps old new name (plan_view plan))
+    answer_planned old new (Ok plan) finds = package_planned old new (plan_view plan) finds
+    answer_planned old new (Err e) finds = tt
+
+    pub answer_wired : Wires → (old new : Seen T D) (r : Result Plan ClientError) → IfOk r (Found old new) → IfOk r (λ plan. AreWired (plan_view plan))
+    answer_wired law old new (Ok plan) finds = package_wired law old new (plan_view plan) finds
+    answer_wired law old new (Err e) finds = tt
+
+    -- whatever it answers, the store of registries stays its client's own
+    pub answer_own : (said : D → D → Bool → Bool) (old new : Seen T D) (r : Result Plan ClientError) → IfOk r (Found old new) → IfErr r (IsPackageSearchRefused Steps old new said name)
+        → (known : Known) → IsKnown old known → IsOwnStore old.accepts new.registries
+    answer_own said old new (Ok plan) finds refused known knows = lessons_own Steps IsComponent (package_wanted name) nothing_known old new finds.parts known knows finds.are
+    answer_own said old new (Err e) finds refused known knows =
+        search_own Steps IsComponent said (λ bytes error. IsRefused error bytes) (package_wanted name) old new refused.refusal known knows refused.cause

@@ -1,5 +1,5 @@
 -- What a client answers of a package: its log, or the component that its plan makes.
-use Rattle.std.specs.Prelude.{◌≡◌, ◌⊎◌, Bool, ℕ, List, [], false, fold}
+use Rattle.std.specs.Prelude.{◌≡◌, ◌⊎◌, Bool, ℕ, List, [], fold}
 use Rattle.std.specs.List.{AllByRecursion}
 use Rattle.sha2.specs.Sha256.{sha256}
 use Rattle.comp_shape.specs.declared.error.ShapeError.{ShapeError}
@@ -17,7 +17,6 @@ use Rattle.warg_learn.specs.Search.{AreLearnt, IsSearchRefusal}
 use Rattle.warg_learn.specs.SearchError.{SearchError}
 use Rattle.warg_learn.specs.Seen.{Seen}
 use Rattle.warg_learn.specs.declared.error.LearnError.{LearnError}
-use Rattle.warg_compose.specs.Linked.{IsComposeFault}
 use Rattle.warg_compose.specs.Read.{IsComponent}
 use Rattle.warg_compose.specs.declared.error.ComposeError.{ComposeError}
 use Rattle.warg_complete.specs.ClientError.{ClientError}
@@ -51,14 +50,14 @@ module _ {T D : Type 0} (Steps : T → Asked → T → Type 0) (old new : Seen T
     pub cause : IsSearchRefusal taught (package_wanted name) (IsRecalledOrLearnt Steps IsComponent)
         (IsNeitherLearnt Steps said (λ bytes error. IsRefused error bytes)) old new refusal
 
-  -- the plan of a package is found, and not linked
-  pub record IsPackageComposeRefused (name : List ℕ) (e : ClientError) : Type 0 where
+  -- the plan of a package is found, and refused for a reason of this kind
+  pub record IsPackagePlanRefused (Refuses : ComposeError → List Entry → Type 0) (name : List ℕ) (e : ClientError) : Type 0 where
     pub entries : List Entry
     pub planned : IsPackagePlan name entries
     pub refusal : ComposeError
     pub told : e ≡ compose_refusal refusal
-    pub cause : IsComposeFault false refusal entries
+    pub cause : Refuses refusal entries
 
-  -- why there is no component of a package's plan
-  abbrev pub IsPackageFault : (D → D → Bool → Bool) → List ℕ → ClientError → Type 0
-  IsPackageFault said name e = IsPackageSearchRefused said name e ⊎ IsPackageComposeRefused name e
+  -- why there is no component of a package's plan, which is refused for reasons of this kind
+  abbrev pub IsPackageFault : (D → D → Bool → Bool) → (ComposeError → List Entry → Type 0) → List ℕ → ClientError → Type 0
+  IsPackageFault said Refuses name e = IsPackageSearchRefused said name e ⊎ IsPackagePlanRefused Refuses name e

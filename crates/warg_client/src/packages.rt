@@ -1,6 +1,6 @@
 //! What is answered of a package: its log, or the component that its plan makes.
 
-ghost use Rattle.std.specs.Prelude.{◌≡◌, [], List, ℕ, IfOk, IfErr};
+ghost use Rattle.std.specs.Prelude.{◌≡◌, [], List, ℕ, false, IfOk, IfErr};
 ghost use Rattle.comp_shape.specs.Refusal.{IsRefused};
 ghost use Rattle.warg_info.specs.Info.{IsSoundPackage};
 ghost use Rattle.warg_names.specs.Import.{dependency};
@@ -13,8 +13,9 @@ ghost use Rattle.warg_learn.specs.Recalled.{IsRecalledOrLearnt, taught};
 ghost use Rattle.warg_learn.specs.Search.{Finds};
 ghost use Rattle.warg_learn.specs.Seen.{IsKnown, Telling, tells};
 ghost use Rattle.warg_learn.specs.Stored.{IsOwnStore};
-ghost use Rattle.warg_compose.specs.Linked.{IsPlanLinked};
+ghost use Rattle.warg_compose.specs.Linked.{IsComposeFault, IsLockFault, IsPlanLinked, IsPlanLocked};
 ghost use Rattle.warg_compose.specs.Read.{IsComponent};
+ghost use Rattle.warg_compose.specs.Wired.{AreWired};
 ghost use Rattle.warg_client.specs.Assembled.{beginning};
 ghost use Rattle.warg_client.specs.Packages.{IsOfFetch, IsPackageFault, IsPackagePlan, IsPackageSearchRefused, package_wanted};
 ghost use Rattle.warg_client.specs.Shown.{assembly_of, registry_of, seen_by, settings_of, verifier_of};
@@ -27,7 +28,7 @@ use std::alloc::Global;
 use warg_api::Link;
 use warg_complete::ClientError;
 use warg_compose::laws::plans_over_components_are_wired;
-use warg_compose::{Linked, compose_plan};
+use warg_compose::{compose_plan, lock_plan};
 use warg_hash::PackageName;
 use warg_hint::Decide;
 use warg_info::PackageInfo;
@@ -179,16 +180,15 @@ impl<
         Ok(search_from(alloc, &KeptFirst, &mut self.learner, &config, &root)?)
     }
 
-    /// The plan of a package, linked.
-    fn link_package(&mut self, alloc: Global, name: &PackageName) -> Result<Linked, ClientError>
-        ensures linked { IfOk result (λ linked. (es : List Entry)
-            × IsPackagePlan L.Steps
+    /// The plan of a package, found by a call of its own.
+    fn plan_package(&mut self, alloc: Global, name: &PackageName) -> Result<Plan, ClientError>
+        ensures planned { IfOk result (λ plan. IsPackagePlan L.Steps
             (beginning (settings_of self.old)
             (seen_by (tells V.good L.told L.faults R.told R.faults C.told C.faults N.told N.faults) self.old))
             (seen_by (tells V.good L.told L.faults R.told R.faults C.told C.faults N.told N.faults) self.new)
-            name.now es
-            × IsPlanLinked es linked.lock.left.items linked.lock.bytes.items linked.bytes.items) }
-        ensures cause { IfErr result (λ e. IsPackageFault L.Steps
+            name.now (plan_view plan)) }
+        ensures wired { IfOk result (λ plan. AreWired (plan_view plan)) }
+        ensures refused { IfErr result (λ e. IsPackageSearchRefused L.Steps
             (beginning (settings_of self.old)
             (seen_by (tells V.good L.told L.faults R.told R.faults C.told C.faults N.told N.faults) self.old))
             (seen_by (tells V.good L.told L.faults R.told R.faults C.told C.faults N.told N.faults) self.new)
@@ -202,8 +202,7 @@ impl<
     {
         plans_over_components_are_wired();
         self.restart(alloc);
-        let plan = self.find_package_plan(alloc, name)?;
-        Ok(compose_plan(alloc, &plan, false)?)
+        self.find_package_plan(alloc, name)
     }
 
     /// The lock of a package's plan: the component that the plan makes, but that it imports those of the releases.
@@ -222,12 +221,12 @@ impl<
             (seen_by (tells V.good L.told L.faults R.told R.faults C.told C.faults N.told N.faults) self.old))
             (seen_by (tells V.good L.told L.faults R.told R.faults C.told C.faults N.told N.faults) self.new)
             info.now.name es
-            × (left : List (List ℕ)) × (bytes : List ℕ) × IsPlanLinked es left lock.items bytes) }
+            × (left : List (List ℕ)) × IsPlanLocked es left lock.items) }
         ensures cause { IfErr result (λ e. IsPackageFault L.Steps
             (beginning (settings_of self.old)
             (seen_by (tells V.good L.told L.faults R.told R.faults C.told C.faults N.told N.faults) self.old))
             (seen_by (tells V.good L.told L.faults R.told R.faults C.told C.faults N.told N.faults) self.new)
-            D.said info.now.name e) }
+            D.said (IsLockFault false) info.now.name e) }
         ensures own { (known : Known)
             → IsKnown (beginning (settings_of self.old)
             (seen_by (tells V.good L.told L.faults R.told R.faults C.told C.faults N.told N.faults) self.old)) known
@@ -235,8 +234,9 @@ impl<
         ensures same_settings { settings_of self.new ≡ settings_of self.old }
         ensures same_assembly { assembly_of self.new ≡ assembly_of self.old }
     {
-        let linked = self.link_package(alloc, &info.name)?;
-        Ok(linked.lock.bytes)
+        let plan = self.plan_package(alloc, &info.name)?;
+        let lock = lock_plan(alloc, &plan, false)?;
+        Ok(lock.bytes)
     }
 
     /// The component that a package's plan makes: its lock, bundled with the contents of the releases.
@@ -258,7 +258,7 @@ impl<
             (beginning (settings_of self.old)
             (seen_by (tells V.good L.told L.faults R.told R.faults C.told C.faults N.told N.faults) self.old))
             (seen_by (tells V.good L.told L.faults R.told R.faults C.told C.faults N.told N.faults) self.new)
-            D.said info.now.name e) }
+            D.said (IsComposeFault false) info.now.name e) }
         ensures own { (known : Known)
             → IsKnown (beginning (settings_of self.old)
             (seen_by (tells V.good L.told L.faults R.told R.faults C.told C.faults N.told N.faults) self.old)) known
@@ -266,7 +266,8 @@ impl<
         ensures same_settings { settings_of self.new ≡ settings_of self.old }
         ensures same_assembly { assembly_of self.new ≡ assembly_of self.old }
     {
-        let linked = self.link_package(alloc, &info.name)?;
+        let plan = self.plan_package(alloc, &info.name)?;
+        let linked = compose_plan(alloc, &plan, false)?;
         Ok(linked.bytes)
     }
 }
