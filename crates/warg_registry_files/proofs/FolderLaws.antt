@@ -3,6 +3,7 @@ use Rattle.std.proofs.Common.{◌≡◌, ◌<◌, ◌/◌, ◌%◌, ℕ, zero, s
 use Rattle.std.specs.Char.{is_ascii_alphanumeric}
 use Rattle.std.specs.Cmp.Lexicographic.{nat_list_eq_equiv}
 use Rattle.std.specs.List.{list_all}
+use Rattle.std.specs.Str.{is_utf8}
 use Rattle.std.proofs.lemmas.Bool.{and_parts, cases_Bool, eqb-true, lt-ltb, ltb-true}
 use Rattle.std.proofs.lemmas.List.{append_cancel_left}
 use Rattle.std.proofs.lemmas.List.Folds.{list_any-append}
@@ -11,7 +12,7 @@ use Rattle.hex.specs.Hex.{IsBytes, encode_upper, encode_with, upper_digits, deco
 use Rattle.hex.proofs.HexLemmas.{decode_of-encode_upper, decode_of-same}
 use Rattle.warg_store.specs.Held.{Registry}
 use Rattle.warg_registry_files.specs.Resets.{is_folder, is_of_name, is_plain}
-use Rattle.warg_registry_files.specs.Paths.{Place, are_bytes, is_named, has_slash, stands, escaped_byte, escaped_bytes, escaped, folder_name, folder_path}
+use Rattle.warg_registry_files.specs.Paths.{Place, are_bytes, escaped, escaped_byte, escaped_bytes, folder_name, folder_path, has_slash, is_named, is_text, stands}
 
 -- ---- digits
 
@@ -52,7 +53,7 @@ same_byte a b of_a of_b same =
     cc
 
 -- a byte that stands is none that is escaped
-apart : (first : Bool) (a : ℕ) (x y : List ℕ) → stands first a ≡ true → a ∷ x ≡ 37 ∷ y → ⊥
+pub apart : (first : Bool) (a : ℕ) (x y : List ℕ) → stands first a ≡ true → a ∷ x ≡ 37 ∷ y → ⊥
 apart first a x y is same = let e : a ≡ 37 = cc in let f : true ≡ false = sym is ∙ ap (stands first) e ∙ percent_is_escaped first in cc
 
 split_bytes : (first : Bool) (a b : ℕ) (x y : List ℕ) (s t : Bool) → a < 256 → b < 256 → stands first a ≡ s → stands first b ≡ t
@@ -69,7 +70,7 @@ some_bytes : (s : Bool) (b : ℕ) (y : List ℕ) → [] ≡ cond s (b ∷ []) (3
 some_bytes true b y e = cc
 some_bytes false b y e = cc
 
-rest_bytes : (b : ℕ) (bs : List ℕ) → IsBytes (b ∷ bs) → IsBytes bs
+pub rest_bytes : (b : ℕ) (bs : List ℕ) → IsBytes (b ∷ bs) → IsBytes bs
 rest_bytes b bs is i = is (suc i)
 
 bytes_back : (first : Bool) (xs bs : List ℕ) → IsBytes xs → IsBytes bs → escaped_bytes first xs ≡ escaped_bytes first bs → xs ≡ bs
@@ -122,7 +123,7 @@ no_two_percents b bs y false is e =
     let d : get_or upper_digits (b / 16) 0 ≡ 37 = cc in
     let f : true ≡ false = sym (ap (λ x. nat_eq x 37) d) ∙ no_percent_digit (b / 16) in cc
 
-no_percents : (name y : List ℕ) → 37 ∷ 37 ∷ y ≡ escaped name → ⊥
+pub no_percents : (name y : List ℕ) → 37 ∷ 37 ∷ y ≡ escaped name → ⊥
 no_percents [] y e = cc
 no_percents (b ∷ bs) y e = no_two_percents b bs y (stands true b) refl e
 
@@ -155,11 +156,15 @@ pub bytes_pass : (xs : List ℕ) → IsBytes xs → are_bytes xs ≡ true
 bytes_pass [] h = refl
 bytes_pass (x ∷ xs) h = both _ _ (lt-ltb x 256 (h zero)) (bytes_pass xs (λ i. h (suc i)))
 
+-- a text is bytes
+pub text_bytes : (bs : List ℕ) → is_text bs ≡ true → IsBytes bs
+text_bytes bs h = bytes_by_test bs (and_parts (are_bytes bs) (is_utf8 bs) h).0
+
 pub folders_apart : (own : List ℕ) (a b : Registry) → is_named a ≡ true → is_named b ≡ true → folder_name own a ≡ folder_name own b → a ≡ b
 folders_apart own None None of_a of_b e = refl
 folders_apart own None (Some b) of_a of_b e = absurd (home_apart own b (bytes_eq (escaped b) own) refl e)
 folders_apart own (Some a) None of_a of_b e = absurd (home_apart own a (bytes_eq (escaped a) own) refl (sym e))
-folders_apart own (Some a) (Some b) of_a of_b e = ap Some (others_apart a b (bytes_eq (escaped a) own) (bytes_eq (escaped b) own) (bytes_by_test a of_a) (bytes_by_test b of_b) e)
+folders_apart own (Some a) (Some b) of_a of_b e = ap Some (others_apart a b (bytes_eq (escaped a) own) (bytes_eq (escaped b) own) (text_bytes a of_a) (text_bytes b of_b) e)
 
 -- the home registry's folder is no other's
 pub no_other_home : (own name : List ℕ) → own ≡ folder_name own (Some name) → ⊥
@@ -245,4 +250,4 @@ named_plain name false is = escaped_plain name is
 -- the folder of a registry passes
 pub folder_passes : (own : List ℕ) (r : Registry) → is_named r ≡ true → is_folder own (folder_name own r) ≡ true
 folder_passes own None named = or_left _ _ (nat_list_eq_equiv.refl own)
-folder_passes own (Some name) named = or_right _ _ (named_plain name (bytes_eq (escaped name) own) (bytes_by_test name named))
+folder_passes own (Some name) named = or_right _ _ (named_plain name (bytes_eq (escaped name) own) (text_bytes name named))

@@ -111,7 +111,7 @@ module _ (place : Place) (single : has_slash place.own ≡ false) where
   pub operators_apart : (key k : Registry) → is_named key ≡ true → is_named k ≡ true → bytes_eq (operator_path place k) (operator_path place key) ≡ is_registry key k
   operators_apart key k of_key of_k = same_name (codes "operator.log") key k of_key of_k
 
-  one_log : (p q : Package) → is_log p ≡ true → is_log q ≡ true → package_path place p ≡ package_path place q → p ≡ q
+  pub one_log : (p q : Package) → is_log p ≡ true → is_log q ≡ true → package_path place p ≡ package_path place q → p ≡ q
   one_log p q of_p of_q e =
       let ps = and_parts (is_named p.0) (are_bytes p.1) of_p in
       let qs = and_parts (is_named q.0) (are_bytes q.1) of_q in

@@ -1,6 +1,8 @@
+pub mod BackLaws
 pub mod FileLaws
 pub mod FolderLaws
 pub mod KeyLaws
+pub mod ListingLaws
 pub mod NamedLaws
 pub mod PathLaws
 pub mod PublishLaws

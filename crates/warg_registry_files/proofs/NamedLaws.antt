@@ -1,5 +1,5 @@
 -- The package whose log has an id.
-use Rattle.std.proofs.Common.{◌≡◌, Bool, cond, List, ℕ, bytes_eq, Option, Some, None, option_and_then, ap, ◌∙◌}
+use Rattle.std.proofs.Common.{◌≡◌, Bool, false, cond, List, ℕ, bytes_eq, Option, Some, None, option_and_then, sym, ap, subst, ◌∙◌}
 use Rattle.std.specs.Option.{option_map_or}
 use Rattle.std.specs.Cmp.Lexicographic.{nat_list_eq_equiv}
 use Rattle.std.proofs.lemmas.Slice.Eq.{bytes_eq-Decides}
@@ -20,6 +20,14 @@ named_whole name text info is =
 pub named_front : (id text : List ℕ) → package_of text ≡ None → package_with_id id text ≡ None
 unfolding if_id
 named_front id text is = ap (option_and_then (if_id id)) is
+
+pub named_other : (id name text : List ℕ) (info : Info) → package_of text ≡ Some (name, info) → bytes_eq (package_log_id name) id ≡ false → package_with_id id text ≡ None
+unfolding if_id
+named_other id name text info is other =
+    ap (option_and_then (if_id id)) is ∙ ap (λ (b : Bool). cond b (Some (record { name = name; info = info })) None) other
+
+pub named_with : (id name text : List ℕ) (info : Info) → package_of text ≡ Some (name, info) → package_log_id name ≡ id → Some (record { name = name; info = info }) ≡ package_with_id id text
+named_with id name text info is same = sym (subst (λ (i : List ℕ). package_with_id i text ≡ Some (record { name = name; info = info })) same (named_whole name text info is))
 
 -- ---- as the package of a name
 

@@ -153,7 +153,7 @@ path_kept place single r q named (inr (inr (inl (home, e)))) = record { name = p
 path_kept place single r q named (inr (inr (inr (id, e)))) =
     record { name = folder_name place.own r; entry = log_name id; is = e ∙ package_at place (r, id); single = folder_has_none place.own r single; of_folder = folder_passes place.own r named; is_one = at_log id }
 
-kept_under : (place : Place) (q : List ℕ) → IsKept place q → is_under place.parent q ≡ true
+pub kept_under : (place : Place) (q : List ℕ) → IsKept place q → is_under place.parent q ≡ true
 kept_under place q k =
     ap (is_under place.parent) (k.is ∙ append_assoc place.parent (47 ∷ k.name) (47 ∷ k.entry) ∙ sym (append_assoc place.parent (codes "/") (k.name ++ 47 ∷ k.entry)))
     ∙ under place.parent (k.name ++ 47 ∷ k.entry)
@@ -187,11 +187,11 @@ of_listed P passes q (x ∷ xs) any pass all =
     later false f e = e
 
 -- a file that is told is listed
-listed_file : (P : List ℕ → Type 0) (files : FileMap) (folder q bytes : List ℕ) → file_at files q ≡ Some bytes → is_under folder q ≡ true → All P (paths_under files folder) → P q
+pub listed_file : (P : List ℕ → Type 0) (files : FileMap) (folder q bytes : List ℕ) → file_at files q ≡ Some bytes → is_under folder q ≡ true → All P (paths_under files folder) → P q
 listed_file P files folder q bytes is inside all =
     of_listed P (is_under folder) q (map.keys files) (sym (map.contains_key-keys files q) ∙ ap is_some is) inside (recursion_from_All P (paths_under files folder) all)
 
-by_file : {P : Type 0} (o : Option (List ℕ)) → (o ≡ None → P) → ((bytes : List ℕ) → o ≡ Some bytes → P) → P
+pub by_file : {P : Type 0} (o : Option (List ℕ)) → (o ≡ None → P) → ((bytes : List ℕ) → o ≡ Some bytes → P) → P
 by_file None none some = none refl
 by_file (Some bytes) none some = some bytes refl
 

@@ -2,6 +2,7 @@
 use Rattle.std.specs.Prelude.{◌≡◌, ℕ, nat_eq, nat_lt, ◌&&◌, ◌||◌, not, Bool, true, false, if◌then◌else◌, List, [], ◌∷◌, ◌++◌, length, bytes_eq, codes, Some, None}
 use Rattle.std.specs.Char.{is_ascii_alphanumeric}
 use Rattle.std.specs.List.{list_all, list_any}
+use Rattle.std.specs.Str.{is_utf8}
 use Rattle.hex.specs.Hex.{encode_lower, encode_upper}
 use Rattle.warg_store.specs.Held.{Registry, Package}
 
@@ -64,10 +65,14 @@ pub record IsPlaceOf (base : List ℕ) (place : Place) : Type 0 where
 abbrev pub are_bytes : List ℕ → Bool
 are_bytes bs = list_all (λ b. nat_lt b 256) bs
 
--- a registry's name is bytes, where it has one
+-- the numbers are bytes, and a text in UTF-8
+abbrev pub is_text : List ℕ → Bool
+is_text bs = are_bytes bs && is_utf8 bs
+
+-- a registry's name is a text, where it has one
 abbrev pub is_named : Registry → Bool
 is_named None = true
-is_named (Some name) = are_bytes name
+is_named (Some name) = is_text name
 
 -- a package's registry is named so, and the id of its log is bytes
 abbrev pub is_log : Package → Bool

@@ -1,12 +1,12 @@
 -- What is held of registries, and of what is to be published, where files stand.
-use Rattle.std.specs.Prelude.{List, ℕ, if◌then◌else◌, bytes_eq, Option, Some, None, option_and_then}
+use Rattle.std.specs.Prelude.{◌≡◌, List, [], ◌∷◌, ◌++◌, ℕ, true, if◌then◌else◌, bytes_eq, Option, Some, None, option_and_then}
 use Rattle.std.specs.Option.{option_map_or}
 use Rattle.warg_base.specs.Files.{FileMap, file_at}
 use Rattle.warg_hash.specs.Hash.{package_log_id}
 use Rattle.warg_info_text.specs.StoredTexts.{checkpoint_of, operator_of, package_of}
 use Rattle.warg_publish_text.specs.PublishText.{publish_of}
 use Rattle.warg_store.specs.Entry.{Entry, Absent, Whole, Unreadable}
-use Rattle.warg_store.specs.Held.{Held, NamedInfo}
+use Rattle.warg_store.specs.Held.{Held, NamedInfo, Package, Registry, is_registry, package_key}
 use Rattle.warg_registry_files.specs.Paths.{Place, checkpoint_path, is_log, is_named, operator_path, package_path, publish_path}
 
 -- the entry of a file, which may be missing, whose bytes are read so
@@ -29,3 +29,19 @@ held_in place files = record {
   packages = λ p. if is_log p then entry_by (package_with_id p.1) (file_at files (package_path place p)) else Absent;
   publish = entry_by publish_of (file_at files (publish_path place));
 }
+
+-- what is read at a path: a package that is held, where it is the path of the package's log; or else nothing, where no
+-- package is held of whose log it is the path
+abbrev pub IsReadAt : Place → FileMap → List ℕ → Option (Registry × NamedInfo) → Type 0
+IsReadAt place files path None =
+    (p : Package) → is_log p ≡ true → path ≡ package_path place p → (held_in place files).packages p ≡ Absent
+IsReadAt place files path (Some found) =
+    (is_log (package_key found.0 found.1.name) ≡ true)
+    × (path ≡ package_path place (package_key found.0 found.1.name))
+    × ((held_in place files).packages (package_key found.0 found.1.name) ≡ Whole found.1)
+
+-- what is listed of each registry is what was listed of it, with what is read at a path
+abbrev pub Lists : Place → FileMap → List ℕ → (Registry → List NamedInfo) → (Registry → List NamedInfo) → Type 0
+Lists place files path listed more =
+    (o : Option (Registry × NamedInfo)) × IsReadAt place files path o
+    × ((r : Registry) → more r ≡ listed r ++ option_map_or (λ found. if is_registry found.0 r then found.1 ∷ [] else []) o [])

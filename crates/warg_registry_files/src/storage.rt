@@ -1,26 +1,30 @@
 //! What is kept of registries and of what is to be published, in files.
 
-ghost use Rattle.std.specs.Prelude.{◌≡◌, ◌≢◌, ◌≤◌, ℕ, true, false, List, Some, None, Ok, Err, IfOk, IfErr, IfSome, OnOk, OnErr, option_copied, option_map};
+ghost use Rattle.std.specs.Prelude.{◌≡◌, ◌≢◌, ◌≤◌, ℕ, true, false, List, bytes_eq, Some, None, Ok, Err, IfOk, IfErr, IfSome, OnOk, OnErr, option_copied, option_map};
 ghost use Rattle.warg_base.specs.Files.{LeavesPartlyRemoved, LeavesPartlyWritten, file_at, paths_under, with_file, without_path};
 ghost use Rattle.warg_base.specs.declared.files.FileError.TheVariants.{Missing as is_missing, Failed as has_failed};
 ghost use Rattle.warg_values.specs.Faults.{Rose};
 ghost use Rattle.warg_locks.specs.declared.locks.LockError.TheVariants.{Failed as lock_failed};
+ghost use Rattle.warg_hash.specs.Hash.{package_log_id};
 ghost use Rattle.warg_info.specs.Info.{IsSoundOperator, IsSoundPackage};
 ghost use Rattle.warg_info_text.specs.StoredTexts.{checkpoint_text, operator_text, package_text};
 ghost use Rattle.warg_publish.specs.Shown.{info_view};
 ghost use Rattle.warg_publish_text.specs.PublishText.{publish_text};
 ghost use Rattle.warg_store.specs.Entry.{Absent, Whole, entry_of, IsLoadFault, IsStoreFault};
 ghost use Rattle.warg_store.specs.Held.{IsSoundPublish, LeavesPublish, LeavesReset, LeavesStore, Tells, after_reset, entry_named, named_info, operator_info, package_info, package_key, with_checkpoint, with_operator, with_package, with_publish};
+ghost use Rattle.warg_store.specs.Listed.{AreAllPackages, AreSoundLists, HaveSome, IsListingFault, listed_in};
 ghost use Rattle.warg_store.specs.declared.error.StoreError.TheVariants.{Failed as store_failed, Memory as no_memory};
 ghost use Rattle.warg_registry_files.specs.Paths.{IsPlaceOf, checkpoint_path, lock_path, operator_path, package_path, publish_path};
+ghost use Rattle.warg_registry_files.specs.RegistryFiles.{IsReadAt, Lists, package_with_id};
 ghost use Rattle.warg_registry_files.specs.Resets.{HasNone, IsKept, LeavesOthers, LeavesPublishFile, MayGo, is_at, with_publish_file};
 ghost use Rattle.warg_registry_files.specs.Shown.{files_of, place_of, held_of, lock_of};
 
 use crate::paths::Place;
+use indexmap::IndexMap;
 use std::alloc::Global;
 use warg_base::{FileError, Files};
 use warg_exchange::SignedCheckpoint;
-use warg_hash::PackageName;
+use warg_hash::{LogId, PackageName};
 use warg_info::{OperatorInfo, PackageInfo};
 use warg_info_text::{
     read_checkpoint, read_operator, read_package, write_checkpoint, write_operator, write_package,
@@ -28,7 +32,7 @@ use warg_info_text::{
 use warg_locks::{LockError, Locks};
 use warg_publish::PublishInfo;
 use warg_publish_text::{read_publish, write_publish};
-use warg_store::{EntryKind, RegistryStorage, StoreError};
+use warg_store::{EntryKind, RegistryStorage, StoreError, list_package};
 use warg_url::RegistryDomain;
 use warg_values::{Memory, Text};
 
@@ -51,6 +55,29 @@ fn refusal(error: FileError) -> StoreError
         FileError::Memory => StoreError::Memory,
         FileError::Failed | FileError::Missing => StoreError::Failed,
     }
+}
+
+/// Whether the log of the package of a name has an id.
+fn has_id(name: &PackageName, id: &[u8]) -> bool
+    ensures { result ≡ bytes_eq (package_log_id name.now) id.now }
+{
+    let log = LogId::package_log(name);
+    log.hash().bytes().as_slice() == id
+}
+
+/// The log of a package that bytes are, where it has an id, and none where they are none.
+fn read_with_id(alloc: Global, bytes: &[u8], id: &[u8]) -> Result<Option<PackageInfo>, Memory>
+    ensures found { IfOk result (λ o. option_map named_info o ≡ package_with_id id.now bytes.now) }
+    ensures id { IfOk result (λ o. IfSome o (λ info. id.now ≡ package_log_id info.name)) }
+    ensures sound { IfOk result (λ o. IfSome o IsSoundPackage) }
+{
+    let Some(info) = read_package(alloc, bytes)? else {
+        return Ok(None);
+    };
+    if has_id(&info.name, id) {
+        return Ok(Some(info));
+    }
+    Ok(None)
 }
 
 /// The path that a store locks, in the home registry's folder.
@@ -208,6 +235,57 @@ impl<F: Files + Drop, L: Drop> FileSystemRegistryStorage<F, L> {
             Ok(paths) => Ok(paths),
             Err(error) => Err(refusal(error)),
         }
+    }
+
+    /// The log of the package of whose log a path is, where it is that of one, with the registry that has it.
+    fn load_at(
+        &mut self,
+        alloc: Global,
+        path: &Text,
+    ) -> Result<Option<(Option<RegistryDomain>, PackageInfo)>, StoreError>
+        ensures never_falls { F.faults (files_of self.old) ≤ F.faults (files_of self.new) }
+        ensures found { IfOk result (λ o. IfSome (F.told (files_of self.old)) (λ files.
+            IsReadAt (place_of self.old) files path.now (option_map (λ x. (x.0, named_info x.1)) o))) }
+        ensures sound { IfOk result (λ o. IfSome o (λ x. IsSoundPackage x.1)) }
+        ensures fault { IfErr result (λ e. IsListingFault e (F.faults (files_of self.old)) (F.faults (files_of self.new))
+            (option_map (λ held. held.packages) (held_of F.told self.old))) }
+        ensures place { place_of self.new ≡ place_of self.old }
+        ensures untouched { F.told (files_of self.new) ≡ F.told (files_of self.old) }
+    {
+        let Some((registry, id)) = self.place.log_at(alloc, path.as_str())? else {
+            return Ok(None);
+        };
+        let Some(bytes) = self.read(alloc, path)? else {
+            return Ok(None);
+        };
+        match read_with_id(alloc, &bytes, &id)? {
+            Some(info) => Ok(Some((registry, info))),
+            None => Err(StoreError::Damaged(EntryKind::Package)),
+        }
+    }
+
+    /// Lists the log of the package of whose log a path is, where it is that of one.
+    fn list_at(
+        &mut self,
+        alloc: Global,
+        path: &Text,
+        all: &mut IndexMap<Option<RegistryDomain>, Vec<PackageInfo>>,
+    ) -> Result<(), StoreError>
+        ensures never_falls { F.faults (files_of self.old) ≤ F.faults (files_of self.new) }
+        ensures listed { OnOk result (IfSome (F.told (files_of self.old)) (λ files.
+            Lists (place_of self.old) files path.now (listed_in all.old) (listed_in all.new))) }
+        ensures sound { OnOk result (AreSoundLists all.old → AreSoundLists all.new) }
+        ensures have_some { OnOk result (HaveSome all.old → HaveSome all.new) }
+        ensures fault { IfErr result (λ e. IsListingFault e (F.faults (files_of self.old)) (F.faults (files_of self.new))
+            (option_map (λ held. held.packages) (held_of F.told self.old))) }
+        ensures place { place_of self.new ≡ place_of self.old }
+        ensures untouched { F.told (files_of self.new) ≡ F.told (files_of self.old) }
+    {
+        let Some((registry, info)) = self.load_at(alloc, path)? else {
+            return Ok(());
+        };
+        list_package(alloc, all, registry, info)?;
+        Ok(())
     }
 
     /// Takes the file at a path away where it is of what is kept of a registry.
@@ -452,6 +530,29 @@ impl<F: Files + Drop, L: Drop> RegistryStorage for FileSystemRegistryStorage<F, 
         let text = write_operator(alloc, info)?;
         self.write(alloc, &path, &text)?;
         Ok(())
+    }
+
+    fn load_all_packages(
+        &mut self,
+        alloc: Global,
+    ) -> Result<IndexMap<Option<RegistryDomain>, Vec<PackageInfo>>, StoreError>
+        ensures never_falls { F.faults (files_of self.old) ≤ F.faults (files_of self.new) }
+        ensures kept { IfSome (held_of F.told self.old) (Tells (held_of F.told self.new)) }
+        ensures found { IfOk result (λ all. IfSome (held_of F.told self.old) (λ held.
+            AreAllPackages held.packages (listed_in all))) }
+        ensures sound { IfOk result AreSoundLists }
+        ensures have_some { IfOk result HaveSome }
+        ensures fault { IfErr result (λ e. IsListingFault e (F.faults (files_of self.old)) (F.faults (files_of self.new))
+            (option_map (λ held. held.packages) (held_of F.told self.old))) }
+        ensures place { place_of self.new ≡ place_of self.old }
+        ensures untouched { F.told (files_of self.new) ≡ F.told (files_of self.old) }
+    {
+        let paths = self.list(alloc)?;
+        let mut all = IndexMap::new(alloc);
+        for path in &paths {
+            self.list_at(alloc, path, &mut all)?;
+        }
+        Ok(all)
     }
 
     fn load_package(
