@@ -6,6 +6,8 @@ mod configurations;
 #[cfg(test)]
 mod contents;
 #[cfg(test)]
+mod listing;
+#[cfg(test)]
 mod locks;
 #[cfg(test)]
 mod pending;
