@@ -92,9 +92,9 @@ pub trait RegistryStorage: Drop {
             (with_operator held (option_copied registry.entry)) (operator_info info.now))) }
         ensures fault { IfErr result (λ e. IsStoreFault e (faults self.old) (faults self.new)) };
 
-    /// What is kept of the logs of all packages: a list for each registry that has some. Each log is sound, and the
-    /// packages of one registry have different names. Where one package's entry can't be read, or stands under the id of
-    /// another one's log, nothing is given.
+    /// What is kept of the logs of all packages: a list for each registry that has some. Each log is sound, and of what
+    /// is told each is listed once. Where the entry of one package can't be read, or stands under the id of another
+    /// one's log, the answer is `Damaged`.
     fn load_all_packages(
         &mut self,
         alloc: Global,
