@@ -1,6 +1,6 @@
 //! What stands at the root of a type or an entity.
 
-ghost use Rattle.std.specs.Prelude.{◌≡◌, IfOk};
+ghost use Rattle.std.specs.Prelude.{◌≡◌, IfOk, true};
 ghost use Rattle.comp_entity.specs.Names.{without_places};
 ghost use Rattle.comp_table.specs.Changes.{head_by};
 
@@ -118,5 +118,19 @@ pub fn bare_head(alloc: Global, head: &Head) -> Result<Head, Memory>
         Head::EnumOf(_) => Ok(Head::EnumOf(None)),
         Head::Entry(_, name) => Ok(Head::Entry(true, name.try_clone(alloc)?)),
         other => other.try_clone(alloc),
+    }
+}
+
+/// Whether a head has no place that named a type, and the naming bit where it is that of an import or an export.
+pub fn is_bare_head(head: &Head) -> bool
+    ensures { result ≡ true → head.now ≡ head_by without_places 0 head.now }
+{
+    match head {
+        Head::RecordOf(place) => place.is_none(),
+        Head::VariantOf(place) => place.is_none(),
+        Head::FlagsOf(place) => place.is_none(),
+        Head::EnumOf(place) => place.is_none(),
+        Head::Entry(mark, _) => *mark,
+        _ => true,
     }
 }

@@ -110,6 +110,15 @@ fn head_label(head: &Head) -> &str
     }
 }
 
+/// Adds one number, for which no more room is taken than it needs.
+fn push_alone(numbers: &mut Vec<usize>, number: usize) -> Result<(), Memory>
+    ensures { OnOk result (numbers.new.items ≡ numbers.old.items ++ number ∷ []) }
+{
+    numbers.reserve_exact(1)?;
+    numbers.push(number)?;
+    Ok(())
+}
+
 /// Adds the numbers of a name.
 fn push_name(numbers: &mut Vec<usize>, out: usize, number: usize) -> Result<(), Memory>
     ensures { OnOk result
@@ -159,7 +168,7 @@ fn push_head(numbers: &mut Vec<usize>, head: &Head) -> Result<(), Memory>
         Head::Own(name) => push_name(numbers, name.out(), name.number())?,
         Head::Borrow(name) => push_name(numbers, name.out(), name.number())?,
         Head::Resource(name) => push_name(numbers, name.out(), name.number())?,
-        Head::Entry(mark, _) => numbers.push(*mark as usize)?,
+        Head::Entry(mark, _) => push_alone(numbers, *mark as usize)?,
         Head::CoreTable(element, limits) => {
             numbers.push(core_value_code(*element))?;
             push_limits(numbers, *limits)?;

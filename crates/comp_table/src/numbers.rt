@@ -43,8 +43,7 @@ impl Numbers {
     pub fn try_clone(&self, alloc: Global) -> Result<Self, Memory>
         ensures { IfOk result (λ copy. copy ≡ self.now) }
     {
-        let mut items = Vec::new(alloc);
-        items.extend_from_slice(self.items.as_slice())?;
+        let items = Vec::from_slice(alloc, self.items.as_slice())?;
         Ok(Numbers { items })
     }
 }

@@ -1,6 +1,6 @@
 //! Types and entities by number: each stands once.
 
-ghost use Rattle.std.specs.Prelude.{◌≡◌, ◌<◌, ◌↔◌, ◌+◌, ◌++◌, ◌∷◌, [], List, length, map, IfOk, IsTrue, None, OnOk, max};
+ghost use Rattle.std.specs.Prelude.{◌≡◌, ◌<◌, ◌↔◌, ◌+◌, ◌++◌, ◌∷◌, [], List, length, map, IfOk, IsTrue, None, OnOk, max, true};
 ghost use Rattle.std.specs.BTreeMap.{get};
 ghost use Rattle.comp_table.specs.declared.table.Node.{Node};
 ghost use Rattle.comp_table.specs.Facts.{capped, head_depth, head_size, tree_depth, tree_size};
@@ -14,7 +14,7 @@ ghost use Rattle.comp_table.specs.Shown.{IsShown};
 ghost use Rattle.comp_table.specs.Table.{AreBare, AreMeasured, IsBareOf, IsTable, key_cmp, node_key, trees, IsMeasured};
 ghost use Rattle.comp_table.specs.Trees.{AllStand, Extends, IsBelow, IsOnce, Stands, below_root, node_tree, root, tree_at, trees_of};
 
-use crate::head::{Head, bare_head};
+use crate::head::{Head, bare_head, is_bare_head};
 use crate::intern::{intern_module, intern_value};
 use crate::intern_entity::{intern_entity, intern_type};
 use crate::key::{Key, key_of};
@@ -157,6 +157,38 @@ fn add_node(
     }
 }
 
+/// Adds the node of this head and of parts of these numbers, which is not there, with this number of its bare tree. A
+/// refusal changes nothing.
+fn add_measured(
+    nodes: &mut Vec<Node>,
+    numbers: &mut BTreeMap<Key, usize>,
+    head: Head,
+    parts: Numbers,
+    bare: usize,
+    key: Key,
+) -> Result<usize, Memory>
+    requires table { IsTable nodes.old.items numbers.old }
+    requires below { IsBelow (length nodes.old.items) parts }
+    requires bare { IsBareOf (trees nodes.old.items) (node_tree (trees nodes.old.items) head parts) bare }
+    requires key { key ≡ node_key head parts }
+    requires absent { get key_cmp numbers.old key ≡ None }
+    ensures table { IsTable nodes.new.items numbers.new }
+    ensures extends { Extends (trees nodes.old.items) (trees nodes.new.items) }
+    ensures number { IfOk result
+        (λ n. Stands (trees nodes.new.items) n (node_tree (trees nodes.old.items) head parts)) }
+{
+    let size = size_of(nodes, &head, parts.as_slice());
+    let depth = depth_of(nodes, &head, parts.as_slice());
+    let node = Node {
+        head,
+        parts,
+        size,
+        depth,
+        bare,
+    };
+    add_node(nodes, numbers, node, key)
+}
+
 /// The number of the node of this head and of parts of these numbers. It is added where it is not there, with this
 /// number of its bare tree.
 fn place_node(
@@ -178,18 +210,7 @@ fn place_node(
     let key = key_of(alloc, &head, &parts)?;
     match numbers.get(&key) {
         Some(number) => Ok(*number),
-        None => {
-            let size = size_of(nodes, &head, parts.as_slice());
-            let depth = depth_of(nodes, &head, parts.as_slice());
-            let node = Node {
-                head,
-                parts,
-                size,
-                depth,
-                bare,
-            };
-            add_node(nodes, numbers, node, key)
-        }
+        None => add_measured(nodes, numbers, head, parts, bare, key),
     }
 }
 
@@ -236,6 +257,59 @@ fn place_bare(
     )
 }
 
+/// Whether each part is the number of its own bare tree.
+fn are_bare(nodes: &[Node], parts: &[usize]) -> bool
+    requires bare { AreBare nodes.now }
+    requires below { IsBelow (length nodes.now) parts.now }
+    ensures { result ≡ true → AllStand (trees nodes.now) parts.now
+        (map (λ p. bare_tree (tree_at (trees nodes.now) p)) parts.now) }
+{
+    for part in parts {
+        if nodes[*part].bare != *part {
+            return false;
+        }
+    }
+    true
+}
+
+/// Whether a node of this head and of parts of these numbers would be its own bare tree, behind the others.
+fn is_bare(nodes: &[Node], head: &Head, parts: &[usize]) -> bool
+    requires bare { AreBare nodes.now }
+    requires below { IsBelow (length nodes.now) parts.now }
+    ensures { result ≡ true → IsBareOf (trees nodes.now)
+        (node_tree (trees nodes.now) head.now parts.now) (length nodes.now) }
+{
+    is_bare_head(head) && are_bare(nodes, parts)
+}
+
+/// Adds the node of this head and of parts of these numbers, which is not there, and its bare tree, where that is not
+/// there.
+fn add(
+    nodes: &mut Vec<Node>,
+    numbers: &mut BTreeMap<Key, usize>,
+    alloc: Global,
+    head: Head,
+    parts: Numbers,
+    key: Key,
+) -> Result<usize, Memory>
+    requires table { IsTable nodes.old.items numbers.old }
+    requires below { IsBelow (length nodes.old.items) parts }
+    requires key { key ≡ node_key head parts }
+    requires absent { get key_cmp numbers.old key ≡ None }
+    ensures table { IsTable nodes.new.items numbers.new }
+    ensures extends { Extends (trees nodes.old.items) (trees nodes.new.items) }
+    ensures number { IfOk result
+        (λ n. Stands (trees nodes.new.items) n (node_tree (trees nodes.old.items) head parts)) }
+{
+    if is_bare(nodes, &head, parts.as_slice()) {
+        // Such a node needs no other one, so it is found and added by one key.
+        let own = nodes.len();
+        return add_measured(nodes, numbers, head, parts, own, key);
+    }
+    let bare = place_bare(nodes, numbers, alloc, &head, parts.as_slice())?;
+    place_node(nodes, numbers, alloc, head, parts, bare)
+}
+
 /// The number of the node of this head and of parts of these numbers. It is added where it is not there, and so is its
 /// bare tree.
 fn place(
@@ -256,8 +330,7 @@ fn place(
     if let Some(number) = numbers.get(&key) {
         return Ok(*number);
     }
-    let bare = place_bare(nodes, numbers, alloc, &head, parts.as_slice())?;
-    place_node(nodes, numbers, alloc, head, parts, bare)
+    add(nodes, numbers, alloc, head, parts, key)
 }
 
 /// How many levels deep what is put into a table, or is built from it, may lie at most.
