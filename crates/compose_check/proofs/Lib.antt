@@ -1,5 +1,6 @@
 pub mod CircleLaws
 pub mod WaitLaws
+pub mod WireLaws
 pub mod InstanceLaws
 pub mod ShapeLaws
 pub mod MergeLaws

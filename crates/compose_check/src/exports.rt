@@ -39,7 +39,7 @@ fn placed_exports(
     ensures { (w : Wiring) → AreOrigins origins.now w → HasNoCircle w → IfOk result (λ found.
         named_entities found.items ≡ entities_placed w instance (named_entities exports.now)) }
 {
-    let mut found = Vec::new(alloc);
+    let mut found = Vec::with_capacity(alloc, exports.len())?;
     for export in exports {
         let name = export.0.try_clone(alloc)?;
         let entity = origins.place(alloc, instance, &export.1)?;

@@ -75,6 +75,10 @@ pub fn check_fit(
     ensures fit { OnOk result (WiresFit (wiring (composition_tree composition.now))) }
     ensures refused { IfErr result (IsCheckRefusal (composition_tree composition.now)) }
 {
+    if composition.wires.is_empty() {
+        // Nothing is given, so what the components import and export need not be numbered.
+        return Ok(());
+    }
     let mut table = TypeTable::new(alloc);
     let numbers = numbers(alloc, &mut table, composition)?;
     match first_misfit(

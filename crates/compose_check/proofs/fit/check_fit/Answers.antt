@@ -1,10 +1,17 @@
-use Rattle.std.proofs.Common.{sym, subst}
+use Rattle.std.proofs.Common.{◌≡◌, arith, length, sym, subst}
+use Rattle.std.proofs.lemmas.Bool.Decides.{nat_tests}
 use Rattle.std.specs.Prelude.{MatchOption}
 use Rattle.compose_fit.specs.Fit.{IsMisfit, WiresFit}
 use Rattle.compose_check.specs.Composition.{composition_tree, wiring}
 use Rattle.compose_check.proofs.RefusalLaws.{unfit_refuses}
 use Rattle.compose_check.proofs.ShapeLaws.{instances_have}
+use Rattle.compose_check.proofs.WireLaws.{no_wires_fit}
 use Rattle.compose_check.proofs.fit.check_fit.Goals as goal
+
+pub returns-then-is_empty-clause-fit : goal.returns-then-is_empty-clause-fit
+returns-then-is_empty-clause-fit c =
+    let none : length c.args.composition.now.wires.items ≡ 0 = grind (arith, nat_tests) in
+    no_wires_fit (wiring (composition_tree c.args.composition.now)) none
 
 pub first_misfit-requires : goal.first_misfit-requires
 first_misfit-requires c =
