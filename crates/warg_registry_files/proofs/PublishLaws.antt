@@ -6,8 +6,8 @@ use Rattle.warg_base.specs.Files.{FileMap, LeavesPartlyRemoved, file_at, is_unde
 use Rattle.warg_info_text.specs.StoredTexts.{checkpoint_of, operator_of}
 use Rattle.warg_publish.specs.Publish.{PlainPublishInfo}
 use Rattle.warg_publish_text.specs.PublishText.{publish_of}
-use Rattle.warg_store.specs.Entry.{Entry, Absent, SameEntries}
-use Rattle.warg_store.specs.Held.{LeavesPublish, Package, Registry, SameHeld, Tells, with_publish}
+use Rattle.warg_store.specs.Entry.{Entry, Absent}
+use Rattle.warg_store.specs.Held.{LeavesPublish, Registry, SameHeld, Tells, with_publish}
 use Rattle.warg_registry_files.specs.Paths.{Place, checkpoint_path, folder_path, has_slash, is_log, is_named, operator_path, package_path, publish_path}
 use Rattle.warg_registry_files.specs.RegistryFiles.{entry_by, held_in, package_with_id}
 use Rattle.warg_registry_files.specs.Resets.{LeavesOthers}
