@@ -51,7 +51,8 @@ module _ {T D : Type 0} (Steps : T → Asked → T → Type 0) (old new : Seen T
         (IsNeitherLearnt Steps said (λ bytes error. IsRefused error bytes)) old new refusal
 
   -- the plan of a package is found, and refused for a reason of this kind
-  pub record IsPackagePlanRefused (Refuses : ComposeError → List Entry → Type 0) (name : List ℕ) (e : ClientError) : Type 0 where
+  pub record IsPackagePlanRefused (Refuses : ComposeError → List Entry → Type 0) (name : List ℕ)
+      (e : ClientError) : Type 0 where
     pub entries : List Entry
     pub planned : IsPackagePlan name entries
     pub refusal : ComposeError
@@ -59,5 +60,6 @@ module _ {T D : Type 0} (Steps : T → Asked → T → Type 0) (old new : Seen T
     pub cause : Refuses refusal entries
 
   -- why there is no component of a package's plan, which is refused for reasons of this kind
-  abbrev pub IsPackageFault : (D → D → Bool → Bool) → (ComposeError → List Entry → Type 0) → List ℕ → ClientError → Type 0
+  abbrev pub IsPackageFault : (D → D → Bool → Bool) → (ComposeError → List Entry → Type 0) → List ℕ → ClientError
+      → Type 0
   IsPackageFault said Refuses name e = IsPackageSearchRefused said name e ⊎ IsPackagePlanRefused Refuses name e

@@ -16,9 +16,9 @@ use Rattle.warg_compose.specs.declared.lock.Lock.{Lock}
 use Rattle.warg_compose.specs.declared.error.ComposeError.{ComposeError}
 use Rattle.warg_compose.specs.declared.error.ComposeError.TheVariants as error
 
--- The lock is a plan's: its composition with its components imported. The wires fit, and what is left open agrees. The names
--- are those of what is left open, in the order in which the lock imports it. The lock has exactly one reading, whose link
--- image is the composition's with the components imported, with what the root exports.
+-- The lock is a plan's: its composition with its components imported. The wires fit, and what is left open agrees. The
+-- names are those of what is left open, in the order in which the lock imports it. The lock has exactly one reading,
+-- whose link image is the composition's with the components imported, with what the root exports.
 pub record IsPlanLocked (es : List Entry) (left : List (List ℕ)) (lock : List ℕ) : Type 0 where
   pub composition : CompositionTree
   pub composed : IsComposed es composition

@@ -135,7 +135,8 @@ fn lock_of(
 ) -> Result<Lock, ComposeError>
     requires wired { AreWired (map entry_view entries.now) }
     requires components { AreComponentsOf (releases (map entry_view entries.now)) (map held_component components.now) }
-    requires instances { instances.items ≡ map (release_place (map entry_view entries.now)) (map entry_view entries.now) }
+    requires instances { instances.items
+        ≡ map (release_place (map entry_view entries.now)) (map entry_view entries.now) }
     ensures locked { IfOk result (λ lock. IsPlanLocked (map entry_view entries.now) lock.left.items lock.bytes.items) }
     ensures fault { (disallow : Bool) → IsAllowed disallow (map entry_view entries.now)
         → IfErr result (λ e. IsLockFault disallow e (map entry_view entries.now)) }
@@ -169,12 +170,12 @@ fn bundle(
     }
 }
 
-/// The lock of a plan: it imports the content of each release, makes an instance of each entry, gives it what it is wired
-/// to, imports what the entries leave open, and exports what the root exports.
+/// The lock of a plan: it imports the content of each release, makes an instance of each entry, gives it what it is
+/// wired to, imports what the entries leave open, and exports what the root exports.
 ///
 /// The first that holds is answered: `ImportsDisallowed` with the first import that is left open, where none may be;
-/// `Incompatible` where wires do not fit, or what is left open does not agree, or the lock would mention what can't be had;
-/// `TooLarge` with a number that can't be written.
+/// `Incompatible` where wires do not fit, or what is left open does not agree, or the lock would mention what can't be
+/// had; `TooLarge` with a number that can't be written.
 pub fn lock_plan(alloc: Global, plan: &Plan, disallow_imports: bool) -> Result<Lock, ComposeError>
     requires { AreWired (plan_view plan.now) }
     ensures locked { IfOk result (λ lock. IsPlanLocked (plan_view plan.now) lock.left.items lock.bytes.items) }

@@ -44,4 +44,5 @@ IsReadAt place files path (Some found) =
 abbrev pub Lists : Place → FileMap → List ℕ → (Registry → List NamedInfo) → (Registry → List NamedInfo) → Type 0
 Lists place files path listed more =
     (o : Option (Registry × NamedInfo)) × IsReadAt place files path o
-    × ((r : Registry) → more r ≡ listed r ++ option_map_or (λ found. if is_registry found.0 r then found.1 ∷ [] else []) o [])
+    × ((r : Registry) → more r
+    ≡ listed r ++ option_map_or (λ found. if is_registry found.0 r then found.1 ∷ [] else []) o [])

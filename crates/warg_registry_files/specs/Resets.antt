@@ -25,8 +25,8 @@ is_plain (b ∷ bs) = is_of_name true b && list_all (λ c. is_of_name false c) b
 abbrev pub is_folder : List ℕ → List ℕ → Bool
 is_folder own name = bytes_eq name own || is_plain name
 
--- what is kept in a registry's folder: the checkpoint, the log of the operator, what is to be published, and the logs of
--- packages
+-- what is kept in a registry's folder: the checkpoint, the log of the operator, what is to be published, and the logs
+-- of packages
 abbrev pub is_entry : List ℕ → Bool
 is_entry path =
     bytes_eq path (codes "checkpoint")

@@ -247,8 +247,8 @@ impl<F: Files + Drop, L: Drop> FileSystemRegistryStorage<F, L> {
         ensures found { IfOk result (λ o. IfSome (F.told (files_of self.old)) (λ files.
             IsReadAt (place_of self.old) files path.now (option_map (λ x. (x.0, named_info x.1)) o))) }
         ensures sound { IfOk result (λ o. IfSome o (λ x. IsSoundPackage x.1)) }
-        ensures fault { IfErr result (λ e. IsListingFault e (F.faults (files_of self.old)) (F.faults (files_of self.new))
-            (option_map (λ held. held.packages) (held_of F.told self.old))) }
+        ensures fault { IfErr result (λ e. IsListingFault e (F.faults (files_of self.old))
+            (F.faults (files_of self.new)) (option_map (λ held. held.packages) (held_of F.told self.old))) }
         ensures place { place_of self.new ≡ place_of self.old }
         ensures untouched { F.told (files_of self.new) ≡ F.told (files_of self.old) }
     {
@@ -276,8 +276,8 @@ impl<F: Files + Drop, L: Drop> FileSystemRegistryStorage<F, L> {
             Lists (place_of self.old) files path.now (listed_in all.old) (listed_in all.new))) }
         ensures sound { OnOk result (AreSoundLists all.old → AreSoundLists all.new) }
         ensures have_some { OnOk result (HaveSome all.old → HaveSome all.new) }
-        ensures fault { IfErr result (λ e. IsListingFault e (F.faults (files_of self.old)) (F.faults (files_of self.new))
-            (option_map (λ held. held.packages) (held_of F.told self.old))) }
+        ensures fault { IfErr result (λ e. IsListingFault e (F.faults (files_of self.old))
+            (F.faults (files_of self.new)) (option_map (λ held. held.packages) (held_of F.told self.old))) }
         ensures place { place_of self.new ≡ place_of self.old }
         ensures untouched { F.told (files_of self.new) ≡ F.told (files_of self.old) }
     {
@@ -542,8 +542,8 @@ impl<F: Files + Drop, L: Drop> RegistryStorage for FileSystemRegistryStorage<F, 
             AreAllPackages held.packages (listed_in all))) }
         ensures sound { IfOk result AreSoundLists }
         ensures have_some { IfOk result HaveSome }
-        ensures fault { IfErr result (λ e. IsListingFault e (F.faults (files_of self.old)) (F.faults (files_of self.new))
-            (option_map (λ held. held.packages) (held_of F.told self.old))) }
+        ensures fault { IfErr result (λ e. IsListingFault e (F.faults (files_of self.old))
+            (F.faults (files_of self.new)) (option_map (λ held. held.packages) (held_of F.told self.old))) }
         ensures place { place_of self.new ≡ place_of self.old }
         ensures untouched { F.told (files_of self.new) ≡ F.told (files_of self.old) }
     {

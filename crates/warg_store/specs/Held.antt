@@ -131,8 +131,8 @@ pub record Tells (told : Option Held) (held : Held) : Type 0 where
 abbrev pub LeavesStore : {X : Type 0} → Option Held → Held → (Entry X → Held) → X → Type 0
 LeavesStore told held with_it x = Tells told held ⊎ Tells told (with_it (Whole x)) ⊎ Tells told (with_it Unreadable)
 
--- a refused store of what is to be published leaves what was held; or the info, or what can't be read; or nothing, where
--- the entry was to be taken away
+-- a refused store of what is to be published leaves what was held; or the info, or what can't be read; or nothing,
+-- where the entry was to be taken away
 abbrev pub LeavesPublish : Option Held → Held → Option PlainPublishInfo → Type 0
 LeavesPublish told held None = Tells told held ⊎ Tells told (with_publish held Absent)
 LeavesPublish told held (Some info) = LeavesStore told held (with_publish held) info

@@ -31,8 +31,8 @@ pub record AreAllPackages (held : Package → Entry NamedInfo) (listed : Registr
   -- the packages of a registry have different names
   pub differ : (r : Registry) → IsDistinct bytes_eq (map (λ found. found.name) (listed r))
 
--- why a load of all packages is refused: the store failed, or the entry of a package can't be read. Want of memory tells
--- nothing
+-- why a load of all packages is refused: the store failed, or the entry of a package can't be read. Want of memory
+-- tells nothing
 abbrev pub IsListingFault : StoreError → ℕ → ℕ → Option (Package → Entry NamedInfo) → Type 0
 IsListingFault error.Failed before after held = Rose before after
 IsListingFault (error.Damaged damaged) before after held =

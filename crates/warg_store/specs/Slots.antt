@@ -23,8 +23,8 @@ entries_in is_key view slots k = slot_entry view (get is_key slots.slots k)
 abbrev pub entry_in : {T X : Type 0} → (T → X) → OneSlot T → Entry X
 entry_in view one = slot_entry view one.slot
 
--- the entry after a store of a value, or after it was taken away, which may be to fail: what was to be taken away doesn't
--- become what can't be read
+-- the entry after a store of a value, or after it was taken away, which may be to fail: what was to be taken away
+-- doesn't become what can't be read
 abbrev pub entry_after : {X : Type 0} → Option After → Entry X → Option X → Entry X
 entry_after None held o = entry_of o
 entry_after (Some after.Old) held o = held

@@ -10,7 +10,8 @@ use warg_info::PackageInfo;
 use warg_url::RegistryDomain;
 use warg_values::Memory;
 
-/// Lists the log of a package behind those of its registry.
+/// Lists the log of a package behind those of its registry. It is refused for want of memory alone, and no clause says
+/// what the lists have then.
 pub fn list_package(
     alloc: Global,
     all: &mut IndexMap<Option<RegistryDomain>, Vec<PackageInfo>>,

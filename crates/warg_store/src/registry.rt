@@ -27,8 +27,8 @@ pub trait RegistryStorage: Drop {
     /// What is held, where the object tells it.
     ghost told: { Self → Option Held };
 
-    /// Takes away what is kept of the home registry, or of all registries, and what is to be published. A refusal leaves
-    /// each of these entries as it was, or none.
+    /// Takes away what is kept of the home registry, or of all registries, and what is to be published. A refusal
+    /// leaves each of these entries as it was, or none.
     fn reset(&mut self, alloc: Global, all_registries: bool) -> Result<(), StoreError>
         ensures never_falls { faults self.old ≤ faults self.new }
         ensures reset { OnOk result (IfSome (told self.old) (λ held.
