@@ -30,7 +30,7 @@ use Rattle.warg_fetch.proofs.UpdateSteps.{store_fault}
 entries_still : {K X : Type 0} (is_key : K → K → Bool) (now held : K → Entry X) (key : K) (entry : Entry X) → SameEntries now held → SameEntries (with_entry is_key now key entry) (with_entry is_key held key entry)
 entries_still is_key now held key entry same k = ap (λ e. cond (is_key key k) entry e) (same k)
 
-write_still : (now held : Held) (w : Write) → SameHeld now held → SameHeld (with_write now w) (with_write held w)
+pub write_still : (now held : Held) (w : Write) → SameHeld now held → SameHeld (with_write now w) (with_write held w)
 write_still now held (OperatorLog r info) same = record {
   checkpoints = same.checkpoints;
   operators = entries_still is_registry now.operators held.operators r (Whole info) same.operators;
@@ -70,7 +70,7 @@ spoilt_still now held (LastCheckpoint r c) same = record {
   publish = same.publish;
 }
 
-tells_same : (told : Option Held) (now held : Held) → SameHeld now held → Tells told now → Tells told held
+pub tells_same : (told : Option Held) (now held : Held) → SameHeld now held → Tells told now → Tells told held
 tells_same told now held same t = record {
   now = t.now;
   tells = t.tells;
@@ -83,14 +83,14 @@ tells_same told now held same t = record {
 }
 
 -- a front of the writes is held as well over the same entries
-front_still : (told : Option Held) (now held : Held) (ws : List Write) → SameHeld now held → HoldsFront told now ws → HoldsFront told held ws
+pub front_still : (told : Option Held) (now held : Held) (ws : List Write) → SameHeld now held → HoldsFront told now ws → HoldsFront told held ws
 front_still told now held [] same front = tells_same told now held same front
 front_still told now held (w ∷ ws) same (inl here) = inl (tells_same told now held same here)
 front_still told now held (w ∷ ws) same (inr (inl spoilt)) = inr (inl (tells_same told (without_write now w) (without_write held w) (spoilt_still now held w same) spoilt))
 front_still told now held (w ∷ ws) same (inr (inr later)) = inr (inr (front_still told (with_write now w) (with_write held w) ws (write_still now held w same) later))
 
 -- all the writes are a front of them
-all_front : (told : Option Held) (held : Held) (ws : List Write) → Tells told (with_writes held ws) → HoldsFront told held ws
+pub all_front : (told : Option Held) (held : Held) (ws : List Write) → Tells told (with_writes held ws) → HoldsFront told held ws
 all_front told held [] all = all
 all_front told held (w ∷ ws) all = inr (inr (all_front told (with_write held w) ws all))
 
@@ -122,7 +122,7 @@ module _ (accepts : Accepts) (old loaded new : Option Held) (got : PackageUpdate
 
 -- ---- what can be read
 
-can_be_with : {X : Type 0} (b : Bool) (x : X) (e : Entry X) → CanBeRead e → CanBeRead (cond b (Whole x) e)
+pub can_be_with : {X : Type 0} (b : Bool) (x : X) (e : Entry X) → CanBeRead e → CanBeRead (cond b (Whole x) e)
 can_be_with true x e h = record {}
 can_be_with false x e h = h
 
@@ -143,7 +143,7 @@ readable_kept old loaded new got reads kept stored =
 -- ---- what a refusal leaves, and its cause
 
 -- a store that is refused later is refused since before
-later_unkept : (e : StoreError) (a b c : ℕ) → a ≤ b → IsStoreFault e b c → IsStoreFault e a c
+pub later_unkept : (e : StoreError) (a b c : ℕ) → a ≤ b → IsStoreFault e b c → IsStoreFault e a c
 later_unkept store.Failed a b c le h = rose_before a b c le h
 later_unkept (store.Damaged kind) a b c le h = h
 later_unkept (store.IncorrectContent found expected) a b c le h = h

@@ -1,4 +1,6 @@
 pub mod ContentLaws
+pub mod GroupLaws
+pub mod GroupWrites
 pub mod KeptLaws
 pub mod UpdateLaws
 pub mod UpdateSteps

@@ -1,14 +1,15 @@
 -- What the update of a package over a link gives, by what its stores hold.
-use Rattle.std.proofs.Common.{◌≡◌, ℕ, Bool, List, [], sym, ap, subst, ◌∙◌}
+use Rattle.std.proofs.Common.{◌≡◌, ℕ, Bool, List, [], ◌∷◌, map, Result, Ok, Err, IfOk, sym, ap, subst, ◌∙◌}
 use Rattle.warg_log.specs.Rules.{Accepts}
 use Rattle.warg_exchange.specs.declared.exchange.Exchange.{Exchange}
 use Rattle.warg_exchange.specs.declared.checkpoint.SignedCheckpoint.{SignedCheckpoint}
 use Rattle.warg_exchange.specs.Requests.{Asker}
+use Rattle.warg_info.specs.Info.{package_log}
 use Rattle.warg_info.specs.declared.operator.OperatorInfo.{OperatorInfo}
 use Rattle.warg_info.specs.declared.package.PackageInfo.{PackageInfo}
 use Rattle.warg_api.specs.Link.{Asked}
 use Rattle.warg_page.specs.Logs.{Logs}
-use Rattle.warg_page.specs.Views.{logs_view}
+use Rattle.warg_page.specs.Views.{logs_view, package_view}
 use Rattle.warg_session.specs.Proved.{AreAsked, Start, Proves}
 use Rattle.warg_session.specs.Recording.{Transcript}
 use Rattle.warg_session.specs.Updating.{IsBegun, IsUpdated, IsUpdateRefusal, LeavesPages}
@@ -20,6 +21,7 @@ use Rattle.warg_store.specs.Held.{Registry}
 use Rattle.warg_assemble.specs.Known.{Known, registry_of}
 use Rattle.warg_assemble.specs.Parts.{logs_of, start_of}
 use Rattle.warg_fetch.specs.Fetched.{IsFetchFault, IsFetched, IsSingle, update_of}
+use Rattle.warg_fetch.specs.Groups.{group_start}
 use Rattle.warg_fetch.specs.Refusals.{store_refusal, update_refusal}
 use Rattle.warg_fetch.specs.declared.package.PackageUpdate.{PackageUpdate}
 use Rattle.warg_fetch.proofs.UpdateLaws.{first_name, proves_one, single_by}
@@ -41,6 +43,16 @@ update_fault update.BadHeader OfStores OfUpdate h = h
 update_fault (update.Reply e) OfStores OfUpdate h = h
 
 -- ---- the same start, seen by what is known
+
+-- what two clauses say of an answer
+pub by_both : {X E : Type 0} (r : Result X E) (P Q R : X → Type 0) → ((x : X) → P x → Q x → R x) → IfOk r P → IfOk r Q → IfOk r R
+by_both (Ok x) P Q R both p q = both x p q
+by_both (Err e) P Q R both p q = record {}
+
+-- one new package
+pub new_start : (known : Known) (r : Registry) (name : List ℕ) (infos : List PackageInfo) (info : PackageInfo) → infos ≡ info ∷ [] → info.name ≡ name → package_log info ≡ [] → group_start known r (map package_view infos) ≡ start_of known r name
+new_start known r name infos info one named empty =
+    ap (λ l. group_start known r (map package_view l)) one ∙ ap (λ n. group_start known r ((n, package_log info) ∷ [])) named ∙ ap (λ l. group_start known r ((name, l) ∷ [])) empty
 
 start_seen : (known : Known) (r s : Registry) (name : List ℕ) (start : Start) → r ≡ s → start ≡ start_of known r name → start ≡ start_of known s name
 start_seen known r s name start is begins = begins ∙ ap (λ q. start_of known q name) is

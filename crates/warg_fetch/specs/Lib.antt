@@ -1,4 +1,5 @@
 pub mod Fetched
+pub mod Groups
 pub mod Kept
 pub mod Loaded
 pub mod Refusals

@@ -1,14 +1,16 @@
 -- What is known, and what is a client's own, after what an update writes.
-use Rattle.std.proofs.Common.{◌≡◌, Bool, true, false, cond, List, [], ◌∷◌, Option, Some, refl, sym, ap, subst, ◌∙◌, inl, inr}
+use Rattle.std.proofs.Common.{◌≡◌, Bool, true, false, cond, List, [], ◌∷◌, ◌++◌, map, Option, Some, refl, sym, ap, subst, ◌∙◌, inl, inr}
 use Rattle.std.specs.List.{AllByRecursion}
 use Rattle.warg_record.specs.Record.{Operator, Package as OfPackage}
 use Rattle.warg_log.specs.Rules.{Accepts}
+use Rattle.warg_exchange.specs.declared.checkpoint.SignedCheckpoint.{SignedCheckpoint}
 use Rattle.warg_info.specs.Info.{IsLawfulLog}
 use Rattle.warg_info.specs.Kept.{Kept}
 use Rattle.warg_store.specs.Entry.{Entry, Whole, Unreadable, with_entry}
-use Rattle.warg_store.specs.Held.{Info, NamedInfo, Held, Tells, is_registry, is_package, package_key}
+use Rattle.warg_store.specs.Held.{Registry, Info, NamedInfo, Held, Tells, is_registry, is_package, package_key}
 use Rattle.warg_assemble.specs.Known.{Known}
 use Rattle.warg_assemble.specs.Parts.{Update, Updated, known_after}
+use Rattle.warg_fetch.specs.Groups.{Group, filed_info, group_writes, known_after_group}
 use Rattle.warg_fetch.specs.Stored.{value_in, log_in, KnowsRegistries, IsOwn, IsOwnStore}
 use Rattle.warg_fetch.specs.Writes.{Write, OperatorLog, PackageLog, LastCheckpoint, with_write, without_write, with_writes, HoldsFront, info_by, writes_of}
 
@@ -30,6 +32,66 @@ knows_after known old new u k t = record {
   operator = λ r. ap log_in (t.same.operators r) ∙ log_with (is_registry u.registry r) (info_by u u.operator) (k.held.operators r) (known.operator r) (k.operator r);
   checkpoint = λ r. ap value_in (t.same.checkpoints r) ∙ value_with (is_registry u.registry r) u.checkpoint (k.held.checkpoints r) (known.checkpoint r) (k.checkpoint r);
 }
+
+-- ---- writes after others
+
+-- what is held after writes, and then others
+pub writes_then : (held : Held) (ws vs : List Write) → with_writes held (ws ++ vs) ≡ with_writes (with_writes held ws) vs
+writes_then held [] vs = refl
+writes_then held (w ∷ ws) vs = writes_then (with_write held w) ws vs
+
+told_front : (told : Option Held) (held : Held) (ws : List Write) → Tells told held → HoldsFront told held ws
+told_front told held [] t = t
+told_front told held (w ∷ ws) t = inl t
+
+-- a front of the first writes is one of all
+pub first_front : (told : Option Held) (held : Held) (ws vs : List Write) → HoldsFront told held ws → HoldsFront told held (ws ++ vs)
+first_front told held [] vs front = told_front told held vs front
+first_front told held (w ∷ ws) vs (inl here) = inl here
+first_front told held (w ∷ ws) vs (inr (inl spoilt)) = inr (inl spoilt)
+first_front told held (w ∷ ws) vs (inr (inr later)) = inr (inr (first_front told (with_write held w) ws vs later))
+
+-- and so is a front of the others, where the first are held
+pub later_front : (told : Option Held) (held : Held) (ws vs : List Write) → HoldsFront told (with_writes held ws) vs → HoldsFront told held (ws ++ vs)
+later_front told held [] vs front = front
+later_front told held (w ∷ ws) vs front = inr (inr (later_front told (with_write held w) ws vs front))
+
+-- ---- writes of an operator's log, of packages' logs, and of a checkpoint
+
+module _ {A : Type 0} (r : Registry) (kept : A → NamedInfo) where
+  -- the writes of packages leave the other entries
+  packages_leave : (held : Held) (ps : List A) (q : Registry) → (with_writes held (map (λ p. PackageLog r (kept p)) ps)).operators q ≡ held.operators q
+  packages_leave held [] q = refl
+  packages_leave held (p ∷ ps) q = packages_leave (with_write held (PackageLog r (kept p))) ps q
+
+  packages_pass : (held : Held) (ps : List A) (q : Registry) → (with_writes held (map (λ p. PackageLog r (kept p)) ps)).checkpoints q ≡ held.checkpoints q
+  packages_pass held [] q = refl
+  packages_pass held (p ∷ ps) q = packages_pass (with_write held (PackageLog r (kept p))) ps q
+
+  module _ (held : Held) (info : Info) (ps : List A) (c : SignedCheckpoint) (q : Registry) where
+    pub operators_after : (with_writes held (OperatorLog r info ∷ (map (λ p. PackageLog r (kept p)) ps ++ LastCheckpoint r c ∷ []))).operators q ≡ cond (is_registry r q) (Whole info) (held.operators q)
+    operators_after =
+        let first = with_write held (OperatorLog r info) in
+        ap (λ (h : Held). h.operators q) (writes_then first (map (λ p. PackageLog r (kept p)) ps) (LastCheckpoint r c ∷ []))
+        ∙ packages_leave first ps q
+
+    pub checkpoints_after : (with_writes held (OperatorLog r info ∷ (map (λ p. PackageLog r (kept p)) ps ++ LastCheckpoint r c ∷ []))).checkpoints q ≡ cond (is_registry r q) (Whole c) (held.checkpoints q)
+    checkpoints_after =
+        let first = with_write held (OperatorLog r info) in
+        ap (λ (h : Held). h.checkpoints q) (writes_then first (map (λ p. PackageLog r (kept p)) ps) (LastCheckpoint r c ∷ []))
+        ∙ ap (λ e. cond (is_registry r q) (Whole c) e) (packages_pass first ps q)
+
+-- after what the update of a group writes just this is known besides
+pub knows_after_group : (known : Known) (old new : Option Held) (g : Group) (k : KnowsRegistries old known) → Tells new (with_writes k.held (group_writes g)) → KnowsRegistries new (known_after_group known g)
+knows_after_group known old new g k t =
+    let info : Info = record { registry = g.registry; checkpoint = Some g.checkpoint.contents; log = g.logs.operator } in
+    let kept = filed_info g.registry g.checkpoint.contents in
+    record {
+      held = t.now;
+      tells = t.tells;
+      operator = λ r. ap log_in (t.same.operators r ∙ operators_after g.registry kept k.held info g.logs.packages g.checkpoint r) ∙ log_with (is_registry g.registry r) info (k.held.operators r) (known.operator r) (k.operator r);
+      checkpoint = λ r. ap value_in (t.same.checkpoints r ∙ checkpoints_after g.registry kept k.held info g.logs.packages g.checkpoint r) ∙ value_with (is_registry g.registry r) g.checkpoint (k.held.checkpoints r) (known.checkpoint r) (k.checkpoint r);
+    }
 
 -- ---- what is a client's own
 

@@ -5,6 +5,7 @@
 mod content;
 mod error;
 mod fetch;
+mod group;
 mod keep;
 pub mod laws;
 mod package;
@@ -13,6 +14,7 @@ mod start;
 
 pub use content::fetch_content;
 pub use error::{FetchError, LoadError};
+pub use group::GroupUpdate;
 pub use keep::keep_update;
 pub use package::{Fetcher, PackageUpdate, domain_copy};
 pub use registry::registry_for;

@@ -1,17 +1,19 @@
 //! What the update of a package begins with.
 
 ghost use Rattle.std.specs.Prelude.{◌≡◌, ◌≤◌, ◌∷◌, [], IfOk, IfErr, IfSome, map, option_copied, option_map};
+ghost use Rattle.std.specs.List.{All};
 ghost use Rattle.warg_hash.specs.Hash.{package_log_id};
 ghost use Rattle.warg_log.specs.Rules.{Accepts};
-ghost use Rattle.warg_info.specs.Info.{operator_log, IsSoundOperator};
-ghost use Rattle.warg_page.specs.Steps.{id_of};
-ghost use Rattle.warg_page.specs.Views.{AreSound};
+ghost use Rattle.warg_info.specs.Info.{operator_log, IsSoundOperator, IsSoundPackage};
+ghost use Rattle.warg_page.specs.Steps.{AreGood, id_of};
+ghost use Rattle.warg_page.specs.Views.{AreSound, package_view};
 ghost use Rattle.warg_session.specs.Updating.{IsGoodStart, start_view};
 ghost use Rattle.warg_store.specs.Entry.{IsLoadFault};
 ghost use Rattle.warg_store.specs.Held.{Tells};
 ghost use Rattle.warg_assemble.specs.Known.{Known, registry_of};
 ghost use Rattle.warg_assemble.specs.Parts.{start_of as start_by};
 ghost use Rattle.warg_fetch.specs.Fetched.{IsOpeningFault, IsStartFault};
+ghost use Rattle.warg_fetch.specs.Groups.{group_start};
 ghost use Rattle.warg_fetch.specs.Stored.{IsOwnStore, KnowsNames, KnowsRegistries, log_in};
 
 use crate::registry::registry_for;
@@ -43,23 +45,24 @@ fn operator_of<R: RegistryStorage>(
     }
 }
 
-/// What the update of a package under a registry begins with: the operator's log and the checkpoint that are kept of
-/// the registry, and an empty log of the package.
-fn start_of<R: RegistryStorage>(
+/// What the update of packages under a registry begins with: the operator's log and the checkpoint that are kept of the
+/// registry, and the logs of the packages as they are given.
+pub fn start_of<R: RegistryStorage>(
     alloc: Global,
     registries: &mut R,
     registry: Option<RegistryDomain>,
-    name: &PackageName,
+    packages: Vec<PackageInfo>,
 ) -> Result<UpdateStart, StoreError>
     ensures never_falls { R.faults registries.old ≤ R.faults registries.new }
     ensures kept { IfSome (R.told registries.old) (Tells (R.told registries.new)) }
     ensures registry { IfOk result (λ start. start.registry ≡ registry) }
     ensures begins { IfOk result (λ start. (known : Known) → KnowsRegistries (R.told registries.old) known
-        → start_view start ≡ start_by known registry name.now) }
+        → start_view start ≡ group_start known registry (map package_view packages.items)) }
     ensures good { IfOk result (λ start. (accepts : Accepts) → IsOwnStore accepts (R.told registries.old)
-        → IsGoodStart accepts start) }
-    ensures sound { IfOk result (λ start. AreSound start.operator start.packages.items) }
-    ensures ids { IfOk result (λ start. map id_of start.packages.items ≡ package_log_id name.now ∷ []) }
+        → AreGood accepts packages.items → IsGoodStart accepts start) }
+    ensures sound { IfOk result (λ start. All IsSoundPackage packages.items
+        → AreSound start.operator start.packages.items) }
+    ensures packages { IfOk result (λ start. start.packages ≡ packages) }
     ensures fault { IfErr result (λ e. IsStartFault e registry
         (record {
           before = R.faults registries.old;
@@ -69,8 +72,6 @@ fn start_of<R: RegistryStorage>(
 {
     let operator = operator_of(alloc, registries, registry.as_ref())?;
     let stored = registries.load_checkpoint(alloc, registry.as_ref())?;
-    let mut packages = Vec::new(alloc);
-    packages.push(PackageInfo::new(alloc, name.try_clone(alloc)?))?;
     Ok(UpdateStart {
         registry,
         operator,
@@ -109,5 +110,7 @@ pub fn load_start<R: RegistryStorage, N: NamespaceMapStorage>(
         })) }
 {
     let registry = registry_for(alloc, registries, namespaces, name.namespace())?;
-    start_of(alloc, registries, registry, name)
+    let mut packages = Vec::new(alloc);
+    packages.push(PackageInfo::new(alloc, name.try_clone(alloc)?))?;
+    start_of(alloc, registries, registry, packages)
 }
