@@ -8,7 +8,8 @@ ghost use Rattle.warg_plan.specs.Keys.{Parsed as ParsedKey};
 ghost use Rattle.warg_plan.specs.View.{key_view, plan_view};
 ghost use Rattle.warg_plan.specs.Walk.{Entry};
 ghost use Rattle.warg_assemble.specs.Known.{Known};
-ghost use Rattle.warg_learn.specs.Packages.{AreNotUpdated, AreUpdatedLogs, IsNotUpdated, IsPackageLog, IsPackageLogFault, IsUpdatedLog};
+ghost use Rattle.warg_learn.specs.Groups.{AreNotUpdated, AreUpdatedLogs};
+ghost use Rattle.warg_learn.specs.Packages.{IsNotUpdated, IsPackageLog, IsPackageLogFault, IsUpdatedLog};
 ghost use Rattle.warg_learn.specs.Recalled.{IsRecalledOrLearnt, taught};
 ghost use Rattle.warg_learn.specs.Search.{Finds};
 ghost use Rattle.warg_learn.specs.Seen.{IsKnown, Telling, tells};
@@ -100,22 +101,23 @@ impl<
         Ok(self.learner.fetch_package(alloc, name)?)
     }
 
-    /// The logs of packages, each by an update as `fetch_package` makes it, one after the other, in the order of the names.
-    /// The pages of records that may be asked for are those of all these updates together.
+    /// The logs of packages by updates, which begin with no log of them, in the order of the names. They are kept from
+    /// then on. The pages of records that may be asked for are those of all these updates together.
     ///
-    /// A refusal leaves what was updated before it kept.
+    /// The packages of one registry are updated together, under one checkpoint: by the registries as they are known at
+    /// first, the group whose registry the names ask for last first. A refusal leaves what was updated before it kept.
+    /// Names that are not different are refused.
     pub fn fetch_packages(
         &mut self,
         alloc: Global,
         names: &[PackageName],
     ) -> Result<Vec<PackageInfo>, ClientError>
-        ensures updated { IfOk result (λ infos. AreUpdatedLogs L.Steps IsComponent
+        ensures updated { IfOk result (λ infos. AreUpdatedLogs L.Steps
             (beginning (settings_of self.old)
             (seen_by (tells V.good L.told L.faults R.told R.faults C.told C.faults N.told N.faults) self.old))
             (seen_by (tells V.good L.told L.faults R.told R.faults C.told C.faults N.told N.faults) self.new)
             names.now infos.items) }
-        ensures cause { IfErr result (λ e. IsOfFetch e (AreNotUpdated L.Steps D.said (λ bytes error. IsRefused error bytes)
-            IsComponent
+        ensures cause { IfErr result (λ e. IsOfFetch e (AreNotUpdated L.Steps D.said
             (beginning (settings_of self.old)
             (seen_by (tells V.good L.told L.faults R.told R.faults C.told C.faults N.told N.faults) self.old))
             (seen_by (tells V.good L.told L.faults R.told R.faults C.told C.faults N.told N.faults) self.new)

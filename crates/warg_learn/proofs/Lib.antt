@@ -1,5 +1,6 @@
 pub mod ContentLaws
+pub mod GroupLaws
+pub mod GroupSteps
 pub mod LogLaws
-pub mod PackageLaws
 pub mod RecalledSteps
 pub mod SeenLaws

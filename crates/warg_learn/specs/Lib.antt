@@ -1,3 +1,5 @@
+pub mod Gathered
+pub mod Groups
 pub mod Learnt
 pub mod Packages
 pub mod Recalled

@@ -1,5 +1,5 @@
 -- What a learner answers of the log of a package, and why it answers nothing.
-use Rattle.std.specs.Prelude.{◌≡◌, ◌⊎◌, ◌++◌, Bool, ℕ, List, [], ◌∷◌, IfSome}
+use Rattle.std.specs.Prelude.{◌≡◌, ◌⊎◌, Bool, ℕ, List, IfSome}
 use Rattle.warg_api.specs.Link.{Asked}
 use Rattle.warg_info.specs.Info.{package_log, IsSoundPackage}
 use Rattle.warg_info.specs.declared.package.PackageInfo.{PackageInfo}
@@ -9,7 +9,6 @@ use Rattle.warg_plan.specs.Walk.{Content, NeedsLog}
 use Rattle.warg_assemble.specs.Known.{Known}
 use Rattle.warg_assemble.specs.Parts.{Update, Updated}
 use Rattle.warg_fetch.specs.declared.error.FetchError.{FetchError}
-use Rattle.warg_fetch.specs.declared.error.FetchError.TheVariants as fetch
 use Rattle.warg_learn.specs.Learnt.{IsLearnt}
 use Rattle.warg_learn.specs.Recalled.{AsksStores, IsKeptFault, IsUnkept, kept_entry}
 use Rattle.warg_learn.specs.Refusals.{fetch_refusal}
@@ -47,13 +46,6 @@ module _ {T D : Type 0} (Steps : T → Asked → T → Type 0) (Reads : Content 
   abbrev pub IsPackageLog : Seen T D → Seen T D → List ℕ → PackageInfo → Type 0
   IsPackageLog old new name info = IsKeptLog old new name info ⊎ IsFetchedLog old new name info
 
-  -- the logs are those of updates of the packages, one after the other
-  unfoldable pub AreUpdatedLogs : Seen T D → Seen T D → List (List ℕ) → List PackageInfo → Type 0
-  AreUpdatedLogs old new [] [] = new ≡ old
-  AreUpdatedLogs old new (name ∷ names) (info ∷ infos) =
-      (next : Seen T D) × IsUpdatedLog old next name info × AreUpdatedLogs next new names infos
-  AreUpdatedLogs old new names infos = ⊥
-
 module _ {T D E : Type 0} (Steps : T → Asked → T → Type 0) (said : D → D → Bool → Bool) (Refuses : List ℕ → E → Type 0) where
   -- why a package is not updated
   abbrev pub IsNotUpdated : Seen T D → Seen T D → List ℕ → FetchError → Type 0
@@ -67,27 +59,3 @@ module _ {T D E : Type 0} (Steps : T → Asked → T → Type 0) (said : D → D
 
   abbrev pub IsPackageLogFault : Seen T D → Seen T D → List ℕ → FetchError → Type 0
   IsPackageLogFault old new name e = IsNotGiven old new name e ⊎ IsNotFetched old new name e
-
-  -- the first of these packages is not updated
-  pub record IsFirstNotUpdated (old new : Seen T D) (names : List (List ℕ)) (e : FetchError) : Type 0 where
-    pub name : List ℕ
-    pub later : List (List ℕ)
-    pub are : names ≡ name ∷ later
-    pub refused : IsNotUpdated old new name e
-
-  -- no memory is left for what was updated
-  pub record IsForgotten (old new : Seen T D) (e : FetchError) : Type 0 where
-    pub told : e ≡ fetch.Memory
-    pub nothing : new ≡ old
-
-  -- Packages are updated, one after the other, up to where it ends: the next is not updated, or there is no memory for
-  -- the logs of those that were.
-  pub record AreNotUpdated (Reads : Content → Type 0) (old new : Seen T D) (names : List (List ℕ)) (e : FetchError) :
-      Type 0 where
-    pub front : List (List ℕ)
-    pub rest : List (List ℕ)
-    pub are : names ≡ front ++ rest
-    pub before : Seen T D
-    pub infos : List PackageInfo
-    pub updated : AreUpdatedLogs Steps Reads old before front infos
-    pub cause : IsFirstNotUpdated before new rest e ⊎ IsForgotten before new e

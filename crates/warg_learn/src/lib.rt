@@ -3,6 +3,7 @@
 #![tactic(auto)]
 
 mod error;
+mod group;
 mod kept;
 mod learner;
 mod log;

@@ -3,7 +3,7 @@
 ghost use Rattle.std.specs.Prelude.{IfOk, IfErr};
 ghost use Rattle.warg_info.specs.Info.{IsSoundPackage};
 ghost use Rattle.warg_assemble.specs.Known.{Known};
-ghost use Rattle.warg_learn.specs.Packages.{AreNotUpdated, AreUpdatedLogs, IsNotUpdated, IsPackageLog, IsPackageLogFault, IsUpdatedLog};
+ghost use Rattle.warg_learn.specs.Packages.{IsNotUpdated, IsPackageLog, IsPackageLogFault, IsUpdatedLog};
 ghost use Rattle.warg_learn.specs.Seen.{IsKnown, seen, tells};
 ghost use Rattle.warg_learn.specs.Stored.{IsOwnStore};
 
@@ -55,33 +55,6 @@ impl<
         note_registry(&mut self.updated, key, registry)?;
         self.pages_left = update.pages_left;
         Ok(update.info)
-    }
-
-    /// The logs of packages, each by an update as `fetch_package` makes it, one after the other. A refusal leaves what was
-    /// updated before it kept.
-    pub fn fetch_packages(
-        &mut self,
-        alloc: Global,
-        names: &[PackageName],
-    ) -> Result<Vec<PackageInfo>, FetchError>
-        ensures updated { IfOk result (λ infos. AreUpdatedLogs L.Steps K.Reads
-            (seen (tells V.good L.told L.faults R.told R.faults C.told C.faults N.told N.faults) self.old)
-            (seen (tells V.good L.told L.faults R.told R.faults C.told C.faults N.told N.faults) self.new)
-            names.now infos.items) }
-        ensures refused { IfErr result (AreNotUpdated L.Steps D.said K.Refuses K.Reads
-            (seen (tells V.good L.told L.faults R.told R.faults C.told C.faults N.told N.faults) self.old)
-            (seen (tells V.good L.told L.faults R.told R.faults C.told C.faults N.told N.faults) self.new)
-            names.now) }
-        ensures own { (known : Known)
-            → IsKnown (seen (tells V.good L.told L.faults R.told R.faults C.told C.faults N.told N.faults) self.old)
-            known
-            → IsOwnStore (V.good self.old.verifier) (R.told self.new.registries) }
-    {
-        let mut infos = Vec::new(alloc);
-        for name in names {
-            infos.push(self.fetch_package(alloc, name)?)?;
-        }
-        Ok(infos)
     }
 
     /// The log of a package that is kept, or where none is, that of an update.

@@ -1,10 +1,8 @@
 use Rattle.std.proofs.Common.{refl, sym, ap, subst}
 use Rattle.std.proofs.lemmas.Result.{err_from_is_err_and}
-use Rattle.comp_shape.specs.Refusal.{IsRefused}
-use Rattle.warg_learn.specs.Packages.{AreNotUpdated, AreUpdatedLogs}
+use Rattle.warg_learn.specs.Groups.{AreNotUpdated, AreUpdatedLogs}
 use Rattle.warg_learn.specs.Seen.{Seen, IsKnown, seen, tells}
 use Rattle.warg_learn.specs.Stored.{IsOwnStore}
-use Rattle.warg_compose.specs.Read.{IsComponent}
 use Rattle.warg_client.proofs.client.Client.fetch_packages.Goals as goal
 
 pub returns-in_err-fetch_packages-clause-cause : goal.returns-in_err-fetch_packages-clause-cause
@@ -14,7 +12,7 @@ returns-in_err-fetch_packages-clause-cause g c =
     rw (q.1, q.2) (record {
       refusal = c.in_err-fetch_packages.field-0.0;
       told = refl;
-      refuses = subst (λ old. AreNotUpdated g.L.Link.Steps g.D.Decide.said (λ bytes error. IsRefused error bytes) IsComponent old (seen tell c.fetch_packages.new.self) c.args.names.now c.in_err-fetch_packages.field-0.0) (c.restart.ensures.begins tell) c.in_err-fetch_packages.ensures.refused;
+      refuses = subst (λ old. AreNotUpdated g.L.Link.Steps g.D.Decide.said old (seen tell c.fetch_packages.new.self) c.args.names.now c.in_err-fetch_packages.field-0.0) (c.restart.ensures.begins tell) c.in_err-fetch_packages.ensures.refused;
     })
 
 pub returns-in_err-fetch_packages-clause-own : goal.returns-in_err-fetch_packages-clause-own
@@ -26,7 +24,7 @@ returns-in_err-fetch_packages-clause-own g c = λ known knows.
 pub returns-clause-updated : goal.returns-clause-updated
 returns-clause-updated g c =
     let tell = tells g.V.Verifier.good g.L.Link.told g.L.Link.faults g.R.RegistryStorage.told g.R.RegistryStorage.faults g.C.ContentStorage.told g.C.ContentStorage.faults g.N.NamespaceMapStorage.told g.N.NamespaceMapStorage.faults in
-    subst (λ old. AreUpdatedLogs g.L.Link.Steps IsComponent old (seen tell c.fetch_packages.new.self) c.args.names.now c.in_ok-fetch_packages.field-0.items) (c.restart.ensures.begins tell) c.in_ok-fetch_packages.ensures.updated
+    subst (λ old. AreUpdatedLogs g.L.Link.Steps old (seen tell c.fetch_packages.new.self) c.args.names.now c.in_ok-fetch_packages.field-0.items) (c.restart.ensures.begins tell) c.in_ok-fetch_packages.ensures.updated
 
 pub returns-clause-own : goal.returns-clause-own
 returns-clause-own g c = λ known knows.

@@ -1,45 +1,52 @@
-use Rattle.std.proofs.Common.{◌+◌, sym, subst, take}
+use Rattle.std.proofs.Common.{inl, inr}
 use Rattle.std.proofs.lemmas.Result.{err_from_is_err_and}
-use Rattle.warg_learn.specs.Packages.{AreUpdatedLogs}
+use Rattle.warg_fetch.specs.StoredLaws.{own_still}
 use Rattle.warg_learn.specs.Seen.{seen, tells}
-use Rattle.warg_learn.proofs.PackageLaws.{forgotten_at, none_updated, refused_at, refused_own, up_to, updated_own}
+use Rattle.warg_learn.proofs.GroupSteps.{all_forgotten, own_grouped}
 use Rattle.warg_learn.proofs.learner.Learner.fetch_packages.Goals as goal
 
-pub loop-name-init : goal.loop-name-init
-loop-name-init g c = none_updated _ _ _ _ c.new-infos.ensures.items
-
-pub returns-in_err-fetch_package-clause-refused : goal.returns-in_err-fetch_package-clause-refused
-returns-in_err-fetch_package-clause-refused g c =
+pub returns-in_err-groups-clause-refused : goal.returns-in_err-groups-clause-refused
+returns-in_err-groups-clause-refused g c =
     let q = err_from_is_err_and c.from_residual.result c.from_residual.ensures.1 in
-    rw (q.1, q.2) (refused_at _ _ _ _ _ _ _ c.args.names.now c.loop-name.infos.items c.loop-name.name-index c.name-item.result _
-    c.loop-name-test.true c.name-item.is c.loop-name.invariant c.in_err-fetch_package.ensures.refused)
+    rw (q.1, q.2) (inl c.in_err-groups.ensures.refused)
 
-pub returns-in_err-fetch_package-clause-own : goal.returns-in_err-fetch_package-clause-own
-returns-in_err-fetch_package-clause-own g c = λ known k.
-    let tell = tells g.V.Verifier.good g.L.Link.told g.L.Link.faults g.R.RegistryStorage.told g.R.RegistryStorage.faults g.C.ContentStorage.told g.C.ContentStorage.faults g.N.NamespaceMapStorage.told g.N.NamespaceMapStorage.faults in
-    refused_own _ _ (seen tell c.args.self.now) (seen tell c.loop-name.self) (seen tell c.fetch_package.new.self) _ _ known k c.loop-name.invariant c.fetch_package.ensures.own
+pub returns-in_err-groups-clause-own : goal.returns-in_err-groups-clause-own
+returns-in_err-groups-clause-own g c = λ known k. own_still _ _ _ k.stores.own c.in_err-groups.ensures.refused.asks.registries
 
-pub loop-name-preserved : goal.loop-name-preserved
-loop-name-preserved g c =
-    let tell = tells g.V.Verifier.good g.L.Link.told g.L.Link.faults g.R.RegistryStorage.told g.R.RegistryStorage.faults g.C.ContentStorage.told g.C.ContentStorage.faults g.N.NamespaceMapStorage.told g.N.NamespaceMapStorage.faults in
-    subst (AreUpdatedLogs g.L.Link.Steps g.K.ContentReader.Reads (seen tell c.args.self.now) (seen tell c.fetch_package.new.self) (take (c.loop-name.name-index + 1) c.args.names.now)) (sym c.in_ok-push.ensures.items)
-    (up_to _ _ (seen tell c.args.self.now) (seen tell c.loop-name.self) (seen tell c.fetch_package.new.self) c.args.names.now c.loop-name.infos.items c.loop-name.name-index c.name-item.result c.in_ok-fetch_package.field-0
-    c.loop-name-test.true c.name-item.is c.loop-name.invariant c.in_ok-fetch_package.ensures.updated)
+pub returns-in_err-found-clause-refused : goal.returns-in_err-found-clause-refused
+returns-in_err-found-clause-refused g c =
+    let q = err_from_is_err_and c.from_residual-in_err-found.result c.from_residual-in_err-found.ensures.1 in
+    rw (q.1, q.2) (inr (record { groups = _; between = _; are = c.in_ok-groups.ensures.grouped; refused = c.in_err-found.ensures.refused }))
 
-pub returns-in_err-push-clause-refused : goal.returns-in_err-push-clause-refused
-returns-in_err-push-clause-refused g c =
+pub returns-in_err-found-clause-own : goal.returns-in_err-found-clause-own
+returns-in_err-found-clause-own g c = λ known k.
     let tell = tells g.V.Verifier.good g.L.Link.told g.L.Link.faults g.R.RegistryStorage.told g.R.RegistryStorage.faults g.C.ContentStorage.told g.C.ContentStorage.faults g.N.NamespaceMapStorage.told g.N.NamespaceMapStorage.faults in
-    let q = err_from_is_err_and c.from_residual-in_err-push.result c.from_residual-in_err-push.ensures.1 in
-    rw (q.1, q.2) (forgotten_at _ _ _ _ (seen tell c.args.self.now) (seen tell c.fetch_package.new.self) c.args.names.now _ (c.loop-name.name-index + 1)
-    (up_to _ _ (seen tell c.args.self.now) (seen tell c.loop-name.self) (seen tell c.fetch_package.new.self) c.args.names.now c.loop-name.infos.items c.loop-name.name-index c.name-item.result c.in_ok-fetch_package.field-0
-    c.loop-name-test.true c.name-item.is c.loop-name.invariant c.in_ok-fetch_package.ensures.updated))
+    own_grouped _ _ (seen tell c.update_groups.new.self) _ _ known k c.in_ok-groups.ensures.grouped c.update_groups.ensures.own
 
-pub returns-in_err-push-clause-own : goal.returns-in_err-push-clause-own
-returns-in_err-push-clause-own g c = λ known k.
+pub returns-in_err-in_order-clause-refused : goal.returns-in_err-in_order-clause-refused
+returns-in_err-in_order-clause-refused g c =
+    let q = err_from_is_err_and c.from_residual-in_err-in_order.result c.from_residual-in_err-in_order.ensures.1 in
+    let found = c.in_ok-found.ensures.learnt in
+    rw (q.1, q.2) (inr (record { groups = _; between = _; are = c.in_ok-groups.ensures.grouped; refused = all_forgotten _ _ _ _ _ found.0 found.2 }))
+
+pub returns-in_err-in_order-clause-own : goal.returns-in_err-in_order-clause-own
+returns-in_err-in_order-clause-own g c = λ known k.
     let tell = tells g.V.Verifier.good g.L.Link.told g.L.Link.faults g.R.RegistryStorage.told g.R.RegistryStorage.faults g.C.ContentStorage.told g.C.ContentStorage.faults g.N.NamespaceMapStorage.told g.N.NamespaceMapStorage.faults in
-    updated_own _ _ (seen tell c.args.self.now) (seen tell c.fetch_package.new.self) _ _ known k
-    (up_to _ _ (seen tell c.args.self.now) (seen tell c.loop-name.self) (seen tell c.fetch_package.new.self) c.args.names.now c.loop-name.infos.items c.loop-name.name-index c.name-item.result c.in_ok-fetch_package.field-0
-    c.loop-name-test.true c.name-item.is c.loop-name.invariant c.in_ok-fetch_package.ensures.updated)
+    own_grouped _ _ (seen tell c.update_groups.new.self) _ _ known k c.in_ok-groups.ensures.grouped c.update_groups.ensures.own
+
+pub returns-clause-updated : goal.returns-clause-updated
+returns-clause-updated g c =
+    let found = c.in_ok-found.ensures.learnt in
+    record {
+      groups = _;
+      between = _;
+      are = c.in_ok-groups.ensures.grouped;
+      updates = found.0;
+      learnt = found.2;
+      answers = c.in_ok-in_order.ensures.answers _ found.1;
+    }
 
 pub returns-clause-own : goal.returns-clause-own
-returns-clause-own g c = λ known k. updated_own _ _ _ _ _ _ known k c.loop-name.invariant
+returns-clause-own g c = λ known k.
+    let tell = tells g.V.Verifier.good g.L.Link.told g.L.Link.faults g.R.RegistryStorage.told g.R.RegistryStorage.faults g.C.ContentStorage.told g.C.ContentStorage.faults g.N.NamespaceMapStorage.told g.N.NamespaceMapStorage.faults in
+    own_grouped _ _ (seen tell c.update_groups.new.self) _ _ known k c.in_ok-groups.ensures.grouped c.update_groups.ensures.own
