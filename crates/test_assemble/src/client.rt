@@ -243,14 +243,12 @@ const CALLS: &[(&[(Call, &str)], &[&str])] = &[
         &[(Call::Fetch, "2 releases"), (Call::Fetch, "LinkFault")],
         &[TYPES_CHECKPOINT, TYPES_PAGE, TYPES_INCLUSION],
     ),
-    // Each package that is named is updated, and what was updated before a refusal is kept.
-    (
-        &[(Call::FetchAll(0), "0 logs"), (Call::FetchAll(1), "1 logs")],
-        &[TYPES_CHECKPOINT, TYPES_PAGE, TYPES_INCLUSION],
-    ),
+    // Several packages are updated, of which none is asked for twice, and what was updated is kept.
     (
         &[
-            (Call::FetchAll(2), "LinkFault"),
+            (Call::FetchAll(2), "Memory"),
+            (Call::FetchAll(0), "0 logs"),
+            (Call::FetchAll(1), "1 logs"),
             (Call::Package, "2 releases"),
         ],
         &[TYPES_CHECKPOINT, TYPES_PAGE, TYPES_INCLUSION],

@@ -6,4 +6,6 @@ mod assemble;
 #[cfg(test)]
 mod client;
 #[cfg(test)]
+mod groups;
+#[cfg(test)]
 mod world;
