@@ -106,7 +106,7 @@ impl<
     ///
     /// The packages of one registry are updated together, under one checkpoint: by the registries as they are known at
     /// first, the group whose registry the names ask for last first. A refusal leaves what was updated before it kept.
-    /// Names that are not different are refused.
+    /// The names are to differ: where one stands twice the answer is want of memory.
     pub fn fetch_packages(
         &mut self,
         alloc: Global,

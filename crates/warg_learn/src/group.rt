@@ -1,11 +1,10 @@
 //! Packages that are updated in groups, those of one registry together.
 
-ghost use Rattle.std.specs.Prelude.{◌≡◌, ◌++◌, ℕ, List, Some, IfOk, IfErr, OnOk, OnErr, map, reverse, bytes_eq};
+ghost use Rattle.std.specs.Prelude.{◌≡◌, ◌++◌, ℕ, List, Some, IfOk, IfErr, OnOk, map, reverse, bytes_eq};
 ghost use Rattle.std.specs.List.{All};
 ghost use Rattle.indexmap.specs.IndexMap.{Updates};
 ghost use Rattle.warg_info.specs.Info.{IsSoundPackage};
 ghost use Rattle.warg_info.specs.Kept.{Kept};
-ghost use Rattle.warg_info.specs.declared.package.PackageInfo.{PackageInfo as Info};
 ghost use Rattle.warg_log.specs.Rules.{Accepts};
 ghost use Rattle.warg_page.specs.Steps.{AreGood};
 ghost use Rattle.warg_page.specs.Views.{package_view};
@@ -13,7 +12,7 @@ ghost use Rattle.warg_assemble.specs.Known.{Known};
 ghost use Rattle.warg_fetch.specs.Groups.{Group};
 ghost use Rattle.warg_learn.specs.Gathered.{AreFound, groups_in};
 ghost use Rattle.warg_learn.specs.Groups.{AreAnswers, AreGrouped, AreGroupsLearnt, AreGroupsUnlearnt, AreNotGrouped, AreNotUpdated, AreUpdatedLogs, IsGroupLearnt, IsGroupUnlearnt, joined, proved_logs, without_logs};
-ghost use Rattle.warg_learn.specs.Seen.{IsKnown, Seen, seen, tells};
+ghost use Rattle.warg_learn.specs.Seen.{IsKnown, seen, tells};
 ghost use Rattle.warg_learn.specs.Stored.{IsOwnStore};
 
 use crate::learner::Learner;
@@ -219,8 +218,8 @@ impl<
     /// then on. The packages count as updated under no registry, so contents of theirs are not loaded behind this.
     ///
     /// Those of one registry are updated together, under one checkpoint: by the registries as they are known at first,
-    /// the group that was made last first. A refusal leaves what was updated before it kept. Names that are not
-    /// different are refused.
+    /// the group that was made last first. A refusal leaves what was updated before it kept. The names are to differ:
+    /// the update of a group in which one stands twice is refused before its registry is asked.
     pub fn fetch_packages(
         &mut self,
         alloc: Global,
